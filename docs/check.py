@@ -13,7 +13,7 @@ import sys
 
 sys.dont_write_bytecode = True
 sys.path.insert(0, os.path.dirname(os.path.abspath(__file__)))
-from checks import blocks, counts, pages, pictures, reading, sources  # noqa: E402
+from checks import blocks, counts, pages, pictures, reading, sources, surface  # noqa: E402
 
 THEOREMS = "docs/claims/theorems.md"
 CONTRACTS = "docs/build/contracts.md"
@@ -117,7 +117,7 @@ def all_faults(write):
     for path in pages.pages():
         pages.check_page(path, faults)
     pages.check_calls(THEOREMS, faults)
-    for check in (check_map, check_told, check_rooms, check_proofs, check_sizes, check_parts):
+    for check in (check_map, check_told, check_rooms, check_proofs, check_sizes, check_parts, surface.check_surface):
         check(faults)
     for name, rows in counts.tables().items():
         if not rows:

@@ -2,7 +2,7 @@
 import re
 import textwrap
 
-from . import counts, pages, reading, sources
+from . import counts, pages, reading, sources, surface
 
 BLOCK = re.compile(r"(<!-- made: ([\w .]+) -->\n)(.*?)(<!-- end -->)", re.S)
 DEFINITIONS = re.compile(r"^- \*Definitions\*:.*?(?=\n- \*|\n\n|\n#|\Z)", re.S | re.M)
@@ -153,7 +153,7 @@ def edits():
 
 
 MADE = {"totals": totals, "reading order": reading_order, "kit": kit, "contracts": contracts, "rooms": rooms,
-        "tables": tables, "edits": edits}
+        "tables": tables, "edits": edits, "surface": surface.surface}
 
 
 def make(name):

@@ -117,14 +117,14 @@ fn fresh<M: Memory>(mut memory: M) -> M {
 /// The first tagged granule of new plain memory.
 fn plain_made(alloc: Global, count: u32) -> Result<u64, NoMemory> {
     let size = count - count % 16;
-    let next = fresh(Plain::new(alloc, size)?).next_tagged(0, size);
+    let next = fresh(Plain::new(alloc, size)?).next_tagged(0);
     Ok(next.unwrap_or(0) as u64)
 }
 
 /// The first tagged granule of new memory in planes.
 fn planes_made(alloc: Global, count: u32) -> Result<u64, NoMemory> {
     let size = count - count % 16;
-    let next = fresh(Planes::new(alloc, size)?).next_tagged(0, size);
+    let next = fresh(Planes::new(alloc, size)?).next_tagged(0);
     Ok(next.unwrap_or(0) as u64)
 }
 

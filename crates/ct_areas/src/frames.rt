@@ -26,7 +26,7 @@ pub struct Saved {
 }
 
 /// A number fits its type.
-fn word(value: u32) -> u32
+pub(crate) fn word(value: u32) -> u32
     ensures is { result ≡ value }
     ensures small { value < 2 ^ 32 }
 {

@@ -12,4 +12,4 @@ mod thread;
 pub use areas::{areas_apart, clear};
 pub use frames::{Saved, innermost, pop, push};
 pub use stops::{resume, save};
-pub use thread::{Area, Thread};
+pub use thread::{Area, First, Fresh, Thread};

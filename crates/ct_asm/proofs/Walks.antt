@@ -1,7 +1,6 @@
 -- One statement further along a source.
 use Rattle.std.proofs.Common.{◌≡◌, ℕ, ◌+◌, ◌*◌, ◌<◌, List, ◌∷◌, ◌++◌, length, drop, get_or, Option, Some, None, Bool, true, false, ◌&&◌, cond, nat_le, refl, sym, ap, ◌∙◌, drop-cons, add-one, arith, append_assoc}
 use Rattle.std.proofs.lemmas.Bool.{and_parts}
-use denote.Ref.{Bor}
 use Rattle.def_source.specs.declared.parts.Statement.{Statement}
 use Rattle.def_source.specs.declared.parts.Part.{Part}
 use Rattle.def_source.specs.declared.parts.Part.TheVariants as part
@@ -10,11 +9,13 @@ use Rattle.def_source.specs.Source.{Name, Statements, lawful_from, is_lawful, in
 use Rattle.def_object.specs.declared.Place.{Place}
 use Rattle.def_object.specs.declared.Fault.{Fault}
 use Rattle.def_object.specs.Object.{Labels, advanced, grown, size_at, offset, is_least, lesser, on_line, statement_fault, reference_fault, size_fault, fault_from, section_bytes, bytes_from}
-use Rattle.ct_source.specs.Views.{part_view, statement_view, statements_view}
+use Rattle.ct_source.specs.declared.compact.CompactStatement.{CompactStatement}
+use Rattle.ct_source.specs.Compact.{compact_part}
+use Rattle.ct_source.specs.Views.{statement_view, statements_view}
 use Rattle.ct_asm.specs.Emitting.{IsFound}
 
 -- the statements from number k on begin with number k
-pub from_here : (ss : List (Statement (Bor Name))) (k : ℕ) (d : Statement (Bor Name)) → k < length ss → statements_view (drop k ss) ≡ statement_view (get_or ss k d) ∷ statements_view (drop (k + 1) ss)
+pub from_here : (ss : List CompactStatement) (k : ℕ) (d : CompactStatement) → k < length ss → statements_view (drop k ss) ≡ statement_view (get_or ss k d) ∷ statements_view (drop (k + 1) ss)
 from_here ss k d h = rw (add-one, drop-cons ss k d) refl
 
 parts_of : (s : Section) (p : Part Name) → is_lawful s p ≡ true → (in_section s p ≡ true) × (numbers_fit p ≡ true) × (registers_exist p ≡ true)
@@ -28,7 +29,7 @@ pub first_lawful : (s : Section) (x : Statement Name) (xs all : Statements) → 
 first_lawful s x xs all cut e = parts_of s x.part (and_parts (is_lawful s x.part) (lawful_from (section_after s (Some x.part)) xs) (sym (ap (lawful_from s) cut) ∙ e)).0
 
 -- of lawful statements that are left, the numbers of the next one fit
-pub next_fits : (ss : List (Statement (Bor Name))) (k : ℕ) (d : Statement (Bor Name)) (s : Section) → k < length ss → lawful_from s (statements_view (drop k ss)) ≡ true → numbers_fit (part_view (get_or ss k d).part) ≡ true
+pub next_fits : (ss : List CompactStatement) (k : ℕ) (d : CompactStatement) (s : Section) → k < length ss → lawful_from s (statements_view (drop k ss)) ≡ true → numbers_fit (compact_part (get_or ss k d).part) ≡ true
 next_fits ss k d s inside lawful = (first_lawful s _ _ _ (from_here ss k d inside) lawful).1
 
 grown_section : (p : Place) (n : ℕ) → (grown p n).section ≡ p.section

@@ -3,7 +3,8 @@
 ghost use Rattle.std.specs.Prelude.{◌≡◌, ◌++◌, ◌<◌, ◌^◌, [], true, None, OnOk, IfOk, if◌then◌else◌};
 ghost use Rattle.def_source.specs.Source as source;
 ghost use Rattle.def_object.specs.Object as object;
-ghost use Rattle.ct_source.specs.Views.{part_view, statements_view};
+ghost use Rattle.ct_source.specs.Views.{statements_view};
+ghost use Rattle.ct_source.specs.Compact.{compact_part};
 ghost use Rattle.ct_asm.specs.Labels.{label_named};
 ghost use Rattle.ct_asm.specs.Emitting.{IsFound};
 
@@ -11,9 +12,29 @@ use crate::emit::push_statement;
 use crate::labels::Labels;
 use crate::names::Names;
 use crate::places::{START, advanced, offset};
+use ct_source::compact::{CompactPart, CompactStatement};
 use def_object::Place;
-use def_source::parts::{Part, Section, Statement};
+use def_source::parts::Section;
 use std::alloc::{AllocError, Global};
+
+/// Adds the bytes of a statement at an offset.
+fn push_part(
+    out: &mut Vec<u8>,
+    labels: &Labels,
+    slots: &Names,
+    at: u128,
+    part: CompactPart<'_>,
+) -> Result<(), AllocError>
+    requires fit { source.numbers_fit (compact_part part) ≡ true }
+    requires exist { source.registers_exist (compact_part part) ≡ true }
+    requires found { IsFound (λ n. label_named n labels.now) at (compact_part part) }
+    requires small { at < 2 ^ 100 }
+    ensures { OnOk result
+        (out.new.items ≡ out.old.items
+        ++ object.bytes_at (λ n. label_named n labels.now) slots.now at (compact_part part.entry)) }
+{
+    push_statement(out, labels, slots, at, part.part())
+}
 
 /// Adds the bytes of a statement, if it stands in the wanted section.
 fn push_in(
@@ -22,21 +43,21 @@ fn push_in(
     labels: &Labels,
     slots: &Names,
     place: Place,
-    part: Part<&[u8]>,
+    part: CompactPart<'_>,
 ) -> Result<(), AllocError>
-    requires fit { source.numbers_fit (part_view part) ≡ true }
-    requires exist { source.registers_exist (part_view part) ≡ true }
+    requires fit { source.numbers_fit (compact_part part) ≡ true }
+    requires exist { source.registers_exist (compact_part part) ≡ true }
     requires found { IsFound (λ n. label_named n labels.now) (object.offset place)
-        (part_view part) }
+        (compact_part part) }
     requires text { place.text < 2 ^ 100 }
     requires initial { place.initial < 2 ^ 100 }
     ensures { OnOk result
         (out.new.items ≡ out.old.items
         ++ object.section_bytes wanted (λ n. label_named n labels.now) slots.now place
-        (part_view part.entry)) }
+        (compact_part part.entry)) }
 {
     if place.section == wanted {
-        return push_statement(out, labels, slots, offset(place), part);
+        return push_part(out, labels, slots, offset(place), part);
     }
     Ok(())
 }
@@ -48,7 +69,7 @@ pub(crate) fn section_bytes(
     wanted: Section,
     labels: &Labels,
     slots: &Names,
-    statements: &[Statement<&[u8]>],
+    statements: &[CompactStatement<'_>],
 ) -> Result<Vec<u8>, AllocError>
     requires lawful { source.IsLawful (statements_view statements.now) }
     requires faultless { object.fault_from (λ n. label_named n labels.now) object.start 0

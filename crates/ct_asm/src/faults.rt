@@ -3,14 +3,16 @@
 ghost use Rattle.std.specs.Prelude.{◌≡◌, ◌<◌, ◌≤◌, ◌^◌, ◌+◌, ◌*◌, true, length};
 ghost use Rattle.def_source.specs.Source as source;
 ghost use Rattle.def_object.specs.Object as object;
-ghost use Rattle.ct_source.specs.Views.{part_view, target_view, statements_view};
+ghost use Rattle.ct_source.specs.Views.{target_view, statements_view};
+ghost use Rattle.ct_source.specs.Compact.{compact_part};
 ghost use Rattle.ct_asm.specs.Labels.{label_named};
 
 use crate::labels::Labels;
 use crate::places::{START, advanced, offset, size_at};
+use ct_source::compact::{CompactPart, CompactStatement};
 use def_object::{Fault, Label, Place};
 use def_profile::limits::MOST_BYTES;
-use def_source::parts::{Part, Statement, Target};
+use def_source::parts::Target;
 use def_source::reaches::{BRANCH_REACH, JUMP_REACH};
 
 /// Whether a label lies within a reach: even, backwards by at most so many bytes and forwards by
@@ -90,29 +92,33 @@ fn second_fault(k: u64, label: Option<Label>) -> Option<u32>
 }
 
 /// What a statement refers to, or what it defines again.
-fn reference_fault(labels: &Labels, k: u64, at: u128, part: Part<&[u8]>) -> Option<u32>
+fn reference_fault(labels: &Labels, k: u64, at: u128, part: CompactPart<'_>) -> Option<u32>
     ensures { result
-        ≡ object.reference_fault (λ n. label_named n labels.now) k at (part_view part.entry) }
+        ≡ object.reference_fault (λ n. label_named n labels.now) k at (compact_part part.entry) }
 {
     match part {
-        Part::Label { name } => second_fault(k, labels.get(name)),
-        Part::Branch { target, .. }
-        | Part::IfZero { target, .. }
-        | Part::IfNotZero { target, .. } => target_fault(labels, BRANCH_REACH, at, target),
-        Part::Jal { target, .. } | Part::Jump { target } | Part::JumpAndLink { target, .. } => {
-            target_fault(labels, JUMP_REACH, at, target)
+        CompactPart::Label { name } => second_fault(k, labels.get(name)),
+        CompactPart::Branch { target, .. }
+        | CompactPart::IfZero { target, .. }
+        | CompactPart::IfNotZero { target, .. } => {
+            target_fault(labels, BRANCH_REACH, at, target.target())
         }
-        Part::TextAddress { label, .. } => text_fault(labels.get(label)),
-        Part::GlobalAddress { label, .. } => data_fault(labels.get(label)),
+        CompactPart::Jal { target, .. }
+        | CompactPart::Jump { target }
+        | CompactPart::JumpAndLink { target, .. } => {
+            target_fault(labels, JUMP_REACH, at, target.target())
+        }
+        CompactPart::TextAddress { label, .. } => text_fault(labels.get(label)),
+        CompactPart::GlobalAddress { label, .. } => data_fault(labels.get(label)),
         _ => None,
     }
 }
 
 /// A8 where a statement passes the limit of a section.
-fn size_fault(at: u128, part: Part<&[u8]>) -> Option<u32>
-    requires fit { source.numbers_fit (part_view part) ≡ true }
+fn size_fault(at: u128, part: CompactPart<'_>) -> Option<u32>
+    requires fit { source.numbers_fit (compact_part part) ≡ true }
     requires at { at < 2 ^ 101 }
-    ensures { result ≡ object.size_fault at (part_view part.entry) }
+    ensures { result ≡ object.size_fault at (compact_part part.entry) }
 {
     if at + size_at(part, at) > MOST_BYTES as u128 {
         Some(8)
@@ -122,12 +128,12 @@ fn size_fault(at: u128, part: Part<&[u8]>) -> Option<u32>
 }
 
 /// The least number of what a statement breaks.
-fn statement_fault(labels: &Labels, place: Place, k: u64, part: Part<&[u8]>) -> Option<u32>
-    requires fit { source.numbers_fit (part_view part) ≡ true }
+fn statement_fault(labels: &Labels, place: Place, k: u64, part: CompactPart<'_>) -> Option<u32>
+    requires fit { source.numbers_fit (compact_part part) ≡ true }
     requires text { place.text < 2 ^ 100 }
     requires initial { place.initial < 2 ^ 100 }
     ensures { result
-        ≡ object.statement_fault (λ n. label_named n labels.now) place k (part_view part.entry) }
+        ≡ object.statement_fault (λ n. label_named n labels.now) place k (compact_part part.entry) }
 {
     match reference_fault(labels, k, offset(place), part) {
         Some(number) => Some(number),
@@ -164,7 +170,7 @@ fn on_line(line: u32, number: Option<u32>) -> Option<Fault>
 
 /// The least fault of all statements.
 #[tactic(auto, using(crate::proofs::Walks::next_fits))]
-pub(crate) fn least_fault(labels: &Labels, statements: &[Statement<&[u8]>]) -> Option<Fault>
+pub(crate) fn least_fault(labels: &Labels, statements: &[CompactStatement<'_>]) -> Option<Fault>
     requires { source.IsLawful (statements_view statements.now) }
     ensures { result
         ≡ object.fault_from (λ n. label_named n labels.now) object.start 0

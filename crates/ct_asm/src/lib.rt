@@ -24,8 +24,8 @@ pub use crate::names::Names;
 pub use crate::object::Object;
 use crate::tables::is_undeclared;
 use ct_source::Program;
+use ct_source::compact::CompactStatement;
 use def_source::AsmFault;
-use def_source::parts::Statement;
 use std::alloc::Global;
 
 /// The first line that names an import which has no slot of that name.
@@ -36,7 +36,7 @@ pub fn undeclared(program: &Program<'_>, imports: &Names) -> Option<u32>
 }
 
 /// The first line of statements that names no slot.
-fn first_undeclared(statements: &[Statement<&[u8]>], imports: &Names) -> Option<u32>
+fn first_undeclared(statements: &[CompactStatement<'_>], imports: &Names) -> Option<u32>
     ensures { result ≡ undeclared_in imports.now (statements_view statements.now) }
 {
     for s in statements {

@@ -11,8 +11,9 @@ use crate::faults::least_fault;
 use crate::labels::Labels;
 use crate::names::Names;
 use crate::tables::labels_of;
+use ct_source::compact::CompactStatement;
 use def_source::AsmFault;
-use def_source::parts::{Section, Statement};
+use def_source::parts::Section;
 use std::alloc::Global;
 use std::marker::Model;
 
@@ -54,7 +55,7 @@ impl Object {
 /// The object of lawful statements, or their least fault.
 pub(crate) fn assembled(
     alloc: Global,
-    statements: &[Statement<&[u8]>],
+    statements: &[CompactStatement<'_>],
     slots: &Names,
 ) -> Result<Object, AsmFault>
     requires { IsLawful (statements_view statements.now) }

@@ -3,10 +3,11 @@
 ghost use Rattle.std.specs.Prelude.{◌≡◌, ◌+◌, ◌<◌, ◌≤◌, ◌^◌, true, if◌then◌else◌};
 ghost use Rattle.def_source.specs.Source as source;
 ghost use Rattle.def_object.specs.Object as object;
-ghost use Rattle.ct_source.specs.Views.{part_view};
+ghost use Rattle.ct_source.specs.Compact.{compact_part};
 
+use ct_source::compact::CompactPart;
 use def_object::Place;
-use def_source::parts::{Number, Part, Section};
+use def_source::parts::{Number, Section};
 
 /// The 32-bit word of a number that is written.
 pub(crate) fn number_word(number: Number) -> u32
@@ -63,18 +64,20 @@ fn number_size(number: Number) -> u128
 }
 
 /// How many bytes a statement has at a place of its section.
-pub(crate) fn size_at(part: Part<&[u8]>, at: u128) -> u128
-    requires { source.numbers_fit (part_view part) ≡ true }
-    ensures value { result ≡ object.size_at (part_view part.entry) at }
+pub(crate) fn size_at(part: CompactPart<'_>, at: u128) -> u128
+    requires { source.numbers_fit (compact_part part) ≡ true }
+    ensures value { result ≡ object.size_at (compact_part part.entry) at }
     ensures small { result ≤ 2 ^ 20 }
 {
     match part {
-        Part::Label { .. } | Part::Text | Part::Data => 0,
-        Part::Byte { .. } => 1,
-        Part::Zero { number } => number.magnitude,
-        Part::Align { number } => padding(number.magnitude, at),
-        Part::LoadImmediate { number, .. } => number_size(number),
-        Part::Import { .. } | Part::TextAddress { .. } | Part::GlobalAddress { .. } => 8,
+        CompactPart::Label { .. } | CompactPart::Text | CompactPart::Data => 0,
+        CompactPart::Byte { .. } => 1,
+        CompactPart::Zero { number } => number.magnitude as u128,
+        CompactPart::Align { number } => padding(number.magnitude as u128, at),
+        CompactPart::LoadImmediate { number, .. } => number_size(number.number()),
+        CompactPart::Import { .. }
+        | CompactPart::TextAddress { .. }
+        | CompactPart::GlobalAddress { .. } => 8,
         _ => 4,
     }
 }
@@ -103,22 +106,22 @@ fn grown(place: Place, size: u128) -> Place
 }
 
 /// The place after a statement.
-pub(crate) fn advanced(place: Place, part: Part<&[u8]>) -> Place
-    requires fit { source.numbers_fit (part_view part) ≡ true }
+pub(crate) fn advanced(place: Place, part: CompactPart<'_>) -> Place
+    requires fit { source.numbers_fit (compact_part part) ≡ true }
     requires text { place.text < 2 ^ 100 }
     requires initial { place.initial < 2 ^ 100 }
-    ensures value { result ≡ object.advanced place (part_view part.entry) }
+    ensures value { result ≡ object.advanced place (compact_part part.entry) }
     ensures text { result.text ≤ place.text + 2 ^ 20 }
     ensures initial { result.initial ≤ place.initial + 2 ^ 20 }
 {
     let (text, initial) = (place.text, place.initial);
     match part {
-        Part::Text => Place {
+        CompactPart::Text => Place {
             section: Section::Text,
             text,
             initial,
         },
-        Part::Data => Place {
+        CompactPart::Data => Place {
             section: Section::Data,
             text,
             initial,

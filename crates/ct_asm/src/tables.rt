@@ -3,14 +3,15 @@
 ghost use Rattle.std.specs.Prelude.{◌≡◌, ◌<◌, ◌≤◌, ◌^◌, ℕ, OnOk, IfOk, Option};
 ghost use Rattle.def_source.specs.Source as source;
 ghost use Rattle.def_object.specs.Object as object;
-ghost use Rattle.ct_source.specs.Views.{part_view, statements_view};
+ghost use Rattle.ct_source.specs.Views.{statements_view};
+ghost use Rattle.ct_source.specs.Compact.{compact_part};
 ghost use Rattle.ct_asm.specs.Labels.{label_named, noted};
 
 use crate::labels::Labels;
 use crate::names::Names;
 use crate::places::{START, advanced, offset};
+use ct_source::compact::{CompactPart, CompactStatement};
 use def_object::{Label, Place};
-use def_source::parts::{Part, Statement};
 use std::alloc::{AllocError, Global};
 
 /// Adds the label that a statement is, unless its name is there.
@@ -19,11 +20,11 @@ fn note(
     labels: &mut Labels,
     place: Place,
     k: u64,
-    part: Part<&[u8]>,
+    part: CompactPart<'_>,
 ) -> Result<(), AllocError>
-    ensures { OnOk result (labels.new ≡ noted labels.old place k (part_view part.entry)) }
+    ensures { OnOk result (labels.new ≡ noted labels.old place k (compact_part part.entry)) }
 {
-    let Part::Label { name } = part else {
+    let CompactPart::Label { name } = part else {
         return Ok(());
     };
     if labels.get(name).is_some() {
@@ -41,7 +42,7 @@ fn note(
 #[tactic(auto, using(crate::proofs::Walks::next_fits))]
 pub(crate) fn labels_of(
     alloc: Global,
-    statements: &[Statement<&[u8]>],
+    statements: &[CompactStatement<'_>],
 ) -> Result<Labels, AllocError>
     requires { source.IsLawful (statements_view statements.now) }
     ensures { IfOk result
@@ -59,10 +60,10 @@ pub(crate) fn labels_of(
 }
 
 /// Whether a statement names an import that has no slot.
-pub(crate) fn is_undeclared(slots: &Names, part: Part<&[u8]>) -> bool
-    ensures { result ≡ object.is_undeclared slots.now (part_view part.entry) }
+pub(crate) fn is_undeclared(slots: &Names, part: CompactPart<'_>) -> bool
+    ensures { result ≡ object.is_undeclared slots.now (compact_part part.entry) }
 {
-    if let Part::Import { name, .. } = part {
+    if let CompactPart::Import { name, .. } = part {
         return slots.slot(name).is_none();
     }
     false

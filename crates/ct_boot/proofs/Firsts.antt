@@ -16,8 +16,8 @@ use Rattle.def_boot.specs.Boot.{boot_state, first_thread, first_threads, first_p
 use Rattle.def_boot.specs.Contents.{boot_granules}
 use Rattle.def_boot.specs.Entries.{code_row}
 use Rattle.def_boot.specs.Made.{entry_cap_as, boot_cap_of}
-use Rattle.law_boot_words.proofs.Putting.{compartment_is}
-use Rattle.ct_engine.specs.declared.starting.First.{First}
+use Rattle.law_boot.proofs.Putting.{compartment_is}
+use Rattle.ct_areas.specs.declared.thread.First.{First}
 use Rattle.ct_boot.specs.declared.start.Kept.{Kept}
 use Rattle.ct_boot.specs.Starts.{start_of, starts_of, first_start}
 use Rattle.ct_boot.proofs.Made.{code_made_is}

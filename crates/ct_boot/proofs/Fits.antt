@@ -6,9 +6,9 @@ use Rattle.def_image.specs.Parts.{GateRow, CodeRow, CompartmentRow, ThreadRow, P
 use Rattle.def_image.specs.Members.{text_base, gate_address}
 use Rattle.def_image.specs.Regions.{table_size, table_length}
 use Rattle.def_image.specs.Sound.{Sound, CodeFits}
-use Rattle.law_grants.specs.Fits.{Lies}
-use Rattle.law_grants.proofs.Lying.{own_there, library_there, stack_there}
-use Rattle.law_grants.proofs.Making.{length_above}
+use Rattle.def_boot.specs.Fits.{Lies}
+use Rattle.law_boot.proofs.Lying.{own_there, library_there, stack_there}
+use Rattle.law_boot.proofs.Making.{length_above}
 
 ends : (p : PartsRow) → Sound p → (base size : ℕ) → Lies p base size → base + size ≤ RAM_END
 ends p s base size lies =

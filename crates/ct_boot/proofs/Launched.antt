@@ -13,14 +13,14 @@ use Rattle.def_image.specs.Sound.{Sound}
 use Rattle.def_boot.specs.Boot.{boot_state, first_thread, image_of}
 use Rattle.def_boot.specs.Contents.{boot_cap, content_at, granules_in, region_at}
 use Rattle.def_boot.specs.Made.{return_sentry}
-use Rattle.law_listed.proofs.Blocks.{present}
-use Rattle.law_laid.proofs.Found.{found, none_there}
-use Rattle.law_booted.proofs.Contents.{booted_in}
+use Rattle.law_boot.proofs.Blocks.{present}
+use Rattle.law_boot.proofs.Found.{found, none_there}
+use Rattle.law_boot.proofs.Contents.{booted_in}
 use Rattle.law_started.proofs.Granules.{same_granule, granules_end}
 use Rattle.ct_boot.proofs.Fits.{stack_end}
 use Rattle.ct_areas.specs.declared.thread.Area.{Area}
+use Rattle.ct_areas.specs.declared.thread.Fresh.{Fresh}
 use Rattle.ct_engine.specs.declared.rows.Region.{Region}
-use Rattle.ct_engine.specs.declared.starting.Fresh.{Fresh}
 use Rattle.ct_engine.specs.Seen.{Seen, region_hides, region_of, limits_in, thread, area_at}
 use Rattle.ct_engine.specs.Starts.{AreFresh, MayHold, MayStart, started}
 use Rattle.ct_heap.specs.Effects.{Empty, accounts_for, empty}

@@ -6,3 +6,4 @@ pub mod Firsts
 pub mod Standing
 pub mod Placing
 pub mod Launched
+pub mod Low

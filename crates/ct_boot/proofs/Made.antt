@@ -15,10 +15,10 @@ use Rattle.def_words.specs.Derive.{derive}
 use Rattle.def_image.specs.declared.ImportRow.{ImportRow}
 use Rattle.def_image.specs.declared.SlotKind.TheVariants as slot
 use Rattle.def_image.specs.Sound.{Names}
-use Rattle.law_listed.proofs.Standing.{compartment_of, library_of, stack_of}
-use Rattle.def_boot_words.specs.Booting.{Puts}
-use Rattle.def_boot_words.specs.Booting.{PutsBytes}
-use Rattle.law_boot_words.proofs.Putting.{compartment_is, library_is, puts_slot, puts_library_slot}
+use Rattle.law_boot.proofs.Standing.{compartment_of, library_of, stack_of}
+use Rattle.def_boot.specs.Booting.{BootPuts}
+use Rattle.def_boot.specs.Booting.{PutsBytes}
+use Rattle.law_boot.proofs.Putting.{compartment_is, library_is, puts_slot, puts_library_slot}
 use Rattle.ct_boot.proofs.Fits.{gate_end}
 use Rattle.ct_boot.specs.Slots.{slot_cap, SlotsPut}
 
@@ -36,8 +36,8 @@ gate_is p l j c x is export = ((library_of p l c is).export j x export).gate_is
 
 -- ---- slots
 
-puts_this : (p : PartsRow) (x : ℕ) (c d : Cap) → c ≡ d → Puts p x c → Puts p x d
-puts_this p x c d same h = subst (λ z. Puts p x z) same h
+puts_this : (p : PartsRow) (x : ℕ) (c d : Cap) → c ≡ d → BootPuts p x c → BootPuts p x d
+puts_this p x c d same h = subst (λ z. BootPuts p x z) same h
 
 pub slots_put : (p : PartsRow) → Sound p → (b first : ℕ) (c : CompartmentRow) → slice_get p.compartments b ≡ Some c → first ≡ code_number p b + 2 → SlotsPut p first c.code
 slots_put p s b first c is number j slot there =
@@ -61,8 +61,8 @@ library_slots_put p s l first c is number j slot there =
 
 -- ---- the same by other names
 
-pub puts_at : (p : PartsRow) (x y : ℕ) (c d : Cap) → Puts p x c → y ≡ x → d ≡ c → Puts p y d
-puts_at p x y c d h place what = subst (λ z. Puts p z d) (sym place) (subst (λ z. Puts p x z) (sym what) h)
+pub puts_at : (p : PartsRow) (x y : ℕ) (c d : Cap) → BootPuts p x c → y ≡ x → d ≡ c → BootPuts p y d
+puts_at p x y c d h place what = subst (λ z. BootPuts p z d) (sym place) (subst (λ z. BootPuts p x z) (sym what) h)
 
 pub bytes_at : (p : PartsRow) (x y : ℕ) (b d : List ℕ) → PutsBytes p x b → y ≡ x → d ≡ b → PutsBytes p y d
 bytes_at p x y b d h place what = subst (λ z. PutsBytes p z d) (sym place) (subst (λ z. PutsBytes p x z) (sym what) h)

@@ -13,14 +13,14 @@ use Rattle.def_image.specs.Laid.{IsRegion}
 use Rattle.def_image.specs.Sound.{Sound}
 use Rattle.def_boot.specs.Boot.{image_of}
 use Rattle.def_boot.specs.Gates.{entries_of}
-use Rattle.law_listed.proofs.Blocks.{present}
-use Rattle.law_listed.proofs.Standing.{stack_of}
-use Rattle.law_grants.proofs.Lying.{trusted_there}
-use Rattle.law_grants.proofs.Lying as lying
-use Rattle.law_grants.proofs.Making.{length_above}
-use Rattle.law_grants.proofs.Own.{stack_entry_is}
-use Rattle.law_grants.proofs.Sets.{no_way}
-use Rattle.law_listed.proofs.Regions.{stack_there}
+use Rattle.law_boot.proofs.Blocks.{present}
+use Rattle.law_boot.proofs.Standing.{stack_of}
+use Rattle.law_boot.proofs.Lying.{trusted_there}
+use Rattle.law_boot.proofs.Lying as lying
+use Rattle.law_boot.proofs.Making.{length_above}
+use Rattle.law_boot.proofs.Own.{stack_entry_is}
+use Rattle.law_boot.proofs.Sets.{no_way}
+use Rattle.law_boot.proofs.Regions.{stack_there}
 use Rattle.law_started.proofs.Whole.{areas_are}
 use Rattle.ct_areas.specs.declared.thread.Area.{Area}
 use Rattle.ct_engine.specs.Kept.{StackLies}

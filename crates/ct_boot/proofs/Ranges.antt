@@ -4,10 +4,10 @@ use Rattle.std.specs.Prelude.{slice_index_or}
 use Rattle.std.proofs.lemmas.Option.{slice_get_within}
 use Rattle.def_memory.specs.declared.Granule.{Granule}
 use Rattle.def_image.specs.Parts.{CompartmentRow, PartsRow}
-use Rattle.def_boot_words.specs.Booting.{Booting, Stage, IsFrom}
-use Rattle.def_boot_words.specs.Written.{InCode, InTable, InInitial, InCompartment, InSealed, OfFirst, OfAny}
+use Rattle.def_boot.specs.Booting.{Booting, Stage, IsFrom}
+use Rattle.def_boot.specs.Written.{InCode, InTable, InInitial, InCompartment, InSealed, OfFirst, OfAny}
 use Rattle.def_boot.specs.Contents.{boot_granules}
-use Rattle.law_boot_words.proofs.Stages.{stage_none, stage_then, stage_as, stage_granule, stage_one, whole}
+use Rattle.law_boot.proofs.Stages.{stage_none, stage_then, stage_as, stage_granule, stage_one, whole}
 use Rattle.ct_boot.proofs.Counts.{there}
 
 pub empty_range : (p : PartsRow) (gs : List Granule) (low high : ℕ) → high ≤ low → Booting p gs → Stage p gs gs (IsFrom low high)

@@ -12,16 +12,18 @@ use Rattle.def_image.specs.Parts.{ThreadRow, PartsRow}
 use Rattle.def_image.specs.Sizes.{sum_of}
 use Rattle.def_image.specs.Regions.{area_size}
 use Rattle.def_boot.specs.Boot.{first_thread, first_threads}
-use Rattle.ct_engine.specs.declared.starting.First.{First}
+use Rattle.ct_areas.specs.declared.thread.First.{First}
 use Rattle.ct_boot.specs.Starts.{start_of, starts_of}
 use Rattle.ct_boot.proofs.Firsts.{start_at}
 use Rattle.ct_areas.specs.declared.thread.Area.{Area}
 use Rattle.ct_areas.specs.Threads.{HasArea, frames_most}
-use Rattle.ct_engine.specs.declared.starting.Fresh.{Fresh}
+use Rattle.ct_areas.specs.declared.thread.Fresh.{Fresh}
+use Rattle.ct_threads.specs.Starts.{IsFresh}
+use Rattle.ct_areas.specs.Starts.{first_of}
 use Rattle.ct_engine.specs.declared.rows.Region.{Region}
 use Rattle.ct_engine.specs.Kept.{StackLies}
 use Rattle.ct_engine.specs.Seen.{no_area}
-use Rattle.ct_engine.specs.Starts.{IsFresh, AreFresh, first_of}
+use Rattle.ct_engine.specs.Starts.{AreFresh}
 use Rattle.ct_boot.specs.Launching.{area_from, areas_from, areas_begin, areas_end, fresh_by, fresh_from, fresh_of}
 
 abbrev pub frames_in : List ThreadRow → List ℕ

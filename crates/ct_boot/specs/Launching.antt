@@ -6,10 +6,10 @@ use Rattle.def_image.specs.Parts.{ThreadRow, PartsRow}
 use Rattle.def_image.specs.Sizes.{sum_of}
 use Rattle.def_image.specs.Regions.{area_size}
 use Rattle.def_boot.specs.Boot.{boot_state, first_thread, first_threads, image_of}
-use Rattle.ct_engine.specs.declared.starting.First.{First}
+use Rattle.ct_areas.specs.declared.thread.First.{First}
 use Rattle.ct_boot.specs.Starts.{start_of}
 use Rattle.ct_areas.specs.declared.thread.Area.{Area}
-use Rattle.ct_engine.specs.declared.starting.Fresh.{Fresh}
+use Rattle.ct_areas.specs.declared.thread.Fresh.{Fresh}
 use Rattle.ct_engine.specs.Seen.{Seen, region_of}
 use Rattle.def_chunks.specs.declared.rows.Range.{Range}
 use Rattle.ct_heap.specs.Effects.{range_of}

@@ -8,7 +8,7 @@ use Rattle.def_image.specs.Parts.{SlotRow, CodeRow, PartsRow}
 use Rattle.def_image.specs.Sound.{SlotFits}
 use Rattle.def_boot.specs.Entries.{slot_row}
 use Rattle.def_boot.specs.Made.{entry_cap}
-use Rattle.def_boot_words.specs.Booting.{Puts}
+use Rattle.def_boot.specs.Booting.{BootPuts}
 
 -- the capability of the slot at an address, by its row, as entry n
 abbrev pub slot_cap : PartsRow → Owner → ℕ → ℕ → ImportRow → Cap
@@ -18,7 +18,7 @@ slot_cap p o n at r = entry_cap p n (slot_row p o at r r.kind) (slot_row p o at 
 pub record SlotPut (p : PartsRow) (n at : ℕ) (r : ImportRow) : Type 0 where
   pub fits : SlotFits p r
   pub owner : Owner
-  pub puts : Puts p at (slot_cap p owner n at r)
+  pub puts : BootPuts p at (slot_cap p owner n at r)
 
 abbrev pub SlotsPut : PartsRow → ℕ → CodeRow → Type 0
 SlotsPut p first c =

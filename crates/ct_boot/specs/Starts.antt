@@ -7,7 +7,7 @@ use Rattle.def_image.specs.Parts.{PartsRow}
 use Rattle.def_boot.specs.Boot.{boot_state}
 use Rattle.def_memory.specs.Granules.{plain}
 use Rattle.def_boot.specs.Made.{return_sentry}
-use Rattle.ct_engine.specs.declared.starting.First.{First}
+use Rattle.ct_areas.specs.declared.thread.First.{First}
 use Rattle.ct_boot.specs.declared.start.Kept.{Kept}
 
 -- the number of the export that a thread's innermost frame entered

@@ -10,7 +10,7 @@ ghost use Rattle.ct_boot.specs.Launching as spec;
 
 use ct_areas::Area;
 use ct_engine::Region;
-use ct_parts::{Parts, Thread};
+use ct_image_parts::{Parts, Thread};
 use def_profile::layout::{AREA_HEAD, FRAME_SIZE};
 
 /// The area and the stack of a thread of an image, by the address at which the area begins.

@@ -4,7 +4,7 @@ ghost use Rattle.std.specs.Prelude.{◌≡◌, ◌≤◌, length};
 ghost use Rattle.def_boot.specs.Boot.{boot_state};
 ghost use Rattle.def_boot.specs.Contents.{boot_granules};
 ghost use Rattle.def_image.specs.Sound.{Sound};
-ghost use Rattle.def_boot_words.specs.Booting.{empty_granules};
+ghost use Rattle.def_boot.specs.Booting.{empty_granules};
 ghost use Rattle.ct_boot.specs.Starts.{starts_of};
 
 use crate::filling::{put_compartments, put_libraries, put_sealed_objects};
@@ -12,8 +12,8 @@ use crate::making::return_sentry;
 use crate::putting::put;
 use crate::start::Start;
 use ct_image::Image;
+use ct_image_parts::Parts;
 use ct_mem::Memory;
-use ct_parts::Parts;
 
 /// RAM as these parts boot it.
 fn fill<M: Memory>(parts: &Parts, mem: &mut M)

@@ -5,16 +5,16 @@ ghost use Rattle.def_image.specs.Members.{text_base};
 ghost use Rattle.def_image.specs.Parts.{GateRow};
 ghost use Rattle.def_image.specs.Spelling.{export_field};
 ghost use Rattle.def_image.specs.Sound.{Sound};
-ghost use Rattle.def_boot_words.specs.Booting.{Booting, IsFrom, PutsBytes, Stage};
-ghost use Rattle.def_boot_words.specs.Written.{InCode, InCompartment, InInitial, InSealed, InTable, OfFirst};
+ghost use Rattle.def_boot.specs.Booting.{Booting, IsFrom, PutsBytes, Stage};
+ghost use Rattle.def_boot.specs.Written.{InCode, InCompartment, InInitial, InSealed, InTable, OfFirst};
 ghost use Rattle.ct_boot.specs.Slots.{SlotPut, SlotsPut};
 
 use crate::making::{own_code, own_globals};
 use crate::numbers::{code_number, library_number, text_base};
 use crate::putting::{put, put_bytes};
 use crate::slots::slot_made;
+use ct_image_parts::{Code, Compartment, Export, Parts, Sealed};
 use ct_mem::Memory;
-use ct_parts::{Code, Compartment, Export, Parts, Sealed};
 use ct_tables::{ImportRow, write_export};
 use def_profile::layout::{GRANULE, SLOT_SIZE, TABLE_HEAD, TABLE_ROW};
 

@@ -7,8 +7,8 @@ ghost use Rattle.ct_boot.specs.Launching as spec;
 
 use crate::areas::area_at;
 use crate::start::Start;
-use ct_engine::{First, Fresh};
-use ct_parts::Parts;
+use ct_areas::{First, Fresh};
+use ct_image_parts::Parts;
 use def_profile::layout::TRUSTED_HEAD;
 use def_refusals::NoMemory;
 use std::alloc::Global;

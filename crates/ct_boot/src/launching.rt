@@ -3,7 +3,7 @@
 ghost use Rattle.std.specs.Prelude.{◌≡◌, ◌*◌, IfOk, length};
 ghost use Rattle.def_boot.specs.Boot.{boot_state, image_of};
 ghost use Rattle.def_image.specs.Sound.{Sound};
-ghost use Rattle.def_boot_words.specs.Booting.{empty_granules};
+ghost use Rattle.def_boot.specs.Booting.{empty_granules};
 ghost use Rattle.ct_boot.specs.Starts.{starts_of};
 ghost use Rattle.ct_heap.specs.Effects.{AreFew, Empty, empty};
 ghost use Rattle.ct_boot.specs.Launching.{heap_range, launched};
@@ -15,8 +15,8 @@ use crate::fresh::{areas_begin, threads_of};
 use crate::start::Start;
 use ct_engine::{Engine, Heap};
 use ct_image::Image;
+use ct_image_parts::Parts;
 use ct_mem::Memory;
-use ct_parts::Parts;
 use def_refusals::NoMemory;
 use std::alloc::Global;
 

@@ -20,6 +20,6 @@ mod start;
 mod starting;
 
 pub use booting::boot;
-pub use ct_engine::First;
+pub use ct_areas::First;
 pub use launching::launch;
 pub use start::Start;

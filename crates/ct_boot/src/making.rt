@@ -8,7 +8,7 @@ ghost use Rattle.def_memory.specs.Granules.{plain};
 ghost use Rattle.def_words.specs.Derive.{derive, executable_root, memory_root, sealing_root};
 
 use ct_cap::{Live, Shadow, derive};
-use ct_parts::{Code, Compartment, Thread};
+use ct_image_parts::{Code, Compartment, Thread};
 use def_profile::native::{NATIVE_LENGTH, RETURN_ENTRY};
 use def_profile::rights::{
     CODE_RIGHTS, EXECUTABLE_ROOT, GLOBALS_RIGHTS, MEMORY_ROOT, SEALING_ROOT, SERVICE_RIGHTS,

@@ -7,7 +7,7 @@ ghost use Rattle.def_image.specs.Members.{code_number, compartment_entries, glob
 ghost use Rattle.def_image.specs.Sizes.{sum_of};
 ghost use Rattle.def_image.specs.Sound.{Sound};
 
-use ct_parts::{Code, Compartment, Export, Parts};
+use ct_image_parts::{Code, Compartment, Export, Parts};
 use def_profile::layout::SLOT_SIZE;
 
 /// How many entries these compartments have: each its code, its globals, its slots and its exports.

@@ -4,17 +4,17 @@ ghost use Rattle.std.specs.Prelude.{◌≡◌, ◌<◌, ◌≤◌, ◌+◌, ◌*
 ghost use Rattle.def_boot.specs.Contents as spec;
 ghost use Rattle.def_boot.specs.Contents.{byte_of};
 ghost use Rattle.def_image.specs.Sound.{Sound};
-ghost use Rattle.def_boot_words.specs.Booting.{Booting, IsFrom, Puts, PutsBytes, Stage};
+ghost use Rattle.def_boot.specs.Booting.{Booting, IsFrom, BootPuts, PutsBytes, Stage};
 
 use ct_cap::{Live, shrink};
+use ct_image_parts::Parts;
 use ct_mem::Memory;
-use ct_parts::Parts;
 use def_profile::layout::GRANULE;
 
 /// The granule at an address gets what boot makes for it.
 pub(crate) fn put<M: Memory>(parts: &Parts, mem: &mut M, at: u32, cap: Live)
     requires booting { Booting parts.now (M.granules mem.old) }
-    requires puts { Puts parts.now at cap }
+    requires puts { BootPuts parts.now at cap }
     ensures { Stage parts.now (M.granules mem.old) (M.granules mem.new) (λ x. x ≡ at) }
 {
     mem.store_cap(at - parts.ram, shrink(cap));

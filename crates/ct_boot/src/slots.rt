@@ -22,14 +22,14 @@ use crate::making::{code_made, key_made, memory_made};
 use crate::numbers::{export_at, library_at, text_base};
 use ct_cap::{Live, Perms};
 use ct_entry::Mode;
-use ct_parts::{Code, Export, Parts};
+use ct_image_parts::{Code, Export, Parts};
 use ct_tables::{ImportRow, SlotKind};
 use def_profile::layout::{DEVICE_SIZE, SLOT_SIZE, TABLE_HEAD, TABLE_ROW};
 use def_profile::native::{NATIVE_BASE, NATIVE_LENGTH, NATIVE_UNIT};
 use def_profile::seals::{EXPORT_TYPE, QUOTA_TYPE, SENTRY_DISABLE, SENTRY_ENABLE, SENTRY_INHERIT};
 
 /// The rights that a row's six bits spell.
-#[tactic(auto, using(law_boot_words::proofs::Low::low))]
+#[tactic(auto, using(crate::proofs::Low::low))]
 fn rights_of(row: ImportRow) -> u32
     ensures { result ≡ rights.rights_of row }
 {
@@ -62,7 +62,7 @@ fn service(number: u32, of: u32, rights: u32) -> Live
 fn device_base(parts: &Parts, of: u32) -> u32
     ensures { result ≡ member.device_base parts.now of }
 {
-    match parts.devices.get(of as usize) {
+    match parts.devices.rows.get(of as usize) {
         Some(device) => device.base,
         None => 0,
     }

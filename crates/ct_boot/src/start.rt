@@ -6,9 +6,9 @@ ghost use Rattle.def_image.specs.Sound.{Sound};
 
 use crate::making::return_sentry;
 use crate::starting::{kept_of, nobody};
+use ct_areas::First;
 use ct_cap::{Cap, Live, Posture, expand};
-use ct_engine::First;
-use ct_parts::Parts;
+use ct_image_parts::Parts;
 use def_refusals::NoMemory;
 use std::alloc::Global;
 use std::marker::Model;

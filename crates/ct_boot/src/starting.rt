@@ -19,7 +19,7 @@ use crate::numbers::{
 use crate::start::Kept;
 use ct_cap::{Cap, Live, Posture, Shadow, set_address, shrink};
 use ct_entry::Mode;
-use ct_parts::{Code, Compartment, Export, Parts, Thread};
+use ct_image_parts::{Code, Compartment, Export, Parts, Thread};
 
 /// The posture of a thread that enters an export, by that export's entry.
 fn posture_of(export: &Export, number: u32) -> Posture

@@ -5,7 +5,7 @@ ghost use Rattle.def_step.specs.Devices.{IsWidth, is_of, base_of, found, bank_va
 ghost use Rattle.def_machine.specs.State.{fresh_device};
 
 use crate::unit::Unit;
-use ct_entry::Device;
+use ct_entry::Devices;
 use def_refusals::NoMemory;
 use std::alloc::Global;
 use std::marker::Model;
@@ -19,9 +19,9 @@ pub struct Bus {
 
 impl Model for Bus {
     ghost use Rattle.std.specs.Prelude.{◌≡◌, length};
-    ghost use Rattle.def_step.specs.Devices.{Bank};
+    ghost use Rattle.def_step.specs.Devices.{DeviceStates};
 
-    ghost Value = { Bank };
+    ghost Value = { DeviceStates };
 
     ghost view = { λ b. record { bases = b.bases.items; states = b.units.items } };
 
@@ -53,7 +53,7 @@ impl Bus {
     /// Devices at rest, in their order: empty queues, outputs and inputs 0.
     ///
     /// `NoMemory` where the allocator has no room for them.
-    pub fn new(alloc: Global, devices: &[Device]) -> Result<Bus, NoMemory>
+    pub fn new(alloc: Global, devices: &Devices) -> Result<Bus, NoMemory>
         ensures { IfOk result
             (λ b. b
             ≡ record {
@@ -63,7 +63,7 @@ impl Bus {
     {
         let mut bases = Vec::new(alloc);
         let mut units = Vec::new(alloc);
-        for device in devices.iter() {
+        for device in devices.rows.iter() {
             bases.push(device.base)?;
             units.push(Unit::new(alloc, device.kind)?)?;
         }

@@ -1,3 +1,5 @@
 pub mod Addresses
 pub mod Integers
 pub mod Parts
+pub mod Inside
+pub mod Turned

@@ -1,1 +1,0 @@
--- The contracts cite the definitions of def_words; a Live is seen as its capability.

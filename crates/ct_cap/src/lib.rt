@@ -1,4 +1,4 @@
-//! Operations on capabilities.
+//! Operations on capabilities, and a capability's address changed where it stands.
 //!
 //! A register holds a capability decoded (`Live`); contracts see it as the capability alone, and
 //! each operation equals its equation in *Capability* of def_words. None of them traps: where one is
@@ -7,6 +7,7 @@
 
 mod bounding;
 mod comparing;
+mod counter;
 mod live;
 mod passing;
 mod pointing;
@@ -16,6 +17,7 @@ mod words;
 
 pub use bounding::{set_bounds, set_bounds_exact};
 pub use comparing::{same, subset};
+pub use counter::{raise, turn};
 pub use ct_bounds::Bounds;
 pub use ct_perm::{Permission, Perms};
 pub use def_words::{Cap, Posture, Shadow, Trap};

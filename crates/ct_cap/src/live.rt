@@ -145,14 +145,14 @@ fn type_of(executes: bool, field: u32) -> u32
 }
 
 /// A capability of this tag and word decoded; an untagged one comes from nowhere.
-pub fn made(tag: bool, word: u64, shadow: Shadow) -> Live
+pub(crate) fn made(tag: bool, word: u64, shadow: Shadow) -> Live
     ensures { result ≡ cap_of tag word shadow }
 {
     expand(cap_of(tag, word, shadow))
 }
 
 /// The same word with another tag.
-pub fn retagged(l: Live, tag: bool) -> Live
+pub(crate) fn retagged(l: Live, tag: bool) -> Live
     ensures { result ≡ cap_of tag l.word l.shadow }
 {
     Live {
@@ -165,7 +165,7 @@ pub fn retagged(l: Live, tag: bool) -> Live
 
 /// A capability of another high word with the same bounds. These are not decoded anew, and its
 /// permissions are at hand.
-pub fn respelled(l: Live, tag: bool, high: u32, perms: Perms, from: Shadow) -> Live
+pub(crate) fn respelled(l: Live, tag: bool, high: u32, perms: Perms, from: Shadow) -> Live
     requires bounds { high % 2 ^ 22 ≡ cap_high l % 2 ^ 22 }
     requires rights { perms.0 ≡ unpacked (permission_bits high) }
     ensures { result ≡ cap_of tag (word_of high (cap_address l)) from }
@@ -180,7 +180,7 @@ pub fn respelled(l: Live, tag: bool, high: u32, perms: Perms, from: Shadow) -> L
 }
 
 /// A capability with this seal field: its bounds and permissions stay.
-pub fn with_seal(l: Live, tag: bool, field: u32, from: Shadow) -> Live
+pub(crate) fn with_seal(l: Live, tag: bool, field: u32, from: Shadow) -> Live
     requires { field < 8 }
     ensures { result ≡ cap_of tag (word_sealed l field) from }
 {

@@ -28,7 +28,7 @@ pub fn clear_tag(l: Live) -> Live
 
 /// The capability with another tag and only the permissions that a mask has too, as far as a form
 /// spells them. Where none goes the word stays.
-pub fn narrowed(l: Live, tag: bool, mask: u32) -> Live
+pub(crate) fn narrowed(l: Live, tag: bool, mask: u32) -> Live
     ensures { result ≡ cap_of tag (word_with_set l (bit_and (cap_perms l) mask)) l.shadow }
 {
     let set = l.perms.masked(mask);

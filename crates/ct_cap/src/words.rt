@@ -7,7 +7,7 @@ ghost use Rattle.def_words.specs.Capability.{cap_of, with_fields, with_permissio
 use def_words::{Cap, Shadow};
 
 /// A capability of this tag and word; an untagged one comes from nowhere.
-pub fn cap_of(tag: bool, word: u64, shadow: Shadow) -> Cap
+pub(crate) fn cap_of(tag: bool, word: u64, shadow: Shadow) -> Cap
     ensures { result ≡ cap_of tag word shadow }
 {
     if tag {
@@ -22,28 +22,28 @@ pub fn cap_of(tag: bool, word: u64, shadow: Shadow) -> Cap
 }
 
 /// The word of a high word and an address.
-pub fn word_of(high: u32, address: u32) -> u64
+pub(crate) fn word_of(high: u32, address: u32) -> u64
     ensures { result ≡ word_of high address }
 {
     ((high as u64) << 32) + address as u64
 }
 
 /// The high word of a word.
-pub fn high_of(word: u64) -> u32
+pub(crate) fn high_of(word: u64) -> u32
     ensures { result ≡ word / 2 ^ 32 }
 {
     (word >> 32) as u32
 }
 
 /// The address of a word.
-pub fn address_of(word: u64) -> u32
+pub(crate) fn address_of(word: u64) -> u32
     ensures { result ≡ word % 2 ^ 32 }
 {
     (word % (1 << 32)) as u32
 }
 
 /// A high word with these six permission bits.
-pub fn with_permission_bits(high: u32, bits: u8) -> u32
+pub(crate) fn with_permission_bits(high: u32, bits: u8) -> u32
     requires { bits < 64 }
     ensures { result ≡ with_permission_bits high bits }
 {
@@ -51,7 +51,7 @@ pub fn with_permission_bits(high: u32, bits: u8) -> u32
 }
 
 /// A high word with this seal field.
-pub fn with_seal_field(high: u32, field: u32) -> u32
+pub(crate) fn with_seal_field(high: u32, field: u32) -> u32
     requires { field < 8 }
     ensures { result ≡ with_seal_field high field }
 {
@@ -59,7 +59,7 @@ pub fn with_seal_field(high: u32, field: u32) -> u32
 }
 
 /// A high word with these 22 bits of E, B and T.
-pub fn with_fields(high: u32, fields: u32) -> u32
+pub(crate) fn with_fields(high: u32, fields: u32) -> u32
     requires { fields < 2 ^ 22 }
     ensures { result ≡ with_fields high fields }
 {

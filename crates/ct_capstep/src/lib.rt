@@ -16,9 +16,8 @@ ghost use Rattle.def_capstep.specs.Results.{capability_result};
 use crate::numbers::{base, high, length, mask, rounded, top, upper_offset, with_high};
 use ct_cap::{
     Live, add_address, and_perms, clear_tag, same, seal, set_bounds, set_bounds_exact, subset,
-    unseal,
+    turn, unseal,
 };
-use ct_counter::turn;
 use def_instr::Instr;
 use def_profile::traps::{PCC_REGISTER, SYSTEM_REGISTER_CODE};
 use def_words::Trap;

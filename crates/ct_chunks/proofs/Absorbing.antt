@@ -10,8 +10,8 @@ use Rattle.def_chunks.specs.declared.heads.TheConstants.{NO_CHUNK}
 use Rattle.def_chunks.specs.declared.rows.Range.{Range}
 use Rattle.def_chunks.specs.declared.rows.Head.{Head}
 use Rattle.def_chunks.specs.Chunks.{Chunk, is_free, total, first_free, head_of, head_at, head_in, Lays, Starts, IsChunk, AreChunks, NoneTouch}
-use Rattle.def_chunks.specs.Tiles.{chunks, TiledBy, Tiled, Settled}
-use Rattle.def_chunks.specs.Changes.{free_chunk, leaves, gap, joined, released, linked, InUse, Spared, Keeps, OnlyHeads}
+use Rattle.def_chunks.specs.Tiles.{chunks, TiledBy, Tiled, TilesSettled}
+use Rattle.def_chunks.specs.Changes.{free_chunk, leaves, gap, joined, released, linked, InUse, Spared, KeepsRest, OnlyHeads}
 use Rattle.def_chunks.specs.Gaps.{NoFree, IsLastFree, LastFree}
 use Rattle.law_chunks.proofs.Lays.{lays_same, lays_both, lays_join, free_both, none_first, unlinked, relinked, total_both, first_stays, are_split, are_join, total_even, starts_low, starts_high, starts_even}
 use Rattle.law_chunks.proofs.Reading.{Sits, sits_by, chunks_are, head_tells}
@@ -46,7 +46,7 @@ pub record Joining (r : Range) (gs : List Granule) (q : Range) (hs : List Granul
   pub last_free : LastFree xs last.offset last.size
   pub touch : ((pending ≡ 0) × ((last.offset ≡ NO_CHUNK) ⊎ (last.offset + last.size < total xs))) ⊎ ((last.offset ≡ total front) × (last.size ≡ pending) × (8 ≤ pending))
   pub start : (last.offset ≡ NO_CHUNK → ⊥) → Starts (r.base + last.offset) r.base (chunks r gs)
-  pub keeps : Keeps r (chunks r gs) gs hs
+  pub keeps : KeepsRest r (chunks r gs) gs hs
   pub heads : OnlyHeads r (released (chunks r gs)) gs hs
 
 pub joining_starts : (r : Range) (gs : List Granule) (q : Range) (last : Last) → Tiled r gs → q ≡ record r { first = NO_CHUNK } → last ≡ record { offset = NO_CHUNK; size = 0 } → Joining r gs q gs last r.length
@@ -357,7 +357,7 @@ record Written (r : Range) (ks : List Granule) (xs : List Chunk) (at size : ℕ)
   pub head : head_at ks r.ram at ≡ word
   pub rest : Lays ks r.ram r.base (at + size) others NO_CHUNK
   pub first : new_first ≡ first_free r.base r.base xs offset
-  pub keeps : Keeps r (chunks r gs) gs ks
+  pub keeps : KeepsRest r (chunks r gs) gs ks
   pub heads : OnlyHeads r (released (chunks r gs)) gs ks
 
 -- a chunk that is the last free one from then on
@@ -390,7 +390,7 @@ begins r gs q p_ hs ks last left h w n going zero_ is range_is =
     let at_even : (at - r.ram) % 8 ≡ 0 = omega (arith, xs_even, base_even, e0, ram_low) in
     let same = others_same r gs hs ms at word h (omega (arith, ram_low)) at_even refl in
     let wrote : head_at ms r.ram at ≡ word = head_same hs r.ram at word (omega (arith, ram_low)) at_even (omega (arith, inside, sizes, sum, wide)) in
-    let keeps_one : Keeps r (chunks r gs) gs ms = keeps_then r (chunks r gs) (chunks r gs) gs hs ms (λ p spared. spared) w.keeps (keeps_store r (chunks r gs) hs ms at word refl (omega (arith, ram_low)) at_even (head_loose r gs (chunks r gs) at h n.starts) refl) in
+    let keeps_one : KeepsRest r (chunks r gs) gs ms = keeps_then r (chunks r gs) (chunks r gs) gs hs ms (λ p spared. spared) w.keeps (keeps_store r (chunks r gs) hs ms at word refl (omega (arith, ram_low)) at_even (head_loose r gs (chunks r gs) at h n.starts) refl) in
     let there : at + c.size ≡ r.base + total zs = omega (arith, new_total) in
     let mine : first_free r.base at (free_chunk c.size ∷ []) NO_CHUNK ≡ total w.xs = omega arith in
     let old_target : w.front ++ joined w.pending (c ∷ n.others) ≡ released (chunks r gs) = ap (λ (l : List Chunk). w.front ++ joined w.pending l) (sym n.rest_is) ∙ w.target in
@@ -578,9 +578,9 @@ step r gs q p_ hs ks last new left size h w some size_given v =
 -- ---- the end
 
 pub record AllJoined (r : Range) (gs : List Granule) (q : Range) (hs : List Granule) : Type 0 where
-  pub settled : Settled q hs
+  pub settled : TilesSettled q hs
   pub chunks_are : chunks q hs ≡ released (chunks r gs)
-  pub keeps : Keeps r (chunks r gs) gs hs
+  pub keeps : KeepsRest r (chunks r gs) gs hs
   pub heads : OnlyHeads r (chunks q hs) gs hs
   pub range : q ≡ record r { first = q.first }
 

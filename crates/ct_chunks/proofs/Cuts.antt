@@ -9,8 +9,8 @@ use Rattle.def_chunks.specs.declared.heads.TheConstants.{NO_CHUNK}
 use Rattle.def_chunks.specs.declared.rows.Range.{Range}
 use Rattle.def_chunks.specs.declared.rows.Gap.{Gap}
 use Rattle.def_chunks.specs.Chunks.{Chunk, is_free, total, first_free, Starts, IsChunk, AreChunks, NoneTouch}
-use Rattle.def_chunks.specs.Tiles.{chunks, Tiled, Settled}
-use Rattle.def_chunks.specs.Changes.{replaced, parts, taken, free_chunk, gap, linked, InUse, Keeps, OnlyHeads}
+use Rattle.def_chunks.specs.Tiles.{chunks, Tiled, TilesSettled}
+use Rattle.def_chunks.specs.Changes.{replaced, parts, taken, free_chunk, gap, linked, InUse, KeepsRest, OnlyHeads}
 use Rattle.def_chunks.specs.Gaps.{ChunkStands, FreeStands, FreeLinked, carved}
 use Rattle.law_chunks.proofs.Lays.{total_both, are_split, are_join}
 use Rattle.law_chunks.proofs.Reading.{sits, replaced_is}
@@ -43,7 +43,7 @@ gap_some n other = elim (eq_tells n 0) [ inl e ↦ absurd (other e.1) | inr e �
 
 -- what a plain word does that is written inside a free chunk
 pub free_keeps : (r : Range) (gs ms hs : List Granule) (at size next p word : ℕ) → Tiled r gs → FreeStands r gs at size next → at ≤ p → p < at + size → (p - at) % 8 ≡ 0
-    → hs ≡ stored_cap ms (p - r.ram) (plain word) → Keeps r (chunks r gs) ms hs
+    → hs ≡ stored_cap ms (p - r.ram) (plain word) → KeepsRest r (chunks r gs) ms hs
 free_keeps r gs ms hs at size next p word h f from to eight is =
     let s = f.stands in
     let k = sits r gs at h s in
@@ -58,7 +58,7 @@ free_keeps r gs ms hs at size next p word h f from to eight is =
     (loose r (chunks r gs) p (omega (arith, low, from)) (omega (arith, high, to, size_is)) unused) is
 
 pub split_keeps : (r : Range) (gs ms hs : List Granule) (at size first next one two : ℕ) → Tiled r gs → FreeStands r gs at size next → first % 8 ≡ 0 → 8 ≤ first → first + 8 ≤ size
-    → ms ≡ stored_cap gs (at + first - r.ram) (plain one) → hs ≡ stored_cap ms (at - r.ram) (plain two) → Keeps r (chunks r gs) gs hs
+    → ms ≡ stored_cap gs (at + first - r.ram) (plain one) → hs ≡ stored_cap ms (at - r.ram) (plain two) → KeepsRest r (chunks r gs) gs hs
 split_keeps r gs ms hs at size first next one two h f whole some fits is_one is_two =
     keeps_then r (chunks r gs) (chunks r gs) gs ms hs (λ p spared. spared)
     (free_keeps r gs gs ms at size next (at + first) one h f (omega arith) (omega (arith, fits)) (omega (arith, whole)) is_one)
@@ -82,7 +82,7 @@ last_at r gs at size next before bsize h t some = elim t.last [
 ]
 
 pub take_keeps : (r : Range) (gs ms hs : List Granule) (at size next before bsize two : ℕ) → Tiled r gs → FreeLinked r gs at size next before bsize
-    → ms ≡ linked gs r.ram r.base before bsize next → hs ≡ stored_cap ms (at - r.ram) (plain two) → Keeps r (chunks r gs) gs hs
+    → ms ≡ linked gs r.ram r.base before bsize next → hs ≡ stored_cap ms (at - r.ram) (plain two) → KeepsRest r (chunks r gs) gs hs
 take_keeps r gs ms hs at size next before bsize two h t is_one is_two =
     let f = t.free_stands in
     let k = sits r gs at h f.stands in
@@ -90,7 +90,7 @@ take_keeps r gs ms hs at size next before bsize two h t is_one is_two =
     let some = k.shape.some in
     let size_is = f.size_is in
     let ram_low = h.above in
-    let first : Keeps r (chunks r gs) gs ms = elim (eq_tells before NO_CHUNK) [
+    let first : KeepsRest r (chunks r gs) gs ms = elim (eq_tells before NO_CHUNK) [
       | inl e ↦ keeps_same r (chunks r gs) gs ms (is_one ∙ rw e.0 refl)
       | inr e ↦
           let b = sat r gs at size next before bsize h t e.1 in
@@ -203,7 +203,7 @@ back_none r gs hs g back h t zero_ same =
     subst (λ l. CutBack r gs l g back g.next) (sym same) made
 
 pub back_some : (r : Range) (gs hs : List Granule) (g : Gap) (back next : ℕ) → Tiled r gs → FreeLinked r gs g.at g.size g.next g.before g.before_size → (back ≡ 0 → ⊥) → back + 8 ≤ g.size
-    → Tiled r hs → chunks r hs ≡ replaced g.at (parts (g.size - back)) r.base (chunks r gs) → Keeps r (chunks r gs) gs hs → OnlyHeads r (chunks r hs) gs hs → next ≡ g.at + (g.size - back) - r.base → CutBack r gs hs g back next
+    → Tiled r hs → chunks r hs ≡ replaced g.at (parts (g.size - back)) r.base (chunks r gs) → KeepsRest r (chunks r gs) gs hs → OnlyHeads r (chunks r hs) gs hs → next ≡ g.at + (g.size - back) - r.base → CutBack r gs hs g back next
 back_some r gs hs g back next h t other fits tiled is keeps heads next_is =
     let f = t.free_stands in
     let s = f.stands in
@@ -260,7 +260,7 @@ front_none r gs hs g size next front h t zero_ same =
     subst (λ l. CutFront r gs l g size next front g.before g.before_size) (sym same) made
 
 pub front_some : (r : Range) (gs hs : List Granule) (g : Gap) (size next front before bsize : ℕ) → Tiled r gs → FreeLinked r gs g.at size next g.before g.before_size → (front ≡ 0 → ⊥) → front + 8 ≤ size
-    → Tiled r hs → chunks r hs ≡ replaced g.at (parts front) r.base (chunks r gs) → Keeps r (chunks r gs) gs hs → OnlyHeads r (chunks r hs) gs hs → before ≡ g.at - r.base → bsize ≡ front → CutFront r gs hs g size next front before bsize
+    → Tiled r hs → chunks r hs ≡ replaced g.at (parts front) r.base (chunks r gs) → KeepsRest r (chunks r gs) gs hs → OnlyHeads r (chunks r hs) gs hs → before ≡ g.at - r.base → bsize ≡ front → CutFront r gs hs g size next front before bsize
 front_some r gs hs g size next front before bsize h t other fits tiled is keeps heads before_is bsize_is =
     let f = t.free_stands in
     let s = f.stands in
@@ -330,7 +330,7 @@ carving r gs g length h t f =
       ends = omega (arith, fits, small);
     }
 
-pub carve_done : (r q : Range) (gs ms ns hs : List Granule) (g : Gap) (length number next before bsize : ℕ) → Settled r gs → FreeLinked r gs g.at g.size g.next g.before g.before_size → Fitting g length
+pub carve_done : (r q : Range) (gs ms ns hs : List Granule) (g : Gap) (length number next before bsize : ℕ) → TilesSettled r gs → FreeLinked r gs g.at g.size g.next g.before g.before_size → Fitting g length
     → CutBack r gs ms g (g.size - (g.base - 8 - g.at) - (length + 8)) next
     → CutFront r ms ns g (g.size - (g.size - (g.base - 8 - g.at) - (length + 8))) next (g.base - 8 - g.at) before bsize
     → chunks q hs ≡ replaced (g.at + (g.base - 8 - g.at)) (taken number) r.base (chunks r ns)
@@ -366,7 +366,7 @@ carve_done r q gs ms ns hs g length number next before bsize h t fit back front 
     ∙ ap (λ m. s.above ++ (made m b ++ s.below)) mid ∙ ap (λ e. s.above ++ (made (length + 8) e ++ s.below)) behind
     ∙ sym want
 
-pub carve_apart : (r q : Range) (gs hs : List Granule) (g : Gap) (front length number : ℕ) → Settled r gs → FreeStands r gs g.at g.size g.next → Tiled q hs → chunks q hs ≡ replaced g.at (carved front length number) r.base (chunks r gs) → Settled q hs
+pub carve_apart : (r q : Range) (gs hs : List Granule) (g : Gap) (front length number : ℕ) → TilesSettled r gs → FreeStands r gs g.at g.size g.next → Tiled q hs → chunks q hs ≡ replaced g.at (carved front length number) r.base (chunks r gs) → TilesSettled q hs
 carve_apart r q gs hs g front length number h t tiled is =
     let s = t.stands in
     let k = sits r gs g.at h.tiled s in
@@ -391,10 +391,10 @@ use_stays r gs at s f p h free_ size used =
     ] in
     subst (InUse p r.base) (sym is) now
 
-pub carve_keeps : (r : Range) (gs ms ns hs : List Granule) (g : Gap) (length next before bsize : ℕ) → Settled r gs → FreeLinked r gs g.at g.size g.next g.before g.before_size → Fitting g length
+pub carve_keeps : (r : Range) (gs ms ns hs : List Granule) (g : Gap) (length next before bsize : ℕ) → TilesSettled r gs → FreeLinked r gs g.at g.size g.next g.before g.before_size → Fitting g length
     → CutBack r gs ms g (g.size - (g.base - 8 - g.at) - (length + 8)) next
     → CutFront r ms ns g (g.size - (g.size - (g.base - 8 - g.at) - (length + 8))) next (g.base - 8 - g.at) before bsize
-    → Keeps r (chunks r ns) ns hs → Keeps r (chunks r gs) gs hs
+    → KeepsRest r (chunks r ns) ns hs → KeepsRest r (chunks r gs) gs hs
 carve_keeps r gs ms ns hs g length next before bsize h t fit back front last =
     let f : ℕ = g.base - 8 - g.at in
     let b : ℕ = g.size - f - (length + 8) in
@@ -427,7 +427,7 @@ heads_stay r gs at s f p h size begins head =
 front_begins : (n m q : ℕ) → Starts q q (gap n ++ free_chunk m ∷ [])
 front_begins n m q = elim (bool_tells (nat_eq n 0)) [ inl e ↦ rw e (inl refl) | inr e ↦ rw e (inl refl) ]
 
-pub carve_heads : (r q : Range) (gs ms ns hs : List Granule) (g : Gap) (length number next before bsize : ℕ) → Settled r gs → FreeLinked r gs g.at g.size g.next g.before g.before_size → Fitting g length
+pub carve_heads : (r q : Range) (gs ms ns hs : List Granule) (g : Gap) (length number next before bsize : ℕ) → TilesSettled r gs → FreeLinked r gs g.at g.size g.next g.before g.before_size → Fitting g length
     → CutBack r gs ms g (g.size - (g.base - 8 - g.at) - (length + 8)) next
     → CutFront r ms ns g (g.size - (g.size - (g.base - 8 - g.at) - (length + 8))) next (g.base - 8 - g.at) before bsize
     → chunks q hs ≡ replaced (g.at + (g.base - 8 - g.at)) (taken number) r.base (chunks r ns)

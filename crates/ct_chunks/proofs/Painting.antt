@@ -9,8 +9,8 @@ use Rattle.def_memory.specs.Accesses.{stored_cap}
 use Rattle.def_chunks.specs.declared.rows.Range.{Range}
 use Rattle.def_chunks.specs.declared.rows.Head.{Head}
 use Rattle.def_chunks.specs.Chunks.{Chunk, is_free, total, first_free, head_at, head_in, Starts, IsChunk, AreChunks, NoneTouch}
-use Rattle.def_chunks.specs.Tiles.{chunks, Tiled, Settled}
-use Rattle.def_chunks.specs.Changes.{replaced, in_state, painted_chunk, all_painted, InUse, Spared, Keeps, OnlyHeads}
+use Rattle.def_chunks.specs.Tiles.{chunks, Tiled, TilesSettled}
+use Rattle.def_chunks.specs.Changes.{replaced, in_state, painted_chunk, all_painted, InUse, Spared, KeepsRest, OnlyHeads}
 use Rattle.def_chunks.specs.Gaps.{ChunkStands, UsedStands}
 use Rattle.def_chunks.specs.declared.heads.TheConstants.{NO_CHUNK}
 use Rattle.law_chunks.proofs.Lays.{total_both, are_split}
@@ -41,7 +41,7 @@ pub size_told : (r : Range) (gs : List Granule) (at : ℕ) (x : Head) (s : Chunk
 size_told r gs at x s h is = ap (λ (y : Head). y.size) is ∙ (tells r gs at s h).size
 
 -- a used chunk's head is written
-pub state_keeps : (r : Range) (gs hs : List Granule) (at size number word : ℕ) → Tiled r gs → UsedStands r gs at size number → hs ≡ stored_cap gs (at - r.ram) (plain word) → Keeps r (chunks r gs) gs hs
+pub state_keeps : (r : Range) (gs hs : List Granule) (at size number word : ℕ) → Tiled r gs → UsedStands r gs at size number → hs ≡ stored_cap gs (at - r.ram) (plain word) → KeepsRest r (chunks r gs) gs hs
 state_keeps r gs hs at size number word h u is =
     let s = u.stands in
     let k = sits r gs at h s in
@@ -70,12 +70,12 @@ quarantined_stands r gs at s h is =
 pub record Paints (r : Range) (gs hs : List Granule) (at : ℕ) : Type 0 where
   pub tiled : Tiled r hs
   pub chunks_are : chunks r hs ≡ replaced at (λ c. painted_chunk c ∷ []) r.base (chunks r gs)
-  pub keeps : Keeps r (chunks r gs) gs hs
+  pub keeps : KeepsRest r (chunks r gs) gs hs
 
 at_chunk : (r : Range) (gs : List Granule) (at : ℕ) (s : ChunkStands r gs at) (f : Chunk → List Chunk) → Tiled r gs → replaced at f r.base (chunks r gs) ≡ s.above ++ (f s.chunk ++ s.below)
 at_chunk r gs at s f h = let k = sits r gs at h s in ap (replaced at f r.base) s.whole ∙ replaced_is f at r.base s.above s.chunk s.below k.above_are s.place
 
-pub paints_it : (r : Range) (gs hs : List Granule) (at : ℕ) → Tiled r gs → ChunkStands r gs at → (head_in (head_at gs r.ram at)).state ≡ 2 → Tiled r hs → chunks r hs ≡ replaced at (in_state 3) r.base (chunks r gs) → Keeps r (chunks r gs) gs hs → Paints r gs hs at
+pub paints_it : (r : Range) (gs hs : List Granule) (at : ℕ) → Tiled r gs → ChunkStands r gs at → (head_in (head_at gs r.ram at)).state ≡ 2 → Tiled r hs → chunks r hs ≡ replaced at (in_state 3) r.base (chunks r gs) → KeepsRest r (chunks r gs) gs hs → Paints r gs hs at
 paints_it r gs hs at h s is tiled now keeps =
     let t = tells r gs at s h in
     let state : s.chunk.state ≡ 2 = sym t.state ∙ is in
@@ -126,7 +126,7 @@ pub record Painting (r : Range) (gs hs : List Granule) (left : ℕ) : Type 0 whe
   pub left_is : left ≡ total rest
   pub tiled : Tiled r hs
   pub now : chunks r hs ≡ all_painted above ++ rest
-  pub keeps : Keeps r (chunks r gs) gs hs
+  pub keeps : KeepsRest r (chunks r gs) gs hs
   pub heads : OnlyHeads r (chunks r gs) gs hs
 
 pub painting_starts : (r : Range) (gs : List Granule) → Tiled r gs → Painting r gs gs r.length
@@ -167,7 +167,7 @@ pub record Painted (r : Range) (gs ks : List Granule) (left size : ℕ) : Type 0
   pub goes_on : Painting r gs ks (left - size)
 
 pub painting_step : (r : Range) (gs hs ks : List Granule) (left size : ℕ) → Painting r gs hs left → (left ≡ 0 → ⊥) → size ≡ (head_in (head_at hs r.ram (r.base + (r.length - left)))).size
-    → Tiled r ks → chunks r ks ≡ replaced (r.base + (r.length - left)) (λ c. painted_chunk c ∷ []) r.base (chunks r hs) → Keeps r (chunks r hs) hs ks → ((k : ℕ) → (r.ram + 8 * k ≡ r.base + (r.length - left) → ⊥) → granule_at ks k ≡ granule_at hs k) → Painted r gs ks left size
+    → Tiled r ks → chunks r ks ≡ replaced (r.base + (r.length - left)) (λ c. painted_chunk c ∷ []) r.base (chunks r hs) → KeepsRest r (chunks r hs) hs ks → ((k : ℕ) → (r.ram + 8 * k ≡ r.base + (r.length - left) → ⊥) → granule_at ks k ≡ granule_at hs k) → Painted r gs ks left size
 painting_step r gs hs ks left size w some size_is tiled is keeps elsewhere = step w.rest w.whole w.now w.left_is
   where
     step : (rest : List Chunk) → chunks r gs ≡ w.above ++ rest → chunks r hs ≡ all_painted w.above ++ rest → left ≡ total rest → Painted r gs ks left size
@@ -205,12 +205,12 @@ painting_step r gs hs ks left size w some size_is tiled is keeps elsewhere = ste
 
 -- all of them
 pub record AllPainted (r : Range) (gs hs : List Granule) : Type 0 where
-  pub settled : Settled r hs
+  pub settled : TilesSettled r hs
   pub chunks_are : chunks r hs ≡ all_painted (chunks r gs)
-  pub keeps : Keeps r (chunks r gs) gs hs
+  pub keeps : KeepsRest r (chunks r gs) gs hs
   pub heads : OnlyHeads r (chunks r hs) gs hs
 
-pub painting_ends : (r : Range) (gs hs : List Granule) (left : ℕ) → Settled r gs → Painting r gs hs left → left ≡ 0 → AllPainted r gs hs
+pub painting_ends : (r : Range) (gs hs : List Granule) (left : ℕ) → TilesSettled r gs → Painting r gs hs left → left ≡ 0 → AllPainted r gs hs
 painting_ends r gs hs left h w none = all w.rest w.whole w.now w.left_is (are_split w.above w.rest (subst AreChunks w.whole h.tiled.are)).1
   where
     all : (rest : List Chunk) → chunks r gs ≡ w.above ++ rest → chunks r hs ≡ all_painted w.above ++ rest → left ≡ total rest → AreChunks rest → AllPainted r gs hs

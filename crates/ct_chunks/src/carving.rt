@@ -3,8 +3,8 @@
 ghost use Rattle.std.specs.Prelude.{◌≡◌, ◌+◌, ◌-◌, ◌*◌, ◌/◌, ◌%◌, ◌^◌, ◌≤◌, ◌<◌, List, [], ◌∷◌, length, cond, nat_eq};
 ghost use Rattle.def_chunks.specs.declared.heads.TheConstants.{NO_CHUNK};
 ghost use Rattle.def_chunks.specs.Chunks.{Chunk};
-ghost use Rattle.def_chunks.specs.Tiles.{chunks, Tiled, Settled};
-ghost use Rattle.def_chunks.specs.Changes.{replaced, parts, taken, Keeps, OnlyHeads};
+ghost use Rattle.def_chunks.specs.Tiles.{chunks, Tiled, TilesSettled};
+ghost use Rattle.def_chunks.specs.Changes.{replaced, parts, taken, KeepsRest, OnlyHeads};
 ghost use Rattle.def_chunks.specs.Gaps.{FreeStands, FreeLinked, carved};
 ghost use Rattle.ct_chunks.specs.Cuts.{CutBack, CutFront, Fitting};
 
@@ -24,7 +24,7 @@ fn split<M: Memory>(range: &Range, mem: &mut M, at: u32, size: u32, first: u32, 
     ensures tiled { Tiled range.now (M.granules mem.new) }
     ensures chunks { chunks range.now (M.granules mem.new)
         ≡ replaced at (parts first) range.now.base (chunks range.now (M.granules mem.old)) }
-    ensures keeps { Keeps range.now (chunks range.now (M.granules mem.old)) (M.granules mem.old)
+    ensures keeps { KeepsRest range.now (chunks range.now (M.granules mem.old)) (M.granules mem.old)
         (M.granules mem.new) }
     ensures heads { OnlyHeads range.now (chunks range.now (M.granules mem.new))
         (M.granules mem.old) (M.granules mem.new) }
@@ -51,7 +51,7 @@ fn take<M: Memory>(
     ensures tiled { Tiled range.new (M.granules mem.new) }
     ensures chunks { chunks range.new (M.granules mem.new)
         ≡ replaced at (taken number) range.old.base (chunks range.old (M.granules mem.old)) }
-    ensures keeps { Keeps range.old (chunks range.old (M.granules mem.old)) (M.granules mem.old)
+    ensures keeps { KeepsRest range.old (chunks range.old (M.granules mem.old)) (M.granules mem.old)
         (M.granules mem.new) }
     ensures heads { OnlyHeads range.old (chunks range.new (M.granules mem.new))
         (M.granules mem.old) (M.granules mem.new) }
@@ -110,15 +110,15 @@ fn cut_front<M: Memory>(
 /// A live object of this length and number is put where a gap says; what is left of the gap's chunk
 /// before it and behind it stays free.
 pub fn carve<M: Memory>(range: &mut Range, mem: &mut M, gap: &Gap, length: u32, number: u32)
-    requires settled { Settled range.old (M.granules mem.old) }
+    requires settled { TilesSettled range.old (M.granules mem.old) }
     requires stands { FreeLinked range.old (M.granules mem.old) gap.now.at gap.now.size
         gap.now.next gap.now.before gap.now.before_size }
     requires fitting { Fitting gap.now length }
-    ensures settled { Settled range.new (M.granules mem.new) }
+    ensures settled { TilesSettled range.new (M.granules mem.new) }
     ensures chunks { chunks range.new (M.granules mem.new)
         ≡ replaced gap.now.at (carved (gap.now.base - 8 - gap.now.at) length number)
         range.old.base (chunks range.old (M.granules mem.old)) }
-    ensures keeps { Keeps range.old (chunks range.old (M.granules mem.old)) (M.granules mem.old)
+    ensures keeps { KeepsRest range.old (chunks range.old (M.granules mem.old)) (M.granules mem.old)
         (M.granules mem.new) }
     ensures heads { OnlyHeads range.old (chunks range.new (M.granules mem.new))
         (M.granules mem.old) (M.granules mem.new) }

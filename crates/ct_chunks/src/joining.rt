@@ -2,8 +2,8 @@
 
 ghost use Rattle.std.specs.Prelude.{◌≡◌, ◌+◌, ◌-◌, ◌*◌, ◌/◌, ◌%◌, ◌^◌, ◌≤◌, ◌<◌, true, false, List, length};
 ghost use Rattle.def_chunks.specs.Chunks.{Chunk, head_at, head_in};
-ghost use Rattle.def_chunks.specs.Tiles.{chunks, Tiled, Settled};
-ghost use Rattle.def_chunks.specs.Changes.{released, Keeps, OnlyHeads};
+ghost use Rattle.def_chunks.specs.Tiles.{chunks, Tiled, TilesSettled};
+ghost use Rattle.def_chunks.specs.Changes.{released, KeepsRest, OnlyHeads};
 ghost use Rattle.ct_chunks.specs.Joins.{goes, absorbed, last_after, first_after, Absorbs, Visits};
 
 use crate::heads::{read_head, relink, write_head};
@@ -67,10 +67,10 @@ fn visit<M: Memory>(range: &mut Range, mem: &mut M, at: u32, last: Last) -> (u32
 /// how many chunks there are.
 pub fn join<M: Memory>(range: &mut Range, mem: &mut M)
     requires tiled { Tiled range.old (M.granules mem.old) }
-    ensures settled { Settled range.new (M.granules mem.new) }
+    ensures settled { TilesSettled range.new (M.granules mem.new) }
     ensures chunks { chunks range.new (M.granules mem.new)
         ≡ released (chunks range.old (M.granules mem.old)) }
-    ensures keeps { Keeps range.old (chunks range.old (M.granules mem.old)) (M.granules mem.old)
+    ensures keeps { KeepsRest range.old (chunks range.old (M.granules mem.old)) (M.granules mem.old)
         (M.granules mem.new) }
     ensures heads { OnlyHeads range.old (chunks range.new (M.granules mem.new))
         (M.granules mem.old) (M.granules mem.new) }

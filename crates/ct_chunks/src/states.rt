@@ -3,8 +3,8 @@
 ghost use Rattle.std.specs.Prelude.{ℕ, ◌≡◌, ◌+◌, ◌-◌, ◌*◌, ◌/◌, ◌%◌, ◌^◌, ◌≤◌, ◌<◌, List, [], ◌∷◌, length, cond, nat_eq};
 ghost use Rattle.def_memory.specs.Granules.{granule_at};
 ghost use Rattle.def_chunks.specs.Chunks.{Chunk, head_at, head_in};
-ghost use Rattle.def_chunks.specs.Tiles.{chunks, Tiled, Settled};
-ghost use Rattle.def_chunks.specs.Changes.{replaced, in_state, painted_chunk, all_painted, Keeps, OnlyHeads};
+ghost use Rattle.def_chunks.specs.Tiles.{chunks, Tiled, TilesSettled};
+ghost use Rattle.def_chunks.specs.Changes.{replaced, in_state, painted_chunk, all_painted, KeepsRest, OnlyHeads};
 ghost use Rattle.def_chunks.specs.Gaps.{ChunkStands, UsedStands};
 
 use crate::heads::{chunk_head, write_head};
@@ -21,7 +21,7 @@ pub fn set_state<M: Memory>(range: &Range, mem: &mut M, at: u32, size: u32, numb
     ensures tiled { Tiled range.now (M.granules mem.new) }
     ensures chunks { chunks range.now (M.granules mem.new)
         ≡ replaced at (in_state state) range.now.base (chunks range.now (M.granules mem.old)) }
-    ensures keeps { Keeps range.now (chunks range.now (M.granules mem.old)) (M.granules mem.old)
+    ensures keeps { KeepsRest range.now (chunks range.now (M.granules mem.old)) (M.granules mem.old)
         (M.granules mem.new) }
     ensures elsewhere { (k : ℕ) → (range.now.ram + 8 * k ≡ at → ⊥)
         → granule_at (M.granules mem.new) k ≡ granule_at (M.granules mem.old) k }
@@ -38,7 +38,7 @@ fn paint_chunk<M: Memory>(range: &Range, mem: &mut M, at: u32) -> u32
     ensures chunks { chunks range.now (M.granules mem.new)
         ≡ replaced at (λ c. painted_chunk c ∷ []) range.now.base
         (chunks range.now (M.granules mem.old)) }
-    ensures keeps { Keeps range.now (chunks range.now (M.granules mem.old)) (M.granules mem.old)
+    ensures keeps { KeepsRest range.now (chunks range.now (M.granules mem.old)) (M.granules mem.old)
         (M.granules mem.new) }
     ensures elsewhere { (k : ℕ) → (range.now.ram + 8 * k ≡ at → ⊥)
         → granule_at (M.granules mem.new) k ≡ granule_at (M.granules mem.old) k }
@@ -53,11 +53,11 @@ fn paint_chunk<M: Memory>(range: &Range, mem: &mut M, at: u32) -> u32
 
 /// Paints every quarantined chunk. Its time grows with how many chunks there are.
 pub fn paint<M: Memory>(range: &Range, mem: &mut M)
-    requires settled { Settled range.now (M.granules mem.old) }
-    ensures settled { Settled range.now (M.granules mem.new) }
+    requires settled { TilesSettled range.now (M.granules mem.old) }
+    ensures settled { TilesSettled range.now (M.granules mem.new) }
     ensures chunks { chunks range.now (M.granules mem.new)
         ≡ all_painted (chunks range.now (M.granules mem.old)) }
-    ensures keeps { Keeps range.now (chunks range.now (M.granules mem.old)) (M.granules mem.old)
+    ensures keeps { KeepsRest range.now (chunks range.now (M.granules mem.old)) (M.granules mem.old)
         (M.granules mem.new) }
     ensures heads { OnlyHeads range.now (chunks range.now (M.granules mem.new))
         (M.granules mem.old) (M.granules mem.new) }

@@ -17,10 +17,11 @@ use Rattle.def_machine.specs.Frames.{callee_start, entered_by, answer, answer_by
 use Rattle.def_step.specs.Switch.{Enters, switch_of, frame_top}
 use Rattle.def_step.specs.Handlers.{Handed, handed, is_handled, is_handled_by, handled_by, record_words, words_written}
 use Rattle.ct_areas.specs.Threads as areas
-use Rattle.ct_exports.specs.Exports.{callee_of}
+use Rattle.ct_switch.specs.Exports.{callee_of}
+use Rattle.ct_threads.specs.Handling.{record_place}
 use Rattle.ct_engine.specs.Seen.{Seen, thread, area_at}
 use Rattle.ct_engine.specs.Calls.{HeadStands, head_at, switch_at, switched, after_call, ended_by, returned, ended_with}
-use Rattle.ct_engine.specs.Handling.{is_handled_of, is_handled_at, handed_at, record_place, handler_begun, after_trap}
+use Rattle.ct_engine.specs.Handling.{is_handled_of, is_handled_at, handed_at, handler_begun, after_trap}
 use Rattle.ct_engine.specs.Written.{Shows, written, callee_thread, handler_seen}
 use Rattle.ct_engine.proofs.Entering.{given_made}
 

@@ -4,12 +4,12 @@ use Rattle.law_lists.proofs.Tests.{lt_tells}
 use Rattle.def_memory.specs.declared.Granule.{Granule}
 use Rattle.def_memory.specs.Accesses.{IsAccess, loaded}
 use Rattle.def_memory.specs.Granules.{cap_in}
-use Rattle.law_hidden.specs.Hiding.{with_hidden}
+use Rattle.def_hidden.specs.Hiding.{with_hidden}
 use Rattle.law_hidden.proofs.Granules.{with_hidden_length, load_seen}
 use Rattle.def_machine.specs.Objects.{Each}
 use Rattle.def_machine.specs.State.{Thread, Object, nobody}
 use Rattle.def_chunks.specs.Heaps.{objects_of}
-use Rattle.law_hidden.specs.Heaped.{hides_heap, heap_hides}
+use Rattle.def_chunks.specs.Hides.{hides_heap, heap_hides}
 use Rattle.std.proofs.lemmas.Bool.{or_cases, or_left, or_right}
 use Rattle.ct_engine.proofs.HeapStays.{HeapStays, heap_keeps, heap_holds}
 use Rattle.std.proofs.Math.ListN.{get_or}

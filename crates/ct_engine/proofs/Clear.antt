@@ -7,7 +7,7 @@ use Rattle.def_memory.specs.Granules.{plain, cap_in}
 use Rattle.def_memory.specs.Ranges.{is_tagged}
 use Rattle.def_chunks.specs.Changes.{NoTagComes}
 use Rattle.def_chunks.specs.Heaps.{HeapRow}
-use Rattle.law_hidden.specs.Heaped.{heap_hides}
+use Rattle.def_chunks.specs.Hides.{heap_hides}
 use Rattle.ct_engine.specs.Kept.{IsClear}
 
 -- no capability comes, and nothing more is hidden

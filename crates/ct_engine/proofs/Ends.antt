@@ -2,19 +2,16 @@
 use Rattle.std.proofs.Common.{ℕ, zero, suc, ◌≡◌, ◌<◌, Bool, true, false, cond, List, [], ◌∷◌, length, map, Option, Some, None, refl, sym, ap, ◌∙◌, arith, subst}
 use Rattle.std.proofs.Math.ListN.{get_or, set}
 use Rattle.def_memory.specs.declared.Granule.{Granule}
-use Rattle.def_machine.specs.State.{nobody}
 use Rattle.def_machine.specs.Slices.{is_number}
 use Rattle.def_areas.specs.Touches.{Touches}
 use Rattle.ct_areas.specs.declared.thread.Area.{Area}
 use Rattle.ct_areas.specs.declared.thread.Thread as row
-use Rattle.ct_areas.specs.Threads.{area_begin, area_end, thread_of}
+use Rattle.ct_areas.specs.Threads.{area_begin, area_end}
+use Rattle.ct_threads.specs.Kept.{IsKept}
 use Rattle.ct_engine.specs.declared.rows.Rows.{Rows}
-use Rattle.ct_engine.specs.Kept.{IsKept, AreasFrom, IsEngine}
+use Rattle.ct_engine.specs.Kept.{AreasFrom, IsEngine}
 use Rattle.ct_engine.proofs.Lists.{OthersRun}
 use Rattle.ct_engine.proofs.Whole.{itself, other, runs_it, areas_turn, some_is, none_is}
-
-pub ended_is : (gs : List Granule) (runs : Bool) (u : row.Thread) → u.depth ≡ 0 → thread_of gs runs u ≡ nobody
-ended_is gs runs u e = rw e refl
 
 pub area_of_row : (ts : List row.Thread) (t : ℕ) (d : Area) (r : row.Thread) → t < length ts → get_or (map (λ (u : row.Thread). u.area) ts) t d ≡ (get_or ts t r).area
 area_of_row [] t d r lt = absurd (omega (arith, lt))

@@ -16,10 +16,11 @@ use Rattle.ct_areas.specs.declared.thread.Area.{Area}
 use Rattle.ct_areas.specs.declared.thread.Thread as row
 use Rattle.ct_areas.specs.Threads.{HasArea, area_begin, area_end, frames_most, living, thread_of}
 use Rattle.ct_areas.proofs.Places.{alive_is, frames_of}
+use Rattle.ct_threads.specs.Kept.{IsPlain, IsSaved, IsKept}
 use Rattle.ct_engine.specs.declared.rows.Rows.{Rows}
 use Rattle.ct_engine.specs.Seen.{Seen, threads_of, engine_view, hidden}
-use Rattle.ct_engine.specs.Kept.{IsPlain, IsSaved, IsKept, AreasFrom, IsEngine}
-use Rattle.law_sweeps.specs.Clean.{NotStale, SavedClean, StoppedClean}
+use Rattle.ct_engine.specs.Kept.{AreasFrom, IsEngine}
+use Rattle.def_confined.specs.Stale.{NotStale, SavedClean, StoppedClean}
 use Rattle.ct_engine.specs.Sweeps.{NoneLeft}
 use Rattle.ct_engine.proofs.Whole.{itself}
 use Rattle.ct_engine.proofs.Away.{hidden_cases}

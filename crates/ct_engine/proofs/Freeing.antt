@@ -15,14 +15,14 @@ use Rattle.def_step.specs.Quotas.{without_row}
 use Rattle.def_machine.specs.Memory.{filtered_in}
 use Rattle.def_machine.specs.Objects.{Each, charges, quarantine}
 use Rattle.def_hidden.specs.Hidden.{is_live_at}
-use Rattle.law_hidden.specs.Hiding.{with_hidden}
+use Rattle.def_hidden.specs.Hiding.{with_hidden}
 use Rattle.law_hidden.proofs.Granules.{zeroed_seen, marked_seen}
 use Rattle.def_chunks.specs.Heaps.{HeapRow, objects_of, Distinct, Laid}
-use Rattle.law_chunks.specs.Kept.{StandsIn, InOrder}
+use Rattle.def_chunks.specs.Kept.{StandsIn, InOrder}
 use Rattle.law_chunks.proofs.Rows.{each_more, quarantine_others}
 use Rattle.law_chunks.proofs.Standing.{objects_inside, objects_apart}
-use Rattle.law_hidden.specs.Heaped.{heap_hides}
-use Rattle.law_hidden.specs.Objects.{Vanishes}
+use Rattle.def_chunks.specs.Hides.{heap_hides}
+use Rattle.def_chunks.specs.LiveObjects.{Vanishes}
 use Rattle.law_hidden.proofs.Objects.{covers, covers_tells, object_vanishes}
 use Rattle.ct_heap.specs.declared.rows.Object as told
 use Rattle.ct_heap.specs.Lookups.{spans_of, whole_of}

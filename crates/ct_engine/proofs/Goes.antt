@@ -1,15 +1,13 @@
 -- The running thread goes on.
-use Rattle.std.proofs.Common.{ℕ, zero, suc, ◌≡◌, ◌<◌, true, List, [], ◌∷◌, length, Some, refl, sym, ap, ◌∙◌, subst, arith}
+use Rattle.std.proofs.Common.{ℕ, suc, ◌≡◌, ◌<◌, true, List, ◌∷◌, length, Some, refl, sym, ap, ◌∙◌, subst, arith}
 use Rattle.std.proofs.Math.ListN.{get_or, set}
 use Rattle.std.proofs.lemmas.List.{length-set}
 use Rattle.std.specs.Vec.{with_item}
 use Rattle.def_words.specs.declared.Cap.{Cap}
 use Rattle.def_words.specs.declared.Posture.{Posture}
 use Rattle.def_memory.specs.declared.Granule.{Granule}
-use Rattle.def_memory.specs.Granules.{plain}
 use Rattle.def_machine.specs.State.{Thread}
 use Rattle.def_machine.specs.Threads.{jumped}
-use Rattle.def_machine.specs.Registers.{written}
 use Rattle.def_step.specs.Instructions.{actor_of}
 use Rattle.def_areas.specs.Touches.{Touches}
 use Rattle.ct_areas.specs.declared.thread.Thread as row
@@ -17,9 +15,11 @@ use Rattle.ct_areas.specs.Threads.{area_begin, area_end, living, thread_of}
 use Rattle.ct_areas.specs.Parts.{inner_frame, outer_frames}
 use Rattle.ct_areas.proofs.Places.{alive_is}
 use Rattle.ct_areas.proofs.Rows.{frames_are}
+use Rattle.ct_threads.specs.Rows.{row_gone}
+use Rattle.ct_threads.proofs.Going.{gone_kept}
 use Rattle.ct_engine.specs.declared.rows.Rows.{Rows}
-use Rattle.ct_engine.specs.Seen.{engine_view, thread, after_jump, row_gone, seen_of}
-use Rattle.ct_engine.specs.Kept.{IsKept, AreasFrom, IsEngine}
+use Rattle.ct_engine.specs.Seen.{engine_view, thread, after_jump, seen_of}
+use Rattle.ct_engine.specs.Kept.{AreasFrom, IsEngine}
 use Rattle.ct_engine.proofs.Whole.{runs_it, thread_is, seen_turn, running_kept}
 use Rattle.ct_engine.proofs.Ends.{call_areas, stays_on}
 use Rattle.ct_engine.proofs.Stacks.{stacks_turn}
@@ -51,20 +51,6 @@ running_some gs rows t r holds runs is =
 
 unchanged : (gs : List Granule) (lo hi : ℕ) → Touches lo hi gs gs
 unchanged gs lo hi = record { size = refl; marks = λ k. refl; rest = λ k out. refl }
-
-written_first : (rs : List Cap) (n : ℕ) (c : Cap) → get_or (written rs n c) 0 (plain 0) ≡ get_or rs 0 (plain 0)
-written_first rs zero c = refl
-written_first [] (suc n) c = refl
-written_first (r ∷ rs) (suc n) c = refl
-
-gone_kept : (gs : List Granule) (r : row.Thread) (pcc : Cap) (posture : Posture) (to : ℕ) (value : Cap) → IsKept gs true r → IsKept gs true (row_gone r pcc posture to value)
-gone_kept gs r pcc posture to value k = record {
-  area = k.area;
-  room = k.room;
-  zero = written_first r.regs to value ∙ k.zero;
-  alive = k.alive;
-  clean = k.clean;
-}
 
 pub jump_areas : (gs : List Granule) (rows : Rows) (t : ℕ) (r q : row.Thread) (pcc : Cap) (posture : Posture) (to : ℕ) (value : Cap) → IsEngine gs rows → rows.running ≡ Some t
     → r ≡ get_or rows.list.items t r → q ≡ row_gone r pcc posture to value

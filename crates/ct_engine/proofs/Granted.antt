@@ -10,15 +10,15 @@ use Rattle.def_machine.specs.Heap as heap
 use Rattle.def_machine.specs.Heap.{length_for, charge_for, Fits, IsPlaceFor, place_of}
 use Rattle.def_hidden.specs.Hidden.{is_live_at}
 use Rattle.def_step.specs.Quotas.{Allocation, Refused, Made, at_place, allocation}
-use Rattle.law_hidden.specs.Hiding.{with_hidden}
+use Rattle.def_hidden.specs.Hiding.{with_hidden}
 use Rattle.def_chunks.specs.declared.rows.Range.{Range}
 use Rattle.def_chunks.specs.Heaps.{HeapRow, objects_of, account, Laid, IsHeapOf}
 use Rattle.law_routines.proofs.Places.{place_found, place_none}
 use Rattle.law_routines.proofs.Leaving.{option_tells}
 use Rattle.law_words.proofs.Leasts.{ceil_above}
 use Rattle.def_words.specs.LeastBounds.{exponent_for}
-use Rattle.law_hidden.specs.Heaped.{hides_heap, heap_hides}
-use Rattle.law_hidden.specs.Objects.{SeenAt, Appears}
+use Rattle.def_chunks.specs.Hides.{hides_heap, heap_hides}
+use Rattle.def_chunks.specs.LiveObjects.{SeenAt, Appears}
 use Rattle.law_hidden.proofs.Objects.{covers_tells, among_live, placed_live, seen_place, place_seen, object_appears}
 use Rattle.ct_heap.specs.declared.rows.Object as told
 use Rattle.ct_heap.specs.declared.rows.HeapRefusal.{HeapRefusal}

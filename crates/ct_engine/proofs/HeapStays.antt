@@ -6,15 +6,16 @@ use Rattle.def_memory.specs.declared.Granule.{Granule}
 use Rattle.def_memory.specs.Granules.{cap_in}
 use Rattle.def_areas.specs.Touches.{Touches}
 use Rattle.def_chunks.specs.Heaps.{HeapRow, objects_of}
-use Rattle.law_chunks.specs.Kept.{KeepsHeap}
-use Rattle.law_hidden.specs.Heaped.{heap_hides}
+use Rattle.def_chunks.specs.Kept.{KeepsHeap}
+use Rattle.def_chunks.specs.Hides.{heap_hides}
 use Rattle.law_hidden.proofs.Shown.{hidden_keeps, hides_same}
 use Rattle.law_hidden.proofs.Objects.{place_seen}
 use Rattle.ct_areas.specs.declared.thread.Thread as row
 use Rattle.ct_areas.specs.Threads.{area_begin, area_end}
+use Rattle.ct_threads.proofs.Beside.{within}
 use Rattle.ct_engine.specs.declared.rows.Region.{Region}
 use Rattle.ct_engine.specs.Kept.{IsClear, HeapHolds}
-use Rattle.ct_engine.proofs.Lists.{Lies, within}
+use Rattle.ct_engine.proofs.Lists.{Lies}
 
 -- what the heap hides lies from its base on
 pub heap_low : (h : HeapRow) (gs : List Granule) (k : ℕ) → heap_hides h gs k ≡ true → h.range.base ≤ h.range.ram + 8 * k

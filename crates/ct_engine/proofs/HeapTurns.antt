@@ -5,11 +5,11 @@ use Rattle.def_memory.specs.declared.Granule.{Granule}
 use Rattle.def_memory.specs.Granules.{cap_in}
 use Rattle.def_machine.specs.State.{Thread}
 use Rattle.def_machine.specs.Objects.{Each}
-use Rattle.law_hidden.specs.Hiding.{with_hidden}
+use Rattle.def_hidden.specs.Hiding.{with_hidden}
 use Rattle.def_chunks.specs.declared.rows.Range.{Range}
 use Rattle.def_chunks.specs.declared.rows.Account.{Account}
 use Rattle.def_chunks.specs.Heaps.{HeapRow, objects_of, no_account, Laid}
-use Rattle.law_hidden.specs.Heaped.{hides_heap, heap_hides}
+use Rattle.def_chunks.specs.Hides.{hides_heap, heap_hides}
 use Rattle.ct_heap.specs.Effects.{Same}
 use Rattle.ct_areas.specs.declared.thread.Thread as row
 use Rattle.ct_engine.specs.declared.rows.Rows.{Rows}

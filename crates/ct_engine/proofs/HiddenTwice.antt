@@ -2,10 +2,10 @@
 use Rattle.std.proofs.Common.{ℕ, ◌≡◌, ◌+◌, ◌||◌, Bool, true, false, List, refl, sym, ap, ◌∙◌}
 use Rattle.def_memory.specs.declared.Granule.{Granule}
 use Rattle.def_memory.specs.Granules.{granule_at}
-use Rattle.law_hidden.specs.Hiding.{hide, with_hidden}
+use Rattle.def_hidden.specs.Hiding.{hide, with_hidden}
 use Rattle.law_hidden.proofs.Granules.{with_hidden_is, with_hidden_at, with_hidden_length}
 use Rattle.def_chunks.specs.Heaps.{objects_of}
-use Rattle.law_hidden.specs.Heaped.{hides_heap, heap_hides}
+use Rattle.def_chunks.specs.Hides.{hides_heap, heap_hides}
 use Rattle.ct_engine.specs.declared.rows.Rows.{Rows}
 use Rattle.ct_engine.specs.Seen.{region_hides, engine_view}
 use Rattle.ct_engine.specs.Kept.{IsEngine}

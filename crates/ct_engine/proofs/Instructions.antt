@@ -13,18 +13,19 @@ use Rattle.def_instr.specs.declared.Instr.{Instr}
 use Rattle.def_instr.specs.Reading.{instruction_in}
 use Rattle.def_step.specs.declared.Access.{Access}
 use Rattle.def_step.specs.Checks.{first_failed}
-use Rattle.def_step.specs.Devices.{Bank}
-use Rattle.def_step.specs.Accesses.{Space, Accessed, access_of, access_address, access_checks, access_result, accessed, in_ram, on_device, is_ram, ram_stored, unless}
+use Rattle.def_step.specs.Devices.{DeviceStates}
+use Rattle.def_step.specs.Accesses.{MemoryAndDevices, Accessed, access_of, access_address, access_checks, access_result, accessed, in_ram, on_device, is_ram, ram_stored, unless}
 use Rattle.def_step.specs.Instructions.{next_at, next_word}
-use Rattle.law_hidden.specs.Hiding.{with_hidden}
-use Rattle.law_hidden.specs.Steps.{hide_space, hide_result, IsSeen, SeesAccess}
+use Rattle.def_hidden.specs.Hiding.{with_hidden}
+use Rattle.def_safety.specs.HiddenSteps.{hide_space, hide_result, IsSeen, SeesAccess}
 use Rattle.law_hidden.proofs.Granules.{with_hidden_length}
 use Rattle.law_hidden.proofs.Steps.{access_same, next_same}
 use Rattle.ct_loadstore.specs.Shapes.{MovedRow, space_of}
+use Rattle.ct_threads.specs.Steps.{no_bank, IsHeapPlaced, IsMoved}
 use Rattle.ct_engine.specs.declared.rows.Rows.{Rows}
 use Rattle.ct_engine.specs.Seen.{Seen, hides, engine_view, with_granules, hidden}
 use Rattle.ct_engine.specs.Kept.{IsEngine}
-use Rattle.ct_engine.specs.Steps.{space_in, no_bank, next_in, IsHeapPlaced, IsMoved}
+use Rattle.ct_engine.specs.Steps.{space_in, next_in}
 use Rattle.ct_engine.proofs.Away.{HiddenStays, away_holds, away_seen, apart, size_is}
 
 -- ---- a fetch
@@ -52,7 +53,7 @@ stored_stays h a x y at ram gs k open_ hidden = chosen (λ (hs : List Granule). 
     (λ whole. ap (λ (g : Granule). g.cap) (cap_rest gs (at - ram) (stored_through x y) k (apart h k ((at - ram) / 8) open_ hidden)))
     (λ part. ap (λ (g : Granule). g.cap) (store_rest gs (at - ram) a.width (cap_address y) k (apart h k ((at - ram) / 8) open_ hidden)))
 
-accessed_stays : (h : ℕ → Bool) (a : Access) (x y : Cap) (at : ℕ) (p : Space) (k : ℕ) → (p.ram ≤ at → h ((at - p.ram) / 8) ≡ false) → h k ≡ true
+accessed_stays : (h : ℕ → Bool) (a : Access) (x y : Cap) (at : ℕ) (p : MemoryAndDevices) (k : ℕ) → (p.ram ≤ at → h ((at - p.ram) / 8) ≡ false) → h k ≡ true
     → cap_in (accessed a x y at p).granules k ≡ cap_in p.granules k
 accessed_stays h a x y at p k open_ hidden =
     let P : Accessed → Type 0 = λ m. cap_in m.granules k ≡ cap_in p.granules k in
@@ -62,7 +63,7 @@ accessed_stays h a x y at p k open_ hidden =
     (λ stores. stored_stays h a x y at p.ram p.granules k (open_ (leb-true p.ram at (and_parts (nat_le p.ram at) (nat_le (at + a.width) (p.ram + 8 * length p.granules)) ram).0)) hidden))
     (λ out. chosen P a.loads _ _ (λ loads. refl) (λ stores. refl))
 
-result_stays : (h : ℕ → Bool) (i : Instr) (x y : Cap) (p : Space) (m : Accessed) (k : ℕ) → SeesAccess h p.ram i x y → access_result i x y p ≡ Ok m → h k ≡ true
+result_stays : (h : ℕ → Bool) (i : Instr) (x y : Cap) (p : MemoryAndDevices) (m : Accessed) (k : ℕ) → SeesAccess h p.ram i x y → access_result i x y p ≡ Ok m → h k ≡ true
     → cap_in m.granules k ≡ cap_in p.granules k
 unfolding access_result
 result_stays h i x y p m k open_ is hidden = by_checks (first_failed (access_checks (access_of i) x y (access_address (access_of i) x))) open_ is
@@ -76,12 +77,12 @@ result_stays h i x y p m k open_ is hidden = by_checks (first_failed (access_che
 
 -- ---- a load or a store, whole
 
-pub moved_stays : (h : ℕ → Bool) (i : Instr) (x y : Cap) (p : Space) (hs : List Granule) (k : Bank) (r : Result MovedRow Trap) → SeesAccess h p.ram i x y → IsMoved i x y p hs k r
+pub moved_stays : (h : ℕ → Bool) (i : Instr) (x y : Cap) (p : MemoryAndDevices) (hs : List Granule) (k : DeviceStates) (r : Result MovedRow Trap) → SeesAccess h p.ram i x y → IsMoved i x y p hs k r
     → (n : ℕ) → h n ≡ true → cap_in hs n ≡ cap_in p.granules n
 moved_stays h i x y p hs k (Ok m) open_ c n hidden = result_stays h i x y p (record { value = m.value; act = m.device; granules = hs; bank = k }) n open_ c hidden
 moved_stays h i x y p hs k (Err w) open_ c n hidden = ap (λ (gs : List Granule). cap_in gs n) c.1
 
-pub moved_seen : (h : ℕ → Bool) (i : Instr) (x y : Cap) (p : Space) (hs : List Granule) (k : Bank) (r : Result MovedRow Trap) → SeesAccess h p.ram i x y → IsMoved i x y p hs k r
+pub moved_seen : (h : ℕ → Bool) (i : Instr) (x y : Cap) (p : MemoryAndDevices) (hs : List Granule) (k : DeviceStates) (r : Result MovedRow Trap) → SeesAccess h p.ram i x y → IsMoved i x y p hs k r
     → IsMoved i x y (hide_space h p) (with_hidden h hs) k r
 moved_seen h i x y p hs k (Ok m) open_ c = access_same h i x y p open_ ∙ ap (λ r. hide_result h r) c
 moved_seen h i x y p hs k (Err w) open_ c = (access_same h i x y p open_ ∙ ap (λ r. hide_result h r) c.0, ap (λ gs. with_hidden h gs) c.1, c.2)
@@ -92,28 +93,28 @@ heap_by gs rows v heap is placed =
     subst (λ n. IsHeapPlaced rows.region.ram heap n) (with_hidden_length (hidden gs rows) gs) here
 
 -- what is known of an access of seen granules, of which the real ones are gs before it and hs after it
-pub record Moving (gs hs : List Granule) (rows : Rows) (v : Seen) (i : Instr) (x y : Cap) (k after : Bank) (time : ℕ) (r : Result MovedRow Trap) : Type 0 where
+pub record Moving (gs hs : List Granule) (rows : Rows) (v : Seen) (i : Instr) (x y : Cap) (k after : DeviceStates) (time : ℕ) (r : Result MovedRow Trap) : Type 0 where
   pub is : engine_view gs rows ≡ v
   pub holds : IsEngine gs rows
   pub meets : SeesAccess (hides v) v.region.ram i x y
   pub moved : IsMoved i x y (space_of rows.region.ram gs k time) hs after r
   pub size : length hs ≡ length gs
 
-meets_here : (gs hs : List Granule) (rows : Rows) (v : Seen) (i : Instr) (x y : Cap) (k after : Bank) (time : ℕ) (r : Result MovedRow Trap) → Moving gs hs rows v i x y k after time r
+meets_here : (gs hs : List Granule) (rows : Rows) (v : Seen) (i : Instr) (x y : Cap) (k after : DeviceStates) (time : ℕ) (r : Result MovedRow Trap) → Moving gs hs rows v i x y k after time r
     → SeesAccess (hidden gs rows) rows.region.ram i x y
 meets_here gs hs rows v i x y k after time r m = subst (λ (s : Seen). SeesAccess (hides s) s.region.ram i x y) (sym m.is) m.meets
 
-move_stays : (gs hs : List Granule) (rows : Rows) (v : Seen) (i : Instr) (x y : Cap) (k after : Bank) (time : ℕ) (r : Result MovedRow Trap) → Moving gs hs rows v i x y k after time r
+move_stays : (gs hs : List Granule) (rows : Rows) (v : Seen) (i : Instr) (x y : Cap) (k after : DeviceStates) (time : ℕ) (r : Result MovedRow Trap) → Moving gs hs rows v i x y k after time r
     → HiddenStays gs hs rows
 move_stays gs hs rows v i x y k after time r m =
     moved_stays (hidden gs rows) i x y (space_of rows.region.ram gs k time) hs after r (meets_here gs hs rows v i x y k after time r m) m.moved
 
-pub move_holds : (gs hs : List Granule) (rows : Rows) (v : Seen) (i : Instr) (x y : Cap) (k after : Bank) (time : ℕ) (r : Result MovedRow Trap) → Moving gs hs rows v i x y k after time r
+pub move_holds : (gs hs : List Granule) (rows : Rows) (v : Seen) (i : Instr) (x y : Cap) (k after : DeviceStates) (time : ℕ) (r : Result MovedRow Trap) → Moving gs hs rows v i x y k after time r
     → IsEngine hs rows
 move_holds gs hs rows v i x y k after time r m = away_holds gs hs rows m.holds m.size (move_stays gs hs rows v i x y k after time r m)
 
 -- nothing but granules changes
-pub move_kept : (gs hs : List Granule) (rows : Rows) (v : Seen) (i : Instr) (x y : Cap) (k after : Bank) (time : ℕ) (r : Result MovedRow Trap) → Moving gs hs rows v i x y k after time r
+pub move_kept : (gs hs : List Granule) (rows : Rows) (v : Seen) (i : Instr) (x y : Cap) (k after : DeviceStates) (time : ℕ) (r : Result MovedRow Trap) → Moving gs hs rows v i x y k after time r
     → engine_view hs rows ≡ with_granules v (engine_view hs rows).granules
 move_kept gs hs rows v i x y k after time r m =
     let whole = away_seen gs hs rows m.holds m.size (move_stays gs hs rows v i x y k after time r m) in
@@ -125,7 +126,7 @@ pub move_size : (gs hs : List Granule) (rows : Rows) (v : Seen) → engine_view 
 move_size gs hs rows v is size = with_hidden_length (hidden hs rows) hs ∙ size ∙ sym (size_is gs rows v is)
 
 -- it comes to what the written access comes to over the seen granules
-pub move_is : (gs hs : List Granule) (rows : Rows) (v : Seen) (i : Instr) (x y : Cap) (k after : Bank) (time : ℕ) (r : Result MovedRow Trap) → Moving gs hs rows v i x y k after time r
+pub move_is : (gs hs : List Granule) (rows : Rows) (v : Seen) (i : Instr) (x y : Cap) (k after : DeviceStates) (time : ℕ) (r : Result MovedRow Trap) → Moving gs hs rows v i x y k after time r
     → IsMoved i x y (space_in v k time) (engine_view hs rows).granules after r
 move_is gs hs rows v i x y k after time r m =
     let whole = away_seen gs hs rows m.holds m.size (move_stays gs hs rows v i x y k after time r m) in

@@ -7,18 +7,18 @@ use Rattle.def_memory.specs.Granules.{plain, granule_at, blank, cap_in}
 use Rattle.def_memory.specs.Ranges.{is_tagged}
 use Rattle.def_machine.specs.Objects.{Each}
 use Rattle.def_machine.specs.State.{Thread, Object, Token}
-use Rattle.law_hidden.specs.Hiding.{with_hidden}
+use Rattle.def_hidden.specs.Hiding.{with_hidden}
 use Rattle.law_hidden.proofs.Granules.{with_hidden_is, seen_at}
 use Rattle.def_chunks.specs.declared.rows.Range.{Range}
 use Rattle.def_chunks.specs.Heaps.{HeapRow, objects_of, Laid}
 use Rattle.ct_heap.specs.Effects.{Stays, Same}
-use Rattle.law_hidden.specs.Heaped.{hides_heap}
-use Rattle.law_hidden.specs.Objects.{Appears}
+use Rattle.def_chunks.specs.Hides.{hides_heap}
+use Rattle.def_chunks.specs.LiveObjects.{Appears}
 use Rattle.law_hidden.proofs.Objects.{place_seen, object_appears}
 use Rattle.ct_areas.specs.declared.thread.Area.{Area}
+use Rattle.ct_areas.specs.declared.thread.Fresh.{Fresh}
 use Rattle.ct_engine.specs.declared.rows.Region.{Region}
 use Rattle.ct_engine.specs.declared.rows.Rows.{Rows}
-use Rattle.ct_engine.specs.declared.starting.Fresh.{Fresh}
 use Rattle.ct_engine.specs.Seen.{Seen, region_hides, hides_over, threads_of, engine_view}
 use Rattle.ct_engine.specs.Kept.{AreasFrom, StackLies, IsClear, IsEngine}
 use Rattle.ct_engine.specs.Starts.{HaveBegun, MayStart, started}

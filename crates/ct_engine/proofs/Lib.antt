@@ -1,7 +1,6 @@
 pub mod Lists
 pub mod HeapStays
 pub mod Whole
-pub mod Clean
 pub mod Ends
 pub mod Away
 pub mod HiddenTwice

@@ -9,7 +9,7 @@ use Rattle.def_machine.specs.State.{Object}
 use Rattle.def_machine.specs.Objects.{Each, has_quarantined, painted, unpainted, is_painted_at}
 use Rattle.def_machine.specs.Slices.{marks_cleared}
 use Rattle.def_hidden.specs.Hidden.{is_live_at}
-use Rattle.law_hidden.specs.Hiding.{hide, with_hidden}
+use Rattle.def_hidden.specs.Hiding.{hide, with_hidden}
 use Rattle.law_hidden.proofs.Granules.{with_hidden_length, with_hidden_at, with_hidden_is, appears}
 use Rattle.def_chunks.specs.declared.rows.Range.{Range}
 use Rattle.def_chunks.specs.Chunks.{Chunk, is_free}
@@ -17,7 +17,7 @@ use Rattle.def_chunks.specs.Tiles.{chunks}
 use Rattle.def_chunks.specs.Heaps.{HeapRow, object_at, objects_in, quota_named, objects_of, Laid}
 use Rattle.ct_heap.specs.Effects.{Same, NoneStale, Paints, Flushes}
 use Rattle.ct_revoke.specs.Slices.{IsSliced}
-use Rattle.law_hidden.specs.Heaped.{hides_heap, heap_hides}
+use Rattle.def_chunks.specs.Hides.{hides_heap, heap_hides}
 use Rattle.law_hidden.proofs.Slices.{kept_length}
 use Rattle.law_hidden.proofs.Objects.{seen_place}
 use Rattle.ct_engine.specs.declared.rows.Rows.{Rows}

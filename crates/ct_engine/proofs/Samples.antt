@@ -9,10 +9,11 @@ use Rattle.def_chunks.specs.Heaps.{HeapRow}
 use Rattle.ct_heap.specs.Effects.{Empty, empty, range_of}
 use Rattle.ct_areas.specs.declared.thread.Area.{Area}
 use Rattle.ct_areas.specs.Threads.{HasArea}
-use Rattle.ct_engine.specs.declared.starting.Fresh.{Fresh}
+use Rattle.ct_areas.specs.declared.thread.Fresh.{Fresh}
+use Rattle.ct_threads.specs.Starts.{IsFresh}
 use Rattle.ct_engine.specs.declared.rows.Region.{Region}
 use Rattle.ct_engine.specs.Kept.{StackLies}
-use Rattle.ct_engine.specs.Starts.{IsFresh, MayStart}
+use Rattle.ct_engine.specs.Starts.{MayStart}
 
 count_of : (n : ℕ) → length (replicate n nothing) ≡ n
 count_of zero = refl

@@ -2,7 +2,7 @@
 use Rattle.std.proofs.Common.{ℕ, ◌≡◌, ◌+◌, ◌*◌, ◌/◌, ◌≤◌, ◌<◌, inl, inr, false, nat_lt, List, [], ◌∷◌, length, Ok, Option, refl, sym, ap, ◌∙◌, subst, arith}
 use Rattle.law_lists.proofs.Tests.{bool_tells, eq_tells}
 use Rattle.def_machine.specs.Rows.{IsLiveOf, RowsFit}
-use Rattle.law_rows.proofs.Counting.{few}
+use Rattle.law_routines.proofs.Counting.{few}
 use Rattle.def_memory.specs.declared.Granule.{Granule}
 use Rattle.def_machine.specs.State.{Object, Token}
 use Rattle.def_machine.specs.Objects.{Any, Each, placed_among}

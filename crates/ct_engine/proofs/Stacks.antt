@@ -1,17 +1,16 @@
 -- Stacks that lie apart from the region: they stay where they are, and zeroing one meets nothing hidden.
-use Rattle.std.proofs.Common.{ℕ, zero, suc, ◌≡◌, ◌+◌, ◌*◌, ◌%◌, ◌<◌, ◌≤◌, ◌⊎◌, inl, inr, Bool, true, false, nat_le, nat_lt, List, [], ◌∷◌, length, map, Some, refl, sym, ap, ◌∙◌, arith, subst}
+use Rattle.std.proofs.Common.{ℕ, zero, suc, ◌≡◌, ◌+◌, ◌*◌, ◌%◌, ◌<◌, ◌≤◌, inl, inr, Bool, true, false, nat_le, nat_lt, List, [], ◌∷◌, length, map, Some, refl, sym, ap, ◌∙◌, arith, subst}
 use Rattle.std.proofs.Math.ListN.{get_or, set}
 use Rattle.std.proofs.lemmas.Bool.{leb-true}
 use Rattle.law_lists.proofs.Tests.{bool_tells, both_left, both_right, lt_tells}
 use Rattle.law_granules.proofs.Lists.{zeroed_length, zeroed_at}
 use Rattle.def_memory.specs.declared.Granule.{Granule}
 use Rattle.def_words.specs.declared.Cap.{Cap}
-use Rattle.def_memory.specs.Granules.{granule_at, blank, cap_in, holding_all}
+use Rattle.def_memory.specs.Granules.{cap_in, holding_all}
 use Rattle.def_memory.specs.Ranges.{zeroed_from}
 use Rattle.def_machine.specs.State.{Thread, Frame}
 use Rattle.def_machine.specs.Objects.{Each}
 use Rattle.def_step.specs.Switch.{frame_top}
-use Rattle.def_areas.specs.Touches.{Touches}
 use Rattle.law_areas.proofs.Changes.{all_touches}
 use Rattle.law_areas.proofs.Writes.{all_length}
 use Rattle.law_hidden.proofs.Granules.{zeroed_seen}
@@ -158,22 +157,6 @@ pub zeroed_is_seen : (gs : List Granule) (rows : Rows) (a : Area) (high : ℕ) �
 zeroed_is_seen gs rows a high holds s le =
     away_seen gs (zeroed_from a.stack high rows.region.ram gs) rows holds (zeroed_length a.stack high rows.region.ram gs) (stack_stays gs rows a high holds s le)
     ∙ ap (λ xs. with_granules (engine_view gs rows) xs) (sym (zeroed_seen (hidden gs rows) gs a.stack high rows.region.ram))
-
--- a change of a range, before and after other granules are zeroed
-pub zeroed_touches : (lo hi from to place : ℕ) (gs hs : List Granule) → Touches lo hi gs hs → Touches lo hi (zeroed_from from to place gs) (zeroed_from from to place hs)
-zeroed_touches lo hi from to place gs hs touches = record {
-  size = zeroed_length from to place hs ∙ touches.size ∙ sym (zeroed_length from to place gs);
-  marks = λ k. mark_is hs k ∙ touches.marks k ∙ sym (mark_is gs k);
-  rest = λ k out. zeroed_at from to place hs k (λ (g : Granule). g ≡ granule_at (zeroed_from from to place gs) k)
-      (λ a b. zeroed_at from to place gs k (λ (g : Granule). blank (granule_at hs k) ≡ g) (λ c d. ap blank (touches.rest k out)) (λ o. absurd (never k a b o)))
-      (λ o. zeroed_at from to place gs k (λ (g : Granule). granule_at hs k ≡ g) (λ c d. absurd (never k c d o)) (λ p. touches.rest k out));
-}
-  where
-    mark_is : (xs : List Granule) (k : ℕ) → (granule_at (zeroed_from from to place xs) k).mark ≡ (granule_at xs k).mark
-    mark_is xs k = zeroed_at from to place xs k (λ (g : Granule). g.mark ≡ (granule_at xs k).mark) (λ a b. refl) (λ o. refl)
-
-    never : (k : ℕ) → from ≤ place + 8 * k → place + 8 * k < to → (place + 8 * k < from) ⊎ (to ≤ place + 8 * k) → ⊥
-    never k a b o = elim o [ inl c ↦ omega (arith, a, c) | inr c ↦ omega (arith, b, c) ]
 
 -- ---- words are written to one
 

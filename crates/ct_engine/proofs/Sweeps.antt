@@ -13,21 +13,22 @@ use Rattle.def_machine.specs.Objects.{Each}
 use Rattle.def_machine.specs.Slices.{is_number, filtered_between, kept_granules, kept_frames, kept_registers, kept_thread, kept_threads, KeepsWords}
 use Rattle.def_machine.specs.Memory.{filtered_in}
 use Rattle.def_areas.specs.Areas.{frames_in, frames_from}
-use Rattle.law_hidden.specs.Hiding.{with_hidden}
+use Rattle.def_hidden.specs.Hiding.{with_hidden}
 use Rattle.def_chunks.specs.Heaps.{HeapRow, objects_of, Laid}
-use Rattle.law_chunks.specs.Kept.{KeepsHeap, KeepsUntagged}
+use Rattle.def_chunks.specs.Kept.{KeepsHeap, KeepsUntagged}
 use Rattle.law_chunks.proofs.Kept.{untag_keeps}
 use Rattle.ct_revoke.specs.Slices.{IsSliced}
-use Rattle.law_hidden.specs.Heaped.{heap_hides}
+use Rattle.def_chunks.specs.Hides.{heap_hides}
 use Rattle.law_hidden.proofs.Shown.{hides_same}
 use Rattle.law_hidden.proofs.Slices.{kept_same, kept_length, passed_same, slice_with_hidden}
 use Rattle.law_hidden.proofs.Areas.{held_kept, registers_kept, frames_kept, passed_keeps}
 use Rattle.ct_areas.specs.declared.thread.Thread as row
 use Rattle.ct_areas.specs.Threads.{HasArea, area_begin, living, thread_of}
 use Rattle.ct_areas.proofs.Places.{area_even}
+use Rattle.ct_threads.specs.Kept.{IsPlain, IsKept}
 use Rattle.ct_engine.specs.declared.rows.Rows.{Rows}
 use Rattle.ct_engine.specs.Seen.{Seen, threads_of, engine_view, seen_by, hidden, no_area}
-use Rattle.ct_engine.specs.Kept.{IsPlain, IsKept, AreasFrom, StackLies, IsClear, IsEngine}
+use Rattle.ct_engine.specs.Kept.{AreasFrom, StackLies, IsClear, IsEngine}
 use Rattle.ct_engine.specs.Sweeps.{area_offset, with_slice}
 
 -- ---- granule by granule

@@ -1,9 +1,7 @@
 -- The running thread changes whole, after its stack was zeroed up to an address: what is seen of it, and what is kept.
-use Rattle.std.proofs.Common.{ℕ, ◌≡◌, ◌+◌, ◌*◌, ◌<◌, ◌≤◌, inl, inr, Bool, true, List, length, Option, Some, refl, sym, ap, ◌∙◌, arith, subst}
+use Rattle.std.proofs.Common.{ℕ, ◌≡◌, ◌+◌, ◌≤◌, true, List, Option, Some, sym, ap, ◌∙◌, subst}
 use Rattle.std.proofs.Math.ListN.{get_or, set}
-use Rattle.law_granules.proofs.Lists.{zeroed_length, zeroed_at}
 use Rattle.def_memory.specs.declared.Granule.{Granule}
-use Rattle.def_memory.specs.Granules.{plain, cap_in}
 use Rattle.def_memory.specs.Ranges.{zeroed_from}
 use Rattle.def_machine.specs.State.{Thread}
 use Rattle.def_machine.specs.Slices.{is_number}
@@ -11,45 +9,15 @@ use Rattle.def_areas.specs.Touches.{Touches}
 use Rattle.ct_areas.specs.declared.thread.Area.{Area}
 use Rattle.ct_areas.specs.declared.thread.Thread as row
 use Rattle.ct_areas.specs.Threads.{area_begin, area_end, thread_of}
-use Rattle.ct_areas.specs.Parts.{register_in}
-use Rattle.ct_switch.specs.Ready.{IsReady}
+use Rattle.ct_threads.specs.Kept.{IsKept}
 use Rattle.ct_engine.specs.declared.rows.Rows.{Rows}
 use Rattle.ct_engine.specs.Seen.{Seen, engine_view, with_thread, with_running, seen_of}
-use Rattle.ct_engine.specs.Kept.{IsKept, AreasFrom, HeapHolds, IsEngine}
+use Rattle.ct_engine.specs.Kept.{AreasFrom, HeapHolds, IsEngine}
 use Rattle.ct_engine.proofs.HeapStays.{turn_heap}
 use Rattle.ct_engine.specs.Calls.{switched}
-use Rattle.ct_engine.proofs.Lists.{OthersRun, within, kept_same}
+use Rattle.ct_engine.proofs.Lists.{OthersRun}
 use Rattle.ct_engine.proofs.Whole.{seen_turn, areas_turn, running_kept}
 use Rattle.ct_engine.proofs.Stacks.{running_stack, running_area, zeroed_holds, zeroed_is_seen}
-
--- ---- what is kept of a row
-
--- it goes by the area, the number of frames and register 0
-pub kept_as : (gs : List Granule) (runs : Bool) (t q : row.Thread) → IsKept gs runs t → q.area ≡ t.area → q.depth ≡ t.depth → register_in q 0 ≡ plain 0 → IsKept gs runs q
-kept_as gs runs t q k place deep zero_ = record {
-  area = rw place k.area;
-  room = rw (place, deep) k.room;
-  zero = zero_;
-  alive = λ e. rw deep (k.alive e);
-  clean = λ m lo hi. rw (place, deep) (k.clean m (rw place at lo) (rw place at hi));
-}
-
--- zeroing the stack up to an address leaves the area
-pub beside_stack : (gs : List Granule) (t : row.Thread) (high m : ℕ) → IsReady gs t → high ≤ t.area.stack + t.area.stack_length → (ms : List Granule)
-    → area_begin t.area ≤ m → m < area_end t.area → cap_in (zeroed_from t.area.stack high t.area.ram ms) m ≡ cap_in ms m
-beside_stack gs t high m ready le ms lo hi =
-    let w = within (8 * length gs) t.area m ready.area lo hi in
-    let from = w.0 in
-    let to = w.1 in
-    zeroed_at t.area.stack high t.area.ram ms m (λ (g : Granule). g.cap ≡ cap_in ms m)
-    (λ a b. absurd (elim ready.stack.apart [ inl x ↦ omega (arith, x, le, from, b) | inr x ↦ omega (arith, x, to, a) ]))
-    (λ out. refl)
-
-pub kept_beside : (gs ms : List Granule) (t u : row.Thread) (high : ℕ) (runs : Bool) → IsReady gs t → high ≤ t.area.stack + t.area.stack_length
-    → u.area ≡ t.area → IsKept ms runs u → IsKept (zeroed_from t.area.stack high t.area.ram ms) runs u
-kept_beside gs ms t u high runs ready le place k =
-    kept_same ms (zeroed_from t.area.stack high t.area.ram ms) runs u (zeroed_length t.area.stack high t.area.ram ms)
-    (λ m lo hi. beside_stack gs t high m ready le ms (rw place at lo) (rw place at hi)) k
 
 -- ---- all that is seen
 

@@ -4,25 +4,26 @@ use Rattle.std.proofs.Math.ListN.{get_or, set}
 use Rattle.law_lists.proofs.Tests.{le_tells, lt_tells}
 use Rattle.def_words.specs.declared.Cap.{Cap}
 use Rattle.def_memory.specs.declared.Granule.{Granule}
-use Rattle.def_machine.specs.State.{Thread, Frame, Object, nobody}
+use Rattle.def_machine.specs.State.{Thread, Object, nobody}
 use Rattle.def_chunks.specs.Heaps.{objects_of}
 use Rattle.std.proofs.lemmas.Bool.{or_left}
 use Rattle.def_machine.specs.Slices.{is_number}
 use Rattle.def_machine.specs.Threads.{picked_with}
 use Rattle.def_machine.specs.Memory.{filtered_in}
 use Rattle.def_areas.specs.Touches.{Touches}
-use Rattle.law_hidden.specs.Hiding.{with_hidden}
+use Rattle.def_hidden.specs.Hiding.{with_hidden}
 use Rattle.law_hidden.proofs.Granules.{hidden_changes}
 use Rattle.law_hidden.proofs.Steps.{filtered_same}
-use Rattle.law_areas.proofs.Frames.{frames_count}
-use Rattle.ct_areas.proofs.Places.{frames_of}
 use Rattle.ct_areas.specs.declared.thread.Thread as row
 use Rattle.ct_areas.specs.Threads.{area_begin, area_end, thread_of}
+use Rattle.ct_threads.specs.Kept.{IsKept}
+use Rattle.ct_threads.proofs.Beside.{within}
+use Rattle.ct_threads.proofs.Entering.{thread_depth}
 use Rattle.ct_engine.specs.declared.rows.Region.{Region}
 use Rattle.ct_engine.specs.declared.rows.Rows.{Rows}
 use Rattle.ct_engine.specs.Seen.{Seen, threads_of, engine_view, thread, with_thread, with_running, resumed, region_hides, hides_over, seen_by, seen_of, hidden}
-use Rattle.ct_engine.specs.Kept.{IsKept, AreasFrom, HeapHolds, IsEngine}
-use Rattle.ct_engine.proofs.Lists.{Lies, OthersRun, lies, within, areas_put, threads_put, places_put, the_thread}
+use Rattle.ct_engine.specs.Kept.{AreasFrom, HeapHolds, IsEngine}
+use Rattle.ct_engine.proofs.Lists.{Lies, OthersRun, lies, areas_put, threads_put, places_put, the_thread}
 use Rattle.ct_engine.proofs.HeapStays.{turn_objects}
 
 -- who has a number
@@ -204,9 +205,6 @@ pick_seen gs hs rows t r q holds runs lt is touches place same =
     seen_turn rows gs hs rows.list.items rows.running (Some t) t r q _ holds.areas holds.heap lt is touches (takes_on rows.running t runs) place now
 
 -- ---- how many frames
-
-pub thread_depth : (gs : List Granule) (runs : Bool) (r : row.Thread) → length (thread_of gs runs r).frames ≡ r.depth
-thread_depth gs runs r = ap (λ (fs : List Frame). length fs) (frames_of gs runs r) ∙ frames_count gs (area_begin r.area) r.actor r.top r.handling r.depth
 
 pub depth_is : (gs : List Granule) (rows : Rows) (t : ℕ) (r : row.Thread) (runs : Bool) → t < length rows.list.items → r ≡ get_or rows.list.items t r
     → is_number rows.running t ≡ runs → length (thread (engine_view gs rows) t).frames ≡ r.depth

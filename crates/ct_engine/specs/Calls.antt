@@ -1,13 +1,12 @@
 -- A call and a frame's end of the running thread: what they ask, what they come to, and what they leave of all that is
 -- seen.
-use Rattle.std.specs.Prelude.{ℕ, ◌+◌, ◌-◌, ◌*◌, ◌/◌, ◌%◌, ◌≡◌, ◌≤◌, Bool, true, false, nat_lt, List, [], ◌∷◌, length, Option, None, slice_set}
+use Rattle.std.specs.Prelude.{ℕ, ◌+◌, ◌-◌, ◌*◌, ◌/◌, ◌%◌, ◌≡◌, ◌≤◌, true, false, List, [], ◌∷◌, length, Option, None, slice_set}
 use Rattle.ct_entry.specs.Listed.{Listed}
 use Rattle.def_profile.specs.declared.layout.TheConstants.{GRANULE}
 use Rattle.def_profile.specs.declared.seals.TheConstants.{EXPORT_TYPE}
 use Rattle.def_words.specs.declared.Cap.{Cap}
 use Rattle.def_words.specs.Capability.{with_address}
 use Rattle.def_words.specs.Seals.{cap_seal}
-use Rattle.def_memory.specs.declared.Granule.{Granule}
 use Rattle.def_memory.specs.Granules.{plain, cap_in}
 use Rattle.def_memory.specs.Ranges.{zeroed_from}
 use Rattle.def_reach.specs.Roots.{root_of, gate_for}
@@ -17,13 +16,10 @@ use Rattle.def_machine.specs.State.{Thread, Frame, nobody, register}
 use Rattle.def_machine.specs.Memory.{filtered_in}
 use Rattle.def_machine.specs.Frames.{Given, entered_by, answer_by, left_with}
 use Rattle.def_step.specs.Switch.{Switched, Enters, switch_of, frame_top}
-use Rattle.def_areas.specs.Touches.{Touches}
-use Rattle.ct_areas.specs.declared.thread.Thread as row
-use Rattle.ct_areas.specs.Threads.{area_begin, area_end, frames_most, thread_of}
-use Rattle.ct_exports.specs.Exports.{AreSorted, IsCallable, callee_of, table_of}
-use Rattle.ct_switch.specs.Calls.{stack_cap, thread_left}
+use Rattle.ct_areas.specs.Threads.{frames_most}
+use Rattle.ct_switch.specs.Exports.{AreSorted, IsCallable, callee_of, table_of}
+use Rattle.ct_switch.specs.Calls.{stack_cap}
 use Rattle.ct_engine.specs.Seen.{Seen, hides, thread, area_at}
-use Rattle.ct_engine.specs.Kept.{IsKept}
 
 -- ---- what they ask
 
@@ -104,24 +100,6 @@ returned s e t =
 
 abbrev pub ended_with : Seen → ℕ → ℕ → Seen
 ended_with s t value = ended_by s t (λ f. plain value) (λ f. plain 0) (thread s t).frames
-
--- ---- of a row
-
--- where the switch enters, memory before a frame is written: the stack is zeroed up to the new top
-abbrev pub cleared : List Granule → row.Thread → Switched → List Granule
-cleared gs t (Enters export high) = zeroed_from t.area.stack high t.area.ram gs
-cleared gs t _ = gs
-
--- The innermost frame of a row's thread ended with these results, by the frame; `more` tells whether another goes on.
--- Beside the stack, which was zeroed up to the frame's top, its area alone changed.
-pub record Ends (gs hs : List Granule) (t new : row.Thread) (more : Bool)
-    (first second : Frame → Cap) : Type 0 where
-  pub result : more ≡ nat_lt 1 t.depth
-  pub kept : IsKept hs more new
-  pub area : new.area ≡ t.area
-  pub thread : thread_of hs more new ≡ thread_left gs t first second
-  pub touches : Touches (area_begin t.area) (area_end t.area)
-      (zeroed_from t.area.stack t.top t.area.ram gs) hs
 
 -- ---- as boot made it
 

@@ -8,15 +8,14 @@ use Rattle.def_machine.specs.State.{Thread, Object, Token, nobody}
 use Rattle.def_chunks.specs.declared.rows.Range.{Range}
 use Rattle.def_chunks.specs.declared.rows.Account.{Account}
 use Rattle.def_chunks.specs.Heaps.{objects_of}
-use Rattle.law_hidden.specs.Heaped.{hides_heap}
+use Rattle.def_chunks.specs.Hides.{hides_heap}
 use Rattle.def_machine.specs.Slices.{is_number}
 use Rattle.def_machine.specs.Threads.{picked_with, jumped}
-use Rattle.def_machine.specs.Registers.{written}
 use Rattle.def_words.specs.declared.Cap.{Cap}
 use Rattle.def_words.specs.Capability.{integer, raised, with_address}
 use Rattle.def_words.specs.declared.Posture.{Posture}
 use Rattle.def_machine.specs.Memory.{filtered_in}
-use Rattle.law_hidden.specs.Hiding.{with_hidden}
+use Rattle.def_hidden.specs.Hiding.{with_hidden}
 use Rattle.ct_areas.specs.declared.thread.Area.{Area}
 use Rattle.ct_areas.specs.declared.thread.Thread as row
 use Rattle.ct_areas.specs.Threads.{thread_of}
@@ -129,11 +128,6 @@ advanced s t to value = after_jump s t (raised (thread s t).pcc 4) (thread s t).
 abbrev pub moved_to : Seen → ℕ → ℕ → Seen
 moved_to s t at =
     after_jump s t (with_address (thread s t).pcc at) (thread s t).posture 0 (integer 0)
-
--- its row
-abbrev pub row_gone : row.Thread → Cap → Posture → ℕ → Cap → row.Thread
-row_gone t pcc posture to value =
-    record t { pcc = pcc; regs = written t.regs to value; posture = posture }
 
 -- where a thread's area and its stack lie
 abbrev pub area_at : Seen → ℕ → Area

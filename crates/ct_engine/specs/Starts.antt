@@ -1,25 +1,19 @@
 -- Threads and an empty heap before the first step.
-use Rattle.std.specs.Prelude.{ℕ, ◌+◌, ◌*◌, ◌≡◌, ◌≤◌, ◌<◌, true, List, [], ◌∷◌, length, None, map, slice_index_or}
-use Rattle.def_profile.specs.declared.limits.TheConstants.{RAM_END}
+use Rattle.std.specs.Prelude.{ℕ, ◌+◌, ◌*◌, ◌≡◌, ◌≤◌, ◌<◌, true, List, [], ◌∷◌, length, None, map}
 use Rattle.def_memory.specs.declared.Granule.{Granule}
 use Rattle.def_memory.specs.Granules.{plain, cap_in}
 use Rattle.def_machine.specs.State.{Thread}
 use Rattle.def_machine.specs.Objects.{Each}
 use Rattle.def_chunks.specs.Heaps.{HeapRow}
 use Rattle.ct_heap.specs.Effects.{Empty}
-use Rattle.law_hidden.specs.Hiding.{with_hidden}
+use Rattle.def_hidden.specs.Hiding.{with_hidden}
 use Rattle.ct_areas.specs.declared.thread.Thread as row
-use Rattle.ct_areas.specs.Threads.{HasArea, first}
+use Rattle.ct_areas.specs.declared.thread.Fresh.{Fresh}
+use Rattle.ct_threads.specs.Starts.{IsFresh}
+use Rattle.ct_areas.specs.Starts.{first_of}
 use Rattle.ct_engine.specs.declared.rows.Region.{Region}
-use Rattle.ct_engine.specs.declared.starting.Fresh.{Fresh}
 use Rattle.ct_engine.specs.Seen.{Seen, region_hides, limits_in, threads_of}
 use Rattle.ct_engine.specs.Kept.{AreasFrom, StackLies}
-
--- its area lies in RAM of so many bytes, register 0 is zero, and its stack ends below the last granules of addresses
-pub record IsFresh (size : ℕ) (f : Fresh) : Type 0 where
-  pub area : HasArea size f.area
-  pub zero : slice_index_or f.first.regs 0 (plain 0) ≡ plain 0
-  pub stack : f.area.stack + f.area.stack_length ≤ RAM_END
 
 -- their areas stand one after another from one address up to another, of RAM from `ram` on
 abbrev pub AreFresh : ℕ → ℕ → ℕ → ℕ → List Fresh → Type 0
@@ -27,12 +21,6 @@ AreFresh ram size from to [] = from ≤ to
 AreFresh ram size from to (f ∷ fs) =
     (from ≤ f.area.trusted) × (f.area.ram ≡ ram) × IsFresh size f
     × AreFresh ram size (f.area.trusted + f.area.trusted_length) to fs
-
--- the thread as the machine's state has it: its one frame's top is the stack's end
-abbrev pub first_of : Fresh → Thread
-first_of f =
-    first f.first.pcc f.first.regs f.first.posture f.first.actor f.first.export
-    (f.area.stack + f.area.stack_length)
 
 -- They have begun, stopped, in memory that was otherwise: outside the region it is as it was.
 pub record HaveBegun (g : Region) (was gs : List Granule) (ts : List row.Thread) (fs : List Fresh) : Type 0 where

@@ -5,7 +5,7 @@ use Rattle.def_memory.specs.Granules.{cap_in}
 use Rattle.def_machine.specs.State.{Object}
 use Rattle.def_machine.specs.Objects.{Each, has_quarantined, painted, unpainted}
 use Rattle.def_machine.specs.Slices.{filtered_between, kept_granules, kept_threads, marks_cleared}
-use Rattle.law_sweeps.specs.Clean.{NotStale, SavedClean, StoppedClean}
+use Rattle.def_confined.specs.Stale.{NotStale, SavedClean, StoppedClean}
 use Rattle.ct_engine.specs.Seen.{Seen, thread, area_at}
 
 -- ---- a slice

@@ -7,23 +7,23 @@ ghost use Rattle.def_memory.specs.Accesses.{IsAccess, loaded};
 ghost use Rattle.def_machine.specs.State.{register};
 ghost use Rattle.def_step.specs.Instructions.{actor_of};
 ghost use Rattle.def_step.specs.Handlers.{handler_value};
-ghost use Rattle.law_hidden.specs.Steps.{IsSeen, SeesAccess};
+ghost use Rattle.def_safety.specs.HiddenSteps.{IsSeen, SeesAccess};
+ghost use Rattle.ct_threads.specs.Steps.{NextInRange, IsMoved};
 ghost use Rattle.ct_engine.specs.Starts.{MayStart, started};
 ghost use Rattle.ct_engine.specs.Seen.{hides, thread, with_granules, with_running, resumed, after_jump};
-ghost use Rattle.ct_engine.specs.Steps.{space_in, next_in, NextInRange, HeapLies, IsMoved};
-ghost use Rattle.ct_exports.specs.Exports.{AreSorted};
+ghost use Rattle.ct_engine.specs.Steps.{space_in, next_in, HeapLies};
+ghost use Rattle.ct_switch.specs.Exports.{AreSorted};
 ghost use Rattle.ct_switch.specs.Calls.{call_outcome};
 ghost use Rattle.ct_engine.specs.Calls.{TopLies, MayCall, switch_at, after_call, returned, ended_with};
 ghost use Rattle.ct_engine.specs.Handling.{MayHandle, is_handled_at, is_marked, after_trap};
 
-use crate::accesses::access;
 use crate::calls;
-use crate::fetching::next;
 use crate::handling::{handle, is_handling, value_in};
 use crate::rows::{Region, Rows};
-use crate::starting::{Fresh, start};
+use crate::starting::start;
 use crate::steps::{actor, jump_to, pcc, posture, register};
 use crate::turns::{pick, stop};
+use ct_areas::Fresh;
 use ct_bus::Bus;
 use ct_cap::{Live, Posture, Trap};
 use ct_entry::Entries;
@@ -31,6 +31,7 @@ use ct_heap::Heap;
 use ct_loadstore::Moved;
 use ct_mem::Memory;
 use ct_switch::Called;
+use ct_threads::{access, call_row, next};
 use def_instr::Instr;
 use def_profile::answers::UNWOUND;
 use def_refusals::NoMemory;
@@ -182,7 +183,7 @@ impl<M: Memory + Drop> Engine<M> {
             ≡ call_outcome (register (thread self.old t) 6) (switch_at self.old e.now t) }
         ensures is { self.new ≡ after_call self.old e.now t (switch_at self.old e.now t) }
     {
-        calls::call(&mut self.rows, &mut self.mem, t, e)
+        call_row(&mut self.rows.list[t as usize], &mut self.mem, e)
     }
 
     /// The running thread returns to its caller, with c10 and c11, untagged where the frame's export passes plain

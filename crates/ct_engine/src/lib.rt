@@ -9,10 +9,8 @@
 //! a slice of a sweep are the changes that the machine's definitions say. docs/use/machine.md tells the layout in prose.
 #![tactic(auto)]
 
-mod accesses;
 mod calls;
 mod engine;
-mod fetching;
 mod granting;
 mod handling;
 mod quiet;
@@ -25,10 +23,10 @@ mod turns;
 mod written;
 
 pub use calls::callee_given;
+pub use ct_areas::{First, Fresh};
 pub use ct_heap::{Found, Heap, HeapRefusal, NotWhole, Object};
 pub use ct_switch::Called;
 pub use def_refusals::NoMemory;
 pub use engine::Engine;
 pub use rows::Region;
-pub use starting::{First, Fresh};
 pub use written::{calls_written, ends_written, grants_written, handlers_written, sweeps_written};

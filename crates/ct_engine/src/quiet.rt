@@ -8,13 +8,14 @@ ghost use Rattle.def_words.specs.Authority.{cap_address};
 ghost use Rattle.def_words.specs.Capability.{integer};
 ghost use Rattle.def_step.specs.Checks.{first_failed};
 ghost use Rattle.def_step.specs.Instructions.{fetch_checks, next_word};
-ghost use Rattle.law_hidden.specs.Steps.{IsSeen};
+ghost use Rattle.def_safety.specs.HiddenSteps.{IsSeen};
 ghost use Rattle.ct_loadstore.specs.Shapes.{IsShape};
+ghost use Rattle.ct_threads.specs.Steps.{is_word_of_ram};
 ghost use Rattle.ct_engine.specs.Seen.{hides, thread, advanced, moved_to, with_granules};
-ghost use Rattle.ct_engine.specs.Steps.{is_word_of_ram, next_in, loads_ram, stores_ram, Loads, SeesLoad, SeesStore, Stores};
+ghost use Rattle.ct_engine.specs.Steps.{next_in, loads_ram, stores_ram, Loads, SeesLoad, SeesStore, Stores};
 
 use crate::engine::Engine;
-use crate::{fetching, steps};
+use crate::steps;
 use ct_cap::Live;
 use ct_mem::Memory;
 use def_step::Access;
@@ -79,7 +80,7 @@ impl<M: Memory + Drop> Engine<M> {
             ≡ is_word_of_ram self.now.region.ram self.now.granules at }
         ensures given { IfSome result (λ w. next_in self.now at ≡ next_word (instruction_in w)) }
     {
-        fetching::word_at(&self.mem, self.rows.region.ram, at)
+        ct_threads::word_at(&self.mem, self.rows.region.ram, at)
     }
 
     /// The running thread goes on after its instruction, and a register gets a number, which register 0 drops.

@@ -10,7 +10,7 @@ use ct_mem::Memory;
 impl<M: Memory + Drop> Engine<M> {
     /// Whether a sweep runs, or is to begin.
     #[inline(always)]
-    fn has_sweep(&self) -> bool
+    pub fn has_sweep(&self) -> bool
         ensures { result ≡ is_some self.now.front || has_quarantined self.now.objects }
     {
         self.rows.front.running() || self.rows.heap.quarantined()

@@ -14,7 +14,7 @@ ghost use Rattle.def_machine.specs.Heap.{swept};
 ghost use Rattle.def_machine.specs.Frames.{answer, left_by};
 ghost use Rattle.def_step.specs.Switch.{Enters, switch_of, frame_top};
 ghost use Rattle.def_step.specs.Handlers.{is_handled};
-ghost use Rattle.ct_exports.specs.Exports.{callee_of};
+ghost use Rattle.ct_switch.specs.Exports.{callee_of};
 ghost use Rattle.ct_engine.specs.Seen.{Seen, limit_at};
 ghost use Rattle.ct_engine.specs.Calls.{HeadStands, switch_at, after_call, returned, ended_with};
 ghost use Rattle.ct_engine.specs.Handling.{is_handled_at, after_trap};

@@ -3,7 +3,7 @@ use Rattle.std.proofs.Common.{◌^◌, ◌<◌, length, arith}
 use Rattle.def_image.specs.Parts.{PartsRow}
 use Rattle.def_boot.specs.Entries.{entry_rows}
 use Rattle.law_image.proofs.Members.{all_at}
-use Rattle.law_listed.proofs.Few.{few_rows as few_of}
+use Rattle.law_boot.proofs.Few.{few_rows as few_of}
 use Rattle.ct_entries.specs.Fits.{CodeStands, CompartmentStands, PartsFit}
 
 pub few_rows : (p : PartsRow) → PartsFit p → length (entry_rows p) < 2 ^ 32

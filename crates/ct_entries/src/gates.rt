@@ -10,7 +10,7 @@ ghost use Rattle.def_boot.specs.Gates as spec;
 ghost use Rattle.ct_entries.specs.Fits.{CodeStands, CompartmentStands, Starts};
 
 use ct_entry::Gate;
-use ct_parts::{Code, Compartment, Export, Parts};
+use ct_image_parts::{Code, Compartment, Export, Parts};
 use ct_tables::ExportRow;
 use def_profile::layout::SLOT_SIZE;
 use std::alloc::{AllocError, Global};

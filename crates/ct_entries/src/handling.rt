@@ -7,7 +7,7 @@ ghost use Rattle.def_image.specs.Sound.{Sound};
 ghost use Rattle.ct_entries.specs.Fits.{handler_in};
 
 use crate::naming::number_at;
-use ct_parts::{Compartment, Export, Parts};
+use ct_image_parts::{Compartment, Export, Parts};
 use std::alloc::{AllocError, Global};
 
 /// The name of the export that is a compartment's error handler.

@@ -16,7 +16,7 @@ ghost use Rattle.def_image.specs.Sound.{Sound};
 
 use ct_entry::Entries;
 use ct_image::Image;
-use ct_parts::Parts;
+use ct_image_parts::Parts;
 use def_refusals::NoMemory;
 pub use naming::export_number;
 use std::alloc::{AllocError, Global};

@@ -7,7 +7,7 @@ ghost use Rattle.def_image.specs.Rights.{rights_of};
 ghost use Rattle.def_image.specs.Sound.{SlotFits, Sound};
 ghost use Rattle.ct_entries.specs.Fits.{entry_at, HasExport};
 
-use ct_parts::{Export, Parts};
+use ct_image_parts::{Export, Parts};
 use ct_perm::Perms;
 use ct_tables::ImportRow;
 use def_profile::layout::{TABLE_HEAD, TABLE_ROW};
@@ -24,7 +24,7 @@ pub(crate) fn rights(row: ImportRow) -> u32
 pub(crate) fn device_at(parts: &Parts, index: u32) -> u32
     ensures { result ≡ device_base parts.now index }
 {
-    match parts.devices.get(index as usize) {
+    match parts.devices.rows.get(index as usize) {
         Some(device) => device.base,
         None => 0,
     }

@@ -12,7 +12,7 @@ ghost use Rattle.std.specs.List.{AllByRecursion};
 use crate::rows::row;
 use crate::slots::add_slots;
 use ct_entry::{Entry, Kind, Owner};
-use ct_parts::{Code, Compartment, Export, Parts, Thread};
+use ct_image_parts::{Code, Compartment, Export, Parts, Thread};
 use def_profile::layout::{TABLE_HEAD, TABLE_ROW};
 use def_profile::rights::{CODE_RIGHTS, EXPORT_RIGHTS, GLOBALS_RIGHTS, STACK_RIGHTS};
 use std::alloc::AllocError;

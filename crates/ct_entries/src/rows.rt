@@ -7,7 +7,7 @@ ghost use Rattle.def_image.specs.Sound.{Sound};
 
 use crate::owners::{add_compartments, add_libraries, add_threads};
 use ct_entry::{Entry, Kind, Owner};
-use ct_parts::Parts;
+use ct_image_parts::Parts;
 use std::alloc::{AllocError, Global};
 
 /// A row without a limit.

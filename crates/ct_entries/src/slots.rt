@@ -11,7 +11,7 @@ ghost use Rattle.ct_entries.specs.Fits.{HasFit};
 use crate::naming::{called_at, device_at, export_number, lent_number, rights};
 use crate::rows::row;
 use ct_entry::{Entry, Kind, Owner};
-use ct_parts::{Parts, Slot};
+use ct_image_parts::{Parts, Slot};
 use ct_tables::{ImportRow, SlotKind};
 use def_profile::layout::{DEVICE_SIZE, SLOT_SIZE, TABLE_ROW};
 use def_profile::native::{NATIVE_BASE, NATIVE_LENGTH, NATIVE_UNIT};

@@ -26,3 +26,18 @@ impl Model for Device {
 
     ghost view = { λ d. record { name = string_bytes d.name; kind = d.kind; base = d.base } };
 }
+
+/// The devices of a firmware, in the order of their indexes.
+#[derive(Drop)]
+pub struct Devices {
+    pub rows: Vec<Device>,
+}
+
+impl Model for Devices {
+    ghost use Rattle.std.specs.Prelude.{List};
+    ghost use Rattle.ct_entry.specs.Listed.{DeviceRow};
+
+    ghost Value = { List DeviceRow };
+
+    ghost view = { λ d. d.rows.items };
+}

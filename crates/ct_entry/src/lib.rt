@@ -10,5 +10,5 @@ mod hardware;
 mod rows;
 
 pub use acts::{Act, Deed, End, Happened, Owned, Totals};
-pub use hardware::{Device, DeviceKind};
+pub use hardware::{Device, DeviceKind, Devices};
 pub use rows::{Comp, Entries, Entry, Gate, Kind, Mode, NO_GATE, Owner};

@@ -10,8 +10,8 @@ use Rattle.def_machine.specs.State.{State, Object, register}
 use Rattle.def_machine.specs.State as state
 use Rattle.def_confined.specs.Confined.{Confined}
 use Rattle.def_hidden.specs.Hidden.{Shut, is_hidden}
-use Rattle.law_shut.proofs.Seeing.{register_sees, counter_sees}
-use Rattle.law_hidden.specs.Heaped.{hides_heap}
+use Rattle.law_events.proofs.Seeing.{register_sees, counter_sees}
+use Rattle.def_chunks.specs.Hides.{hides_heap}
 use Rattle.ct_engine.specs.declared.rows.Region.{Region}
 use Rattle.ct_engine.specs.Seen.{Seen, region_hides, hides, thread, region_of}
 use Rattle.ct_execute.specs.Opening.{IsOpen, Runs}

@@ -15,14 +15,15 @@ use Rattle.def_step.specs.declared.Next.{Next}
 use Rattle.def_step.specs.declared.Operands.{Operands}
 use Rattle.def_step.specs.Accesses.{access_of}
 use Rattle.def_step.specs.Checks.{first_failed}
-use Rattle.def_step.specs.Devices.{Bank}
+use Rattle.def_step.specs.Devices.{DeviceStates}
 use Rattle.def_step.specs.Instructions.{fetch_checks, next_at, next_word}
 use Rattle.def_step.specs.Jumps.{flow_result, is_taken, target_at, jumped_to, branched}
 use Rattle.def_step.specs.Operands.{class_of, operands_of}
-use Rattle.ct_decoded.specs.declared.reading.Reading.{Reading}
-use Rattle.ct_decoded.specs.Reading.{reading_by}
+use Rattle.ct_decode.specs.declared.reading.Reading.{Reading}
+use Rattle.ct_decode.specs.Reading.{reading_by}
+use Rattle.ct_threads.specs.Steps.{is_word_of_ram}
 use Rattle.ct_engine.specs.Seen.{Seen, thread, after_jump}
-use Rattle.ct_engine.specs.Steps.{space_in, next_in, is_word_of_ram}
+use Rattle.ct_engine.specs.Steps.{space_in, next_in}
 use Rattle.ct_execute.specs.Deciding.{decision, decide_fetched, decide_next, named_in, WentQuietly}
 use Rattle.ct_execute.specs.Quiet.{offset_of, address_in, takes, plain_jump, jump_by, jump_offset, goes_at, goes_quietly, Says, CarriesQuietly}
 
@@ -43,13 +44,13 @@ instruction_read word (Some i) = refl
 
 -- ---- a fetch that passes
 
-passes : (e : Listed) (s : Seen) (t : ℕ) (k : Bank) (time : ℕ) (new : Seen) (o : Option Trap) → is_none o ≡ true
+passes : (e : Listed) (s : Seen) (t : ℕ) (k : DeviceStates) (time : ℕ) (new : Seen) (o : Option Trap) → is_none o ≡ true
     → WentQuietly (decide_next e (thread s t) (space_in s k time) (next_at (space_in s k time) (cap_address (thread s t).pcc))) t s k new
     → WentQuietly (decide_fetched e (thread s t) (space_in s k time) o) t s k new
 passes e s t k time new None none h = h
 passes e s t k time new (Some why) none h = absurd (cc)
 
-fetched_quietly : (e : Listed) (s : Seen) (t : ℕ) (k : Bank) (time : ℕ) (new : Seen) (o : Option Instr) → goes_at (thread s t) s.region.ram s.granules (next_word o) ≡ true → IfSome o (λ i. CarriesQuietly s t i new)
+fetched_quietly : (e : Listed) (s : Seen) (t : ℕ) (k : DeviceStates) (time : ℕ) (new : Seen) (o : Option Instr) → goes_at (thread s t) s.region.ram s.granules (next_word o) ≡ true → IfSome o (λ i. CarriesQuietly s t i new)
     → next_in s (cap_address (thread s t).pcc) ≡ next_word o
     → WentQuietly (decide_next e (thread s t) (space_in s k time) (next_at (space_in s k time) (cap_address (thread s t).pcc))) t s k new
 fetched_quietly e s t k time new None goes carries next = absurd (cc)
@@ -60,7 +61,7 @@ pub decided_quietly : (s : Seen) (t word : ℕ) (new : Seen) (o : Option Instr) 
     → is_none (first_failed (fetch_checks (thread s t).pcc)) ≡ true
     → next_in s (cap_address (thread s t).pcc) ≡ next_word o
     → goes_at (thread s t) s.region.ram s.granules (next_word r.instruction) ≡ true → IfSome r.instruction (λ i. CarriesQuietly s t i new)
-    → (e : Listed) (k : Bank) (time : ℕ) → WentQuietly (decision e s t k time) t s k new
+    → (e : Listed) (k : DeviceStates) (time : ℕ) → WentQuietly (decision e s t k time) t s k new
 decided_quietly s t word new o r is checks next goes carries e k time =
     let same : r.instruction ≡ o = subst (λ (q : Reading). q.instruction ≡ o) (sym is) (instruction_read word o) in
     passes e s t k time new (first_failed (fetch_checks (thread s t).pcc)) checks

@@ -13,7 +13,7 @@ use Rattle.def_machine.specs.State.{register}
 use Rattle.def_step.specs.Checks.{first_failed}
 use Rattle.def_step.specs.declared.Access.{Access}
 use Rattle.def_step.specs.Accesses.{access_of, access_address, load_checks, store_checks}
-use Rattle.law_hidden.specs.Steps.{SeesAccess}
+use Rattle.def_safety.specs.HiddenSteps.{SeesAccess}
 use Rattle.ct_engine.specs.Seen.{thread, Seen, hides}
 use Rattle.ct_execute.specs.Opening.{IsOpen}
 

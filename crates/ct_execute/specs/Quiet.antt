@@ -13,17 +13,18 @@ use Rattle.def_step.specs.declared.Next.TheVariants.{Instruction}
 use Rattle.def_step.specs.declared.Operands.{Operands}
 use Rattle.def_step.specs.Accesses.{access_of}
 use Rattle.def_step.specs.Checks.{first_failed}
-use Rattle.def_step.specs.Devices.{Bank}
+use Rattle.def_step.specs.Devices.{DeviceStates}
 use Rattle.def_step.specs.Instructions.{fetch_checks, next_at}
 use Rattle.def_step.specs.Jumps.{is_taken, target_at}
 use Rattle.def_step.specs.Operands.{class_of, operands_of}
 use Rattle.def_words.specs.declared.Cap.{Cap}
 use Rattle.def_words.specs.Authority.{cap_address}
-use Rattle.ct_decoded.specs.declared.reading.Reading.{Reading}
+use Rattle.ct_decode.specs.declared.reading.Reading.{Reading}
 use Rattle.ct_loadstore.specs.Quiet.{is_quiet_load, is_quiet_store}
 use Rattle.ct_loadstore.specs.Shapes.{space_of}
+use Rattle.ct_threads.specs.Steps.{no_bank, is_word_of_ram}
 use Rattle.ct_engine.specs.Seen.{Seen, thread}
-use Rattle.ct_engine.specs.Steps.{space_in, no_bank, is_word_of_ram}
+use Rattle.ct_engine.specs.Steps.{space_in}
 use Rattle.ct_execute.specs.Deciding.{decide_instruction, WentQuietly}
 
 -- class, registers and access of the instruction
@@ -35,7 +36,7 @@ pub record Says (r : Reading) (i : Instr) : Type 0 where
 -- thread t goes on after the instruction and nothing is told, whatever the entries, the devices and the time
 abbrev pub CarriesQuietly : Seen → ℕ → Instr → Seen → Type 0
 CarriesQuietly s t i new =
-    (e : Listed) (k : Bank) (time : ℕ)
+    (e : Listed) (k : DeviceStates) (time : ℕ)
     → WentQuietly (decide_instruction e (thread s t) (space_in s k time) i) t s k new
 
 -- the offset of a branch

@@ -4,7 +4,7 @@ ghost use Rattle.std.specs.Prelude.{ℕ, ◌≡◌, ◌<◌, Some, option_map, t
 ghost use Rattle.def_instr.specs.Shapes.{is_access, is_capability, is_integer, is_jump, is_system};
 ghost use Rattle.def_instr.specs.Table.{InRange};
 ghost use Rattle.def_step.specs.declared.Class.TheVariants as kinds;
-ghost use Rattle.def_step.specs.Devices.{Bank};
+ghost use Rattle.def_step.specs.Devices.{DeviceStates};
 ghost use Rattle.def_step.specs.Operands.{class_of};
 ghost use Rattle.ct_engine.specs.Seen.{thread, advanced};
 ghost use Rattle.ct_engine.specs.Steps.{space_in};
@@ -16,13 +16,13 @@ use ct_alu::alu;
 use ct_bus::Bus;
 use ct_cap::{Live, Trap, add_address};
 use ct_capstep::capstep;
-use ct_decoded::{class_of, operands_of};
+use ct_decode::{class_of, operands_of};
 use ct_engine::Engine;
 use ct_entry::{Act, Entries};
-use ct_exports::called;
 use ct_flow::flow;
 use ct_isa::shape;
 use ct_mem::Memory;
+use ct_switch::called;
 use def_instr::Instr;
 use def_profile::traps::{BREAKPOINT, ENVIRONMENT_CALL, PCC_REGISTER, SYSTEM_REGISTER_CODE};
 use def_step::{Class, Operands};
@@ -60,7 +60,7 @@ fn execute_jump<M: Memory + Drop>(
     requires has { HasOperands instruction operands }
     requires class { class_of instruction ≡ kinds.Jump }
     requires jump { is_jump instruction ≡ true }
-    ensures is { (k : Bank) (time : ℕ) → Decided
+    ensures is { (k : DeviceStates) (time : ℕ) → Decided
         (decide_instruction entries.now (thread engine.old t)
         (space_in engine.old k time) instruction)
         t engine.old k engine.new k result }
@@ -136,7 +136,7 @@ fn execute_value<M: Memory + Drop>(
     requires integer { class ≡ kinds.Integer → is_integer instruction ≡ true }
     requires capability { class ≡ kinds.Capability
         → (is_capability instruction ≡ true) × (is_system instruction ≡ false) }
-    ensures is { (named : ℕ) (k : Bank) (time : ℕ) → Decided
+    ensures is { (named : ℕ) (k : DeviceStates) (time : ℕ) → Decided
         (decide_by named (thread engine.old t)
         (space_in engine.old k time) instruction)
         t engine.old k engine.new k result }

@@ -6,14 +6,14 @@ ghost use Rattle.def_hidden.specs.Hidden.{Shut};
 ghost use Rattle.def_machine.specs.Image.{Image};
 ghost use Rattle.def_machine.specs.State.{State, thread};
 ghost use Rattle.def_step.specs.Instructions.{executed, space_of};
-ghost use Rattle.def_machine.specs.Board.{Board};
+ghost use Rattle.def_machine.specs.Platform.{Platform};
 ghost use Rattle.ct_execute.specs.Deciding.{decide, settle};
 ghost use Rattle.ct_execute.specs.Opening.{IsOpen, Runs};
 ghost use Rattle.ct_engine.specs.Seen.{Seen};
 
 /// The written step of a thread is the decision over the thread and what is around it, carried out.
 pub fn executed_decided()
-    ensures { (b : Board) (s : State) (t : ℕ) → executed b s t
+    ensures { (b : Platform) (s : State) (t : ℕ) → executed b s t
         ≡ settle b s t (decide b.image.entries (thread s t) (space_of b s)) }
 {}
 

@@ -4,11 +4,11 @@ ghost use Rattle.std.specs.Prelude.{ℕ, ◌≡◌, ◌%◌, ◌==◌, Some, IfS
 ghost use Rattle.ct_entry.specs.Listed.{Listed};
 ghost use Rattle.def_instr.specs.declared.Instr.{Instr};
 ghost use Rattle.def_step.specs.declared.Class.TheVariants as kinds;
-ghost use Rattle.def_step.specs.Devices.{Bank};
+ghost use Rattle.def_step.specs.Devices.{DeviceStates};
 ghost use Rattle.def_step.specs.Instructions.{next_word};
 ghost use Rattle.def_step.specs.Jumps.{target_at};
 ghost use Rattle.def_step.specs.Operands.{class_of, operands_of};
-ghost use Rattle.ct_decoded.specs.Reading.{AreRegisters};
+ghost use Rattle.ct_decode.specs.Reading.{AreRegisters};
 ghost use Rattle.ct_engine.specs.Seen.{thread, moved_to};
 ghost use Rattle.ct_execute.specs.Deciding.{decision, Stays, WentQuietly};
 ghost use Rattle.ct_execute.specs.Opening.{IsOpen};
@@ -16,7 +16,7 @@ ghost use Rattle.ct_execute.specs.Quiet.{accesses_ram, goes_at, goes_quietly, ju
 
 use ct_alu::alu;
 use ct_capstep::derived;
-use ct_decoded::{Decoded, Reading};
+use ct_decode::{Decoded, Reading};
 use ct_engine::Engine;
 use ct_flow::takes;
 use ct_mem::Memory;
@@ -44,7 +44,7 @@ pub fn execute_quietly<M: Memory + Drop>(
     ensures when { result
         ≡ goes_quietly (thread engine.old t) engine.old.region.ram
         engine.old.granules }
-    ensures quiet { result ≡ true → (e : Listed) (k : Bank) (time : ℕ)
+    ensures quiet { result ≡ true → (e : Listed) (k : DeviceStates) (time : ℕ)
         → WentQuietly (decision e engine.old t k time) t engine.old k
         engine.new }
     ensures same { result ≡ false → engine.new ≡ engine.old }

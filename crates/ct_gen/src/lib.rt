@@ -7,8 +7,8 @@ mod numbers;
 mod sources;
 
 ghost use Rattle.std.specs.Prelude.{◌≡◌, IfOk, map, string_bytes};
-ghost use Rattle.def_description.specs.Reading.{description_of};
-ghost use Rattle.def_description.specs.WellFormed.{WellFormed};
+ghost use Rattle.def_desc.specs.Reading.{description_of};
+ghost use Rattle.def_desc.specs.WellFormed.{WellFormed};
 ghost use Rattle.def_gen.specs.Description as spec;
 ghost use Rattle.def_gen.specs.Sources as spec_sources;
 

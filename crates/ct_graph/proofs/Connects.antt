@@ -6,7 +6,7 @@ use Rattle.ct_entry.specs.declared.rows.Owner.TheVariants.{Trusted, Compartment,
 use Rattle.ct_entry.specs.Listed.{Listed}
 use Rattle.def_reach.specs.Sharing.{Brings, Joined, Imports, Reaches}
 use Rattle.def_reach.specs.Sharing as reach
-use Rattle.def_graph.specs.Route.{IsWay}
+use Rattle.def_reach.specs.Route.{IsWay}
 use Rattle.law_reach.proofs.Joins.{no_imports, same_compartment}
 
 -- a list of steps

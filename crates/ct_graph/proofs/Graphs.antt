@@ -7,8 +7,8 @@ use Rattle.ct_entry.specs.declared.rows.Owner.TheVariants.{Trusted, Compartment,
 use Rattle.ct_entry.specs.Listed.{Listed}
 use Rattle.def_reach.specs.Roots.{root_of}
 use Rattle.def_reach.specs.Sharing.{Edge, Reaches}
-use Rattle.def_graph.specs.Reach.{same_owner, has_entry, Reached}
-use Rattle.def_graph.specs.Route.{IsPath, Neighbours, Step, precedes}
+use Rattle.def_reach.specs.Reach.{same_owner, has_entry, Reached}
+use Rattle.def_reach.specs.Route.{IsPath, Neighbours, Step, precedes}
 use Rattle.ct_graph.specs.Cells.{cell, far, IsDistance, Walks}
 use Rattle.ct_graph.specs.Links.{links_of, link_of, own, goes}
 use Rattle.ct_graph.specs.Nodes.{is_node, nodes_of, with_node, node, matrix_of, IsNode, AllDistances, HasRows, IsGraph, IsNear, IsRoute, HasStep, NoStep, NotNear, stands_among, row_of, rows_of}

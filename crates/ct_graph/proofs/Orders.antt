@@ -6,8 +6,8 @@ use Rattle.ct_entry.specs.declared.rows.Entry.{Entry}
 use Rattle.ct_entry.specs.declared.rows.Owner.{Owner}
 use Rattle.ct_entry.specs.declared.rows.Owner.TheVariants.{Trusted, Compartment, Library, Thread}
 use Rattle.ct_entry.specs.Listed.{Listed}
-use Rattle.def_graph.specs.Reach.{same_owner, has_entry}
-use Rattle.def_graph.specs.Route.{precedes}
+use Rattle.def_reach.specs.Reach.{same_owner, has_entry}
+use Rattle.def_reach.specs.Route.{precedes}
 use Rattle.ct_graph.specs.declared.links.Link.{Link}
 use Rattle.ct_graph.specs.Links.{link_of, links_of}
 use Rattle.ct_graph.specs.Nodes.{is_node, with_node, nodes_of, node, IsNode}

@@ -6,8 +6,8 @@ use Rattle.ct_entry.specs.declared.rows.Entry.{Entry}
 use Rattle.ct_entry.specs.declared.rows.Owner.{Owner}
 use Rattle.ct_entry.specs.declared.rows.Owner.TheVariants.{Trusted, Compartment, Library, Thread}
 use Rattle.ct_entry.specs.Listed.{Listed}
-use Rattle.def_graph.specs.Reach.{same_owner}
-use Rattle.def_graph.specs.Route.{precedes}
+use Rattle.def_reach.specs.Reach.{same_owner}
+use Rattle.def_reach.specs.Route.{precedes}
 use Rattle.ct_graph.specs.declared.links.Link.{Link}
 use Rattle.ct_graph.specs.Links.{link_of, own}
 use Rattle.ct_graph.specs.Nodes.{is_node}

@@ -12,8 +12,8 @@ use Rattle.ct_entry.specs.declared.rows.Kind.TheVariants as kind
 use Rattle.ct_entry.specs.Listed.{Listed}
 use Rattle.def_reach.specs.Roots.{TrustedPart, Unknown, Listing, root_of, listed_root, gate_for}
 use Rattle.def_reach.specs.Sharing.{Calls, SharesC, Edge, Brings, IsLibrary}
-use Rattle.def_graph.specs.Reach.{same_owner}
-use Rattle.def_graph.specs.Route.{Step}
+use Rattle.def_reach.specs.Reach.{same_owner}
+use Rattle.def_reach.specs.Route.{Step}
 use Rattle.ct_entry.specs.Kinds.{is_call, is_shared, is_library_slot}
 use Rattle.ct_graph.specs.declared.links.Link.{Link}
 use Rattle.ct_graph.specs.Links.{link_of, links_of, own, calls, brings, holds, shares, meets, goes}

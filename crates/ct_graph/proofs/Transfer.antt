@@ -9,8 +9,8 @@ use Rattle.ct_entry.specs.declared.rows.Owner.TheVariants.{Trusted, Compartment,
 use Rattle.ct_entry.specs.Listed.{Listed}
 use Rattle.def_reach.specs.Roots.{root_of, listed_root, gate_for}
 use Rattle.def_reach.specs.Sharing.{Edge, Reaches}
-use Rattle.def_graph.specs.Reach.{same_owner, has_entry}
-use Rattle.def_graph.specs.Route.{Step, IsWay, IsLeft, Before, IsPath}
+use Rattle.def_reach.specs.Reach.{same_owner, has_entry}
+use Rattle.def_reach.specs.Route.{Step, IsWay, IsLeft, Before, IsPath}
 use Rattle.ct_graph.specs.Cells.{cell, Links, LowLeft, Shorter, far, IsDistance, Walks}
 use Rattle.ct_graph.specs.Links.{links_of, goes}
 use Rattle.ct_graph.specs.Nodes.{is_node, nodes_of, node, matrix_of, IsNode}

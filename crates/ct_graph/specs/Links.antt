@@ -8,7 +8,7 @@ use Rattle.ct_entry.specs.Kinds.{is_call, is_shared, is_library_slot, is_compart
 use Rattle.ct_entry.specs.Listed.{Listed}
 use Rattle.def_words.specs.Permissions.{bit, memory_capability}
 use Rattle.def_reach.specs.Roots.{root_of, gate_for}
-use Rattle.def_graph.specs.Reach.{same_owner}
+use Rattle.def_reach.specs.Reach.{same_owner}
 use Rattle.ct_graph.specs.declared.links.Link.{Link}
 
 -- a row with the owner of the entry that it names, whether a call of that export passes capabilities, and

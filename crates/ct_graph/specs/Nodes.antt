@@ -5,8 +5,8 @@ use Rattle.ct_entry.specs.declared.rows.Owner.{Owner}
 use Rattle.ct_entry.specs.declared.rows.Owner.TheVariants.{Trusted}
 use Rattle.ct_entry.specs.Kinds.{is_compartment, is_library}
 use Rattle.ct_entry.specs.Listed.{Listed}
-use Rattle.def_graph.specs.Reach.{same_owner}
-use Rattle.def_graph.specs.Route.{precedes}
+use Rattle.def_reach.specs.Reach.{same_owner}
+use Rattle.def_reach.specs.Route.{precedes}
 use Rattle.ct_graph.specs.declared.links.Link.{Link}
 use Rattle.ct_graph.specs.Links.{links_of, goes, steps}
 use Rattle.ct_graph.specs.Cells.{cell, far, Walks, IsDistance}

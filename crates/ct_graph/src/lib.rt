@@ -2,7 +2,7 @@
 //! it to a reader of the report.
 //!
 //! A graph is made once of a firmware's entries; `reaches` is a look-up in it, and `path` a walk.
-//! The definitions of reach and path stand in def_reach and def_graph, docs/use/report.md tells how
+//! The definitions of reach and path stand in def_reach; docs/use/report.md tells how
 //! they are to be read.
 #![tactic(auto)]
 

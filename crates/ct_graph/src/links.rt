@@ -5,7 +5,7 @@ ghost use Rattle.std.specs.List.{list_any, filter};
 ghost use Rattle.def_words.specs.Permissions.{bit};
 ghost use Rattle.ct_entry.specs.Kinds.{is_compartment, is_library, is_shared};
 ghost use Rattle.def_reach.specs.Roots.{root_of};
-ghost use Rattle.def_graph.specs.Reach.{same_owner};
+ghost use Rattle.def_reach.specs.Reach.{same_owner};
 ghost use Rattle.ct_graph.specs.Links.{ArePassing, link_of, links_of, own, calls, brings, shares, meets, steps, holds};
 ghost use Rattle.std.specs.Prelude.{◌&&◌};
 

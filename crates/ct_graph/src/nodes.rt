@@ -4,8 +4,8 @@ ghost use Rattle.std.specs.Prelude.{ℕ, ◌≡◌, ◌<◌, ◌≤◌, List, Bo
 ghost use Rattle.std.specs.List.{list_any};
 ghost use Rattle.ct_entry.specs.declared.rows.Owner.{Owner};
 ghost use Rattle.ct_entry.specs.Listed.{Listed};
-ghost use Rattle.def_graph.specs.Reach.{same_owner};
-ghost use Rattle.def_graph.specs.Route.{precedes};
+ghost use Rattle.def_reach.specs.Reach.{same_owner};
+ghost use Rattle.def_reach.specs.Route.{precedes};
 ghost use Rattle.ct_graph.specs.Cells.{cell};
 ghost use Rattle.ct_graph.specs.Links.{own, steps};
 ghost use Rattle.ct_graph.specs.Nodes.{is_node, row_of, rows_of, with_node, nodes_of, IsPlaceFor, IsNode};

@@ -6,8 +6,8 @@ ghost use Rattle.def_step.specs.declared.TheConstants.{TRAP_RECORD};
 ghost use Rattle.def_step.specs.Handlers.{has_room, pair, record_by, record_end, words_written};
 
 use ct_cap::{Cap, Live, Shadow, Trap};
-use ct_exports::stack_trap;
 use ct_mem::Memory;
+use ct_switch::stack_trap;
 use def_step::TRAP_RECORD;
 
 /// The address of the record of a trap, of a thread whose stack has this base and whose innermost frame this

@@ -12,8 +12,8 @@ use Rattle.def_chunks.specs.declared.rows.Range.{Range}
 use Rattle.def_chunks.specs.declared.rows.Gap.{Gap}
 use Rattle.def_chunks.specs.declared.rows.Account.{Account}
 use Rattle.def_chunks.specs.Chunks.{Chunk, is_free, total, Starts, AreChunks}
-use Rattle.def_chunks.specs.Tiles.{chunks, Settled}
-use Rattle.def_chunks.specs.Changes.{replaced, gap, InUse, Spared, Keeps, NoHead, OnlyHeads}
+use Rattle.def_chunks.specs.Tiles.{chunks, TilesSettled}
+use Rattle.def_chunks.specs.Changes.{replaced, gap, InUse, Spared, KeepsRest, NoHead, OnlyHeads}
 use Rattle.def_chunks.specs.Gaps.{carved}
 use Rattle.def_chunks.specs.Heaps.{HeapRow, account, name_of, is_named, quota_named, is_used_at, object_at, objects_in, objects_of, Distinct, waiting_in, Laid}
 use Rattle.law_chunks.proofs.Lays.{total_both, are_split, are_join}
@@ -154,9 +154,9 @@ free_rows names base above c below free_ = objects_both names base base above (c
 
 -- what the calls left
 pub record Left (h n : HeapRow) (gs ms hs : List Granule) (quota extent : ℕ) (g : Gap) : Type 0 where
-  pub settled : Settled n.range ms
+  pub settled : TilesSettled n.range ms
   pub chunks_are : chunks n.range ms ≡ replaced g.at (carved (g.base - 8 - g.at) extent h.next) h.range.base (chunks h.range gs)
-  pub keeps : Keeps h.range (chunks h.range gs) gs ms
+  pub keeps : KeepsRest h.range (chunks h.range gs) gs ms
   pub heads : OnlyHeads h.range (chunks n.range ms) gs ms
   pub range : n.range ≡ record h.range { first = n.range.first }
   pub zeroed : IsZeroed (g.base - h.range.ram) (g.base - h.range.ram + extent) ms hs

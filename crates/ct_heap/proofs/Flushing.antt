@@ -9,8 +9,8 @@ use Rattle.def_machine.specs.Objects.{Each, charges, has_quarantined, painted, u
 use Rattle.def_chunks.specs.declared.rows.Range.{Range}
 use Rattle.def_chunks.specs.declared.rows.Account.{Account}
 use Rattle.def_chunks.specs.Chunks.{Chunk, is_free, AreChunks}
-use Rattle.def_chunks.specs.Tiles.{chunks, Settled}
-use Rattle.def_chunks.specs.Changes.{all_painted, leaves, gap, joined, released, Spared, Keeps, OnlyHeads}
+use Rattle.def_chunks.specs.Tiles.{chunks, TilesSettled}
+use Rattle.def_chunks.specs.Changes.{all_painted, leaves, gap, joined, released, Spared, KeepsRest, OnlyHeads}
 use Rattle.def_chunks.specs.Heaps.{HeapRow, account, no_account, is_named, quota_named, is_used_at, objects_in, objects_of, Distinct, waiting_in, Laid}
 use Rattle.law_chunks.proofs.Joins.{stays_used, joined_are, painted_free, painted_size}
 use Rattle.law_chunks.proofs.Rows.{UsedStarts, painted_rows, joined_rows}
@@ -121,7 +121,7 @@ pub record PaintDone (h : HeapRow) (gs hs : List Granule) : Type 0 where
   pub laid : Laid h hs
   pub paints : Paints h gs hs
 
-pub paint_done : (h : HeapRow) (gs hs : List Granule) → Laid h gs → Settled h.range hs → chunks h.range hs ≡ all_painted (chunks h.range gs) → Keeps h.range (chunks h.range gs) gs hs → OnlyHeads h.range (chunks h.range hs) gs hs → PaintDone h gs hs
+pub paint_done : (h : HeapRow) (gs hs : List Granule) → Laid h gs → TilesSettled h.range hs → chunks h.range hs ≡ all_painted (chunks h.range gs) → KeepsRest h.range (chunks h.range gs) gs hs → OnlyHeads h.range (chunks h.range hs) gs hs → PaintDone h gs hs
 unfolding objects_of
 paint_done h gs hs l settled is keeps heads =
     let base : ℕ = h.range.base in
@@ -272,9 +272,9 @@ painted_at names base p at (c ∷ cs) are =
 
 pub record Left (h n : HeapRow) (gs ms hs : List Granule) : Type 0 where
   pub unnames : Unnames h.range gs ms h.names n.names n.waiting
-  pub settled : Settled n.range hs
+  pub settled : TilesSettled n.range hs
   pub chunks_are : chunks n.range hs ≡ released (chunks h.range ms)
-  pub keeps : Keeps h.range (chunks h.range ms) ms hs
+  pub keeps : KeepsRest h.range (chunks h.range ms) ms hs
   pub heads : OnlyHeads h.range (chunks n.range hs) ms hs
   pub range : n.range ≡ record h.range { first = n.range.first }
   pub accounts : n.accounts ≡ h.accounts

@@ -11,8 +11,8 @@ use Rattle.def_machine.specs.Objects.{Each, charges, quarantine}
 use Rattle.def_chunks.specs.declared.rows.Range.{Range}
 use Rattle.def_chunks.specs.declared.rows.Account.{Account}
 use Rattle.def_chunks.specs.Chunks.{Chunk, is_free, total, Starts, AreChunks, NoneTouch}
-use Rattle.def_chunks.specs.Tiles.{chunks, Tiled, Settled}
-use Rattle.def_chunks.specs.Changes.{replaced, in_state, InUse, NoTagComes, Keeps}
+use Rattle.def_chunks.specs.Tiles.{chunks, Tiled, TilesSettled}
+use Rattle.def_chunks.specs.Changes.{replaced, in_state, InUse, NoTagComes, KeepsRest}
 use Rattle.def_chunks.specs.Heaps.{HeapRow, account, is_named, quota_named, is_used_at, object_at, objects_in, objects_of, Distinct, waiting_in, Laid}
 use Rattle.law_chunks.proofs.Reading.{sits, replaced_is}
 use Rattle.law_chunks.proofs.Joins.{state_apart}
@@ -122,7 +122,7 @@ row_in h x gs number base extent quota is l f = subst (λ (y : HeapRow). Row y g
 pub record Left (h n : HeapRow) (gs ms ns hs : List Granule) (base extent quota : ℕ) : Type 0 where
   pub tiled : Tiled h.range ms
   pub chunks_are : chunks h.range ms ≡ replaced (base - 8) (in_state 2) h.range.base (chunks h.range gs)
-  pub keeps : Keeps h.range (chunks h.range gs) gs ms
+  pub keeps : KeepsRest h.range (chunks h.range gs) gs ms
   pub elsewhere : (k : ℕ) → (h.range.ram + 8 * k ≡ base - 8 → ⊥) → granule_at ms k ≡ granule_at gs k
   pub zeroed : IsZeroed (base - h.range.ram) (base - h.range.ram + extent) ms ns
   pub marked : IsMarked (base - 8 - h.range.ram) (base - 8 - h.range.ram + (extent + 8)) true ns hs
@@ -160,7 +160,7 @@ free_done h n gs ms ns hs number base extent quota l f left =
     let place = s.place in
     let ds : List Chunk = s.above ++ d ∷ s.below in
     let list : chunks r ms ≡ ds = left.chunks_are ∙ ap (replaced (base - 8) (in_state 2) lo) s.whole ∙ replaced_is (in_state 2) (base - 8) lo s.above c s.below k.above_are place in
-    let settled : Settled r ms = record { tiled = left.tiled; apart = subst NoneTouch (sym list) (state_apart s.above c d s.below used (subst NoneTouch s.whole l.settled.apart)) } in
+    let settled : TilesSettled r ms = record { tiled = left.tiled; apart = subst NoneTouch (sym list) (state_apart s.above c d s.below used (subst NoneTouch s.whole l.settled.apart)) } in
     let ds_are : AreChunks ds = subst AreChunks list left.tiled.are in
     let over = w.over in
     let even = w.even in
@@ -248,7 +248,7 @@ free_done h n gs ms ns hs number base extent quota l f left =
     let next = left.next in
     record {
       laid = record {
-        settled = subst (λ (y : Range). Settled y hs) (sym left.range) second.settled;
+        settled = subst (λ (y : Range). TilesSettled y hs) (sym left.range) second.settled;
         slots = ap length left.names ∙ l.slots ∙ ap (λ (y : Range). y.length / 16) (sym left.range);
         named = named_now;
         quotas = subst (λ x. Each (λ y. y.quota < length n.accounts) x) (sym new_rows) (subst (λ m. Each (λ y. y.quota < m) (rs ++ gone ∷ qs)) (sym accounts_length) (each_both (λ y. y.quota < length h.accounts) rs (gone ∷ qs) quotas_old.0 (quotas_old.1.0, quotas_old.1.1)));

@@ -11,8 +11,8 @@ use Rattle.def_chunks.specs.declared.heads.TheConstants.{NO_CHUNK}
 use Rattle.def_chunks.specs.declared.rows.Range.{Range}
 use Rattle.def_chunks.specs.declared.rows.Account.{Account}
 use Rattle.def_chunks.specs.Chunks.{Chunk, total, head_at, Starts, NoneTouch}
-use Rattle.def_chunks.specs.Tiles.{chunks, TiledBy, Settled}
-use Rattle.def_chunks.specs.Changes.{free_chunk, Keeps, OnlyHeads}
+use Rattle.def_chunks.specs.Tiles.{chunks, TiledBy, TilesSettled}
+use Rattle.def_chunks.specs.Changes.{free_chunk, KeepsRest, OnlyHeads}
 use Rattle.def_chunks.specs.Heaps.{HeapRow, account, no_account, is_named, name_at, is_used_at, objects_in, objects_of, Laid}
 use Rattle.law_chunks.proofs.Reading.{chunks_are}
 use Rattle.law_chunks.proofs.Carves.{head_same, store_length}
@@ -39,7 +39,7 @@ zeros z n k = elim (lt_tells k n) [
 
 -- a heap over chunks of which none is used
 pub record Bare (h n : HeapRow) (hs : List Granule) (cs : List Chunk) : Type 0 where
-  pub settled : Settled n.range hs
+  pub settled : TilesSettled n.range hs
   pub chunks_are : chunks n.range hs ≡ cs
   pub rows : objects_in n.names n.range.base n.range.base cs ≡ []
   pub unused : (p : ℕ) → is_used_at p n.range.base cs ≡ false
@@ -112,10 +112,10 @@ lay_some h n gs hs e some inside is n_is =
       first = omega arith;
     } in
     let list : chunks q hs ≡ c ∷ [] = chunks_are q hs (c ∷ []) tiled in
-    let settled : Settled q hs = record { tiled = subst (TiledBy q hs) (sym list) tiled; apart = subst NoneTouch (sym list) ((λ f. tt, tt)) } in
+    let settled : TilesSettled q hs = record { tiled = subst (TiledBy q hs) (sym list) tiled; apart = subst NoneTouch (sym list) ((λ f. tt, tt)) } in
     let range : n.range ≡ q = ap (λ (x : HeapRow). x.range) n_is in
     bare_laid h n hs (c ∷ []) e (record {
-      settled = subst (λ (x : Range). Settled x hs) (sym range) settled;
+      settled = subst (λ (x : Range). TilesSettled x hs) (sym range) settled;
       chunks_are = ap (λ (x : Range). chunks x hs) range ∙ list;
       rows = refl;
       unused = λ p. elim (bool_tells (nat_eq n.range.base p)) [ inl x ↦ rw x refl | inr x ↦ rw x refl ];
@@ -149,10 +149,10 @@ lay_none h n gs hs e none inside is n_is =
       first = first;
     } in
     let list : chunks q hs ≡ [] = chunks_are q hs [] tiled in
-    let settled : Settled q hs = record { tiled = subst (TiledBy q hs) (sym list) tiled; apart = subst NoneTouch (sym list) tt } in
+    let settled : TilesSettled q hs = record { tiled = subst (TiledBy q hs) (sym list) tiled; apart = subst NoneTouch (sym list) tt } in
     let range : n.range ≡ q = ap (λ (x : HeapRow). x.range) n_is in
     bare_laid h n hs [] e (record {
-      settled = subst (λ (x : Range). Settled x hs) (sym range) settled;
+      settled = subst (λ (x : Range). TilesSettled x hs) (sym range) settled;
       chunks_are = ap (λ (x : Range). chunks x hs) range ∙ list;
       rows = refl;
       unused = λ p. refl;
@@ -171,7 +171,7 @@ lay_stays h gs hs e some is =
     let e0 = e.even.0 in
     let e1 = e.even.1 in
     let above = e.above in
-    let keeps : Keeps h.range [] gs hs = keeps_store h.range [] gs hs h.range.base (plain (h.range.length + NO_CHUNK * 2 ^ 32)) refl above (omega (arith, e0, e1, above))
+    let keeps : KeepsRest h.range [] gs hs = keeps_store h.range [] gs hs h.range.base (plain (h.range.length + NO_CHUNK * 2 ^ 32)) refl above (omega (arith, e0, e1, above))
     (loose h.range [] h.range.base (omega arith) (more h.range.length h.range.base some) (λ u. absurd u)) is in
     record {
       size = keeps.size;

@@ -9,7 +9,7 @@ use Rattle.def_memory.specs.Granules.{granule_at, nothing}
 use Rattle.def_memory.specs.Ranges.{IsMarked}
 use Rattle.def_chunks.specs.declared.rows.Range.{Range}
 use Rattle.def_chunks.specs.Chunks.{Chunk, is_free, total, head_at, head_in, IsChunk, AreChunks}
-use Rattle.def_chunks.specs.Tiles.{chunks, Settled}
+use Rattle.def_chunks.specs.Tiles.{chunks, TilesSettled}
 use Rattle.def_chunks.specs.Gaps.{ChunkStands}
 use Rattle.def_chunks.specs.Heaps.{name_at, is_named, quota_named, is_used_at}
 use Rattle.law_chunks.proofs.Lays.{total_both, are_split, are_join}
@@ -65,7 +65,7 @@ pub record Unnaming (r : Range) (gs hs : List Granule) (names more : List ℕ) (
   pub rest : List Chunk
   pub whole : chunks r gs ≡ above ++ rest
   pub left_is : left ≡ total rest
-  pub settled : Settled r hs
+  pub settled : TilesSettled r hs
   pub same : chunks r hs ≡ chunks r gs
   pub size : length hs ≡ length gs
   pub caps : (k : ℕ) → (granule_at hs k).cap ≡ (granule_at gs k).cap
@@ -75,7 +75,7 @@ pub record Unnaming (r : Range) (gs hs : List Granule) (names more : List ℕ) (
   pub quotas : (o : ℕ) → is_named more o ≡ true → quota_named more o ≡ quota_named names o
   pub now_is : now ≡ staying_chunks above + waiting_chunks rest
 
-pub unnaming_starts : (r : Range) (gs : List Granule) (names : List ℕ) (waiting : ℕ) → Settled r gs → ((o : ℕ) → o % 8 ≡ 0 → is_named names o ≡ is_used_at (r.base + o) r.base (chunks r gs)) → waiting ≡ waiting_chunks (chunks r gs) → Unnaming r gs gs names names waiting r.length
+pub unnaming_starts : (r : Range) (gs : List Granule) (names : List ℕ) (waiting : ℕ) → TilesSettled r gs → ((o : ℕ) → o % 8 ≡ 0 → is_named names o ≡ is_used_at (r.base + o) r.base (chunks r gs)) → waiting ≡ waiting_chunks (chunks r gs) → Unnaming r gs gs names names waiting r.length
 unnaming_starts r gs names waiting h named is = record {
   above = [];
   rest = chunks r gs;
@@ -236,7 +236,7 @@ unnaming_step r gs hs ks names more last now left size one slots w some size_is 
                   rest = cs;
                   whole = whole_more;
                   left_is = omega (arith, left_is, size_c);
-                  settled = subst (Settled r) (sym o.0) w.settled;
+                  settled = subst (TilesSettled r) (sym o.0) w.settled;
                   same = ap (λ l. chunks r l) o.0 ∙ w.same;
                   size = ap length o.0 ∙ w.size;
                   caps = λ j. ap (λ l. (granule_at l j).cap) o.0 ∙ w.caps j;
@@ -345,7 +345,7 @@ unnaming_step r gs hs ks names more last now left size one slots w some size_is 
               }
         ]
 
-pub unnaming_ends : (r : Range) (gs hs : List Granule) (names more : List ℕ) (now left : ℕ) → Settled r gs → Unnaming r gs hs names more now left → left ≡ 0 → Unnames r gs hs names more now
+pub unnaming_ends : (r : Range) (gs hs : List Granule) (names more : List ℕ) (now left : ℕ) → TilesSettled r gs → Unnaming r gs hs names more now left → left ≡ 0 → Unnames r gs hs names more now
 unnaming_ends r gs hs names more now left h w none = all w.rest w.whole w.left_is w.now_is w.named (are_split w.above w.rest (subst AreChunks w.whole h.tiled.are)).1
   where
     all : (rest : List Chunk) → chunks r gs ≡ w.above ++ rest → left ≡ total rest → now ≡ staying_chunks w.above + waiting_chunks rest → ((o : ℕ) → o % 8 ≡ 0 → is_named more o ≡ is_used_at (r.base + o) r.base (map let_go w.above ++ rest)) → AreChunks rest → Unnames r gs hs names more now

@@ -2,7 +2,7 @@
 
 ghost use Rattle.std.specs.Prelude.{ℕ, ◌≡◌, ◌+◌, ◌-◌, ◌*◌, ◌/◌, ◌%◌, ◌^◌, ◌≤◌, ◌<◌, length, slice_set, cond, Option, Some, None};
 ghost use Rattle.def_chunks.specs.Chunks.{head_at, head_in};
-ghost use Rattle.def_chunks.specs.Tiles.{chunks, Tiled, Settled};
+ghost use Rattle.def_chunks.specs.Tiles.{chunks, Tiled, TilesSettled};
 ghost use Rattle.def_chunks.specs.Gaps.{ChunkStands};
 ghost use Rattle.def_chunks.specs.Heaps.{name_of, is_named, quota_named, is_used_at};
 ghost use Rattle.ct_heap.specs.Table.{owner_at};
@@ -59,7 +59,7 @@ pub(crate) fn unname<M: Memory>(
     names: &mut Vec<u16>,
     waiting: u32,
 ) -> u32
-    requires settled { Settled range.now (M.granules mem.old) }
+    requires settled { TilesSettled range.now (M.granules mem.old) }
     requires slots { length names.old.items ≡ range.now.length / 16 }
     requires named { (o : ℕ) → o % 8 ≡ 0
         → is_named names.old.items o

@@ -14,8 +14,8 @@ use Rattle.def_image.specs.Indexes.{index_checks}
 use Rattle.def_image.specs.Rights.{right_checks}
 use Rattle.def_image.specs.Accepted.{is_begun, Spells, SpellsParts, IsFaultless, IsImage, FaultAt}
 use Rattle.law_image.proofs.Rows.{number_back}
-use Rattle.ct_parts.specs.Converted.{parts_of}
-use Rattle.ct_parts.proofs.Backs.{comes_back}
+use Rattle.ct_image_parts.specs.Converted.{parts_of}
+use Rattle.ct_image_parts.proofs.Backs.{comes_back}
 use Rattle.ct_image.specs.declared.fault.ImageFault.{ImageFault}
 use Rattle.ct_image.specs.declared.fault.ImageFault.TheVariants.{At, NoMemory}
 use Rattle.ct_image.specs.Answers.{RefusesBytes, Stand, Wrong, Breaks}

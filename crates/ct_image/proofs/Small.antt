@@ -18,10 +18,10 @@ use Rattle.law_image.proofs.Holding.{limited, compartment_holds, library_holds}
 use Rattle.law_image.proofs.Limited.{header_fits, thread_fits}
 use Rattle.law_image.proofs.Owners.{compartment_limited}
 use Rattle.ct_image.specs.Answers.{Stand}
-use Rattle.ct_sizes.specs.Places.{end_place}
-use Rattle.ct_regions.specs.Spans.{AreSmall}
-use Rattle.ct_slots.specs.Packed.{ArePacked, OwnersPacked, LibrariesPacked}
-use Rattle.ct_sizes.proofs.Sized.{end_is}
+use Rattle.ct_image_parts.specs.Places.{end_place}
+use Rattle.ct_image.specs.Spans.{AreSmall}
+use Rattle.ct_image.specs.Packed.{ArePacked, OwnersPacked, LibrariesPacked}
+use Rattle.ct_image_parts.proofs.Sized.{end_is}
 
 -- ---- by index
 

@@ -7,12 +7,10 @@ ghost use Rattle.ct_image.specs.Answers.{RefusesBytes, Stand, Breaks};
 
 use crate::fault::ImageFault;
 use crate::image::Image;
-use ct_limits::limit_fault;
-use ct_parts::{Parts, parts_of};
-use ct_raw::{Cut, MAGIC, read};
-use ct_regions::region_fault;
-use ct_sizes::places_of;
-use ct_slots::{index_fault, right_fault};
+use crate::{index_fault, region_fault, right_fault};
+use ct_image_fields::{Cut, MAGIC, read};
+use ct_image_limits::limit_fault;
+use ct_image_parts::{Parts, parts_of, places_of};
 use def_image::taken::VERSIONS_TAKEN;
 use std::alloc::Global;
 

@@ -6,7 +6,7 @@ ghost use Rattle.def_image.specs.Parts.{upgraded};
 ghost use Rattle.ct_image.specs.Handed.{text_in, initial_in};
 
 use ct_entry::{Comp, Owner};
-use ct_parts::{Parts, copied};
+use ct_image_parts::{Parts, copied};
 use def_profile::limits::LAST_VERSION;
 use def_refusals::NoMemory;
 use std::alloc::Global;

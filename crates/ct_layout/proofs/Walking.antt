@@ -4,8 +4,8 @@ use Rattle.std.proofs.lemmas.List.{append-nil}
 use Rattle.std.proofs.Math.ListN.{drop_of_length-le}
 use Rattle.def_layout.specs.declared.Region.{Region}
 use Rattle.def_layout.specs.Placement.{region_base, region_length, region, placed, last_end}
-use Rattle.law_layout.specs.Lies.{AreSmall}
-use Rattle.law_layout.specs.declared.TheConstants.{MOST_REGION}
+use Rattle.def_layout.specs.Lies.{AreSmall}
+use Rattle.def_layout.specs.declared.TheConstants.{MOST_REGION}
 use Rattle.law_layout.proofs.Placing.{next_end, last_cons, placed_cons, last_nil, placed_nil, grows}
 
 rest_is : (sizes : List ℕ) (i : ℕ) → i < length sizes → drop i sizes ≡ get_or sizes i 0 ∷ drop (i + 1) sizes

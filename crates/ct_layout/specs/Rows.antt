@@ -4,7 +4,7 @@ use Rattle.def_profile.specs.declared.layout.TheConstants.{REGION_UNIT}
 use Rattle.def_profile.specs.declared.limits.TheConstants.{RAM_END}
 use Rattle.def_layout.specs.declared.Region.{Region}
 use Rattle.def_layout.specs.Placement.{placed, needed, heap_in}
-use Rattle.law_layout.specs.Lies.{AreSmall}
+use Rattle.def_layout.specs.Lies.{AreSmall}
 use Rattle.ct_layout.specs.declared.fault.LayoutFault.{LayoutFault}
 use Rattle.ct_layout.specs.declared.fault.LayoutFault.TheVariants.{NoRoom, NoMemory}
 

@@ -3,8 +3,8 @@
 ghost use Rattle.std.specs.Prelude.{◌*◌, ◌+◌, ◌<◌, ◌^◌, ◌≡◌, ◌≤◌, IfOk, length};
 ghost use Rattle.def_layout.specs.Placement as spec;
 ghost use Rattle.def_profile.specs.declared.layout.TheConstants.{REGION_UNIT as UNIT};
-ghost use Rattle.law_layout.specs.Lies.{AreSmall};
-ghost use Rattle.law_layout.specs.declared.TheConstants.{MOST_REGION};
+ghost use Rattle.def_layout.specs.Lies.{AreSmall};
+ghost use Rattle.def_layout.specs.declared.TheConstants.{MOST_REGION};
 
 use ct_bounds::{align_mask, round_length};
 use def_layout::Region;
@@ -55,7 +55,7 @@ fn region_base(end: u64, size: u32) -> u64
 }
 
 /// Where the last of the regions ends.
-pub fn last_end(base: u64, sizes: &[u32]) -> u64
+pub(crate) fn last_end(base: u64, sizes: &[u32]) -> u64
     requires base { base < 2 ^ 32 }
     requires few { length sizes.now < 1024 }
     requires small { AreSmall sizes.now }
@@ -69,7 +69,7 @@ pub fn last_end(base: u64, sizes: &[u32]) -> u64
 }
 
 /// The regions, all of which end at 2^32 or below.
-pub fn placed(alloc: Global, base: u32, sizes: &[u32]) -> Result<Vec<Region>, AllocError>
+pub(crate) fn placed(alloc: Global, base: u32, sizes: &[u32]) -> Result<Vec<Region>, AllocError>
     requires small { AreSmall sizes.now }
     requires fits { spec.last_end base sizes.now < 2 ^ 32 }
     ensures { IfOk result (λ regions. regions.items ≡ spec.placed base sizes.now) }

@@ -6,7 +6,7 @@ use Rattle.ct_entry.specs.declared.rows.Kind.{Kind}
 use Rattle.ct_entry.specs.declared.rows.Owner.{Owner}
 use Rattle.ct_entry.specs.Listed.{Listed}
 use Rattle.def_reach.specs.Roots.{Listing, Origin, TrustedPart, Unknown, gate_for, turns_interrupts_off, listed_root, root_of}
-use Rattle.def_graph.specs.Reach.{has_entry, same_owner}
+use Rattle.def_reach.specs.Reach.{has_entry, same_owner}
 use Rattle.ct_graph.proofs.Owners.{any_at, same_self}
 use Rattle.ct_licence.specs.Rows.{IsRow, row_at}
 

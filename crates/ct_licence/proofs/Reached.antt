@@ -5,7 +5,7 @@ use Rattle.ct_entry.specs.declared.rows.Owner.{Owner}
 use Rattle.ct_entry.specs.declared.rows.Owner.TheVariants.{Trusted, Compartment, Library, Thread}
 use Rattle.ct_entry.specs.Listed.{Listed}
 use Rattle.def_reach.specs.Sharing.{Imports, IsLibrary, IsEdgeList, Reaches}
-use Rattle.def_graph.specs.Reach.{has_entry, Reached}
+use Rattle.def_reach.specs.Reach.{has_entry, Reached}
 use Rattle.ct_graph.proofs.Transfer.{owner_listed}
 use Rattle.ct_graph.proofs.Graphs.{ends_listed}
 

@@ -4,7 +4,7 @@ use Rattle.ct_entry.specs.declared.rows.Entry.{Entry}
 use Rattle.ct_entry.specs.declared.rows.Kind.{Kind}
 use Rattle.ct_entry.specs.Listed.{Listed}
 use Rattle.def_reach.specs.Roots.{Listing, gate_for, turns_interrupts_off, root_of}
-use Rattle.def_graph.specs.Reach.{has_entry}
+use Rattle.def_reach.specs.Reach.{has_entry}
 
 -- rows are numbered from 1
 abbrev pub row_at : Listed → ℕ → Option Entry

@@ -4,7 +4,7 @@ ghost use Rattle.std.specs.Prelude.{ℕ, ◌≡◌, ◌≢◌, ◌↔◌, ◌==�
 ghost use Rattle.ct_entry.specs.Listed.{Listed};
 ghost use Rattle.def_reach.specs.Roots.{gate_for, turns_interrupts_off, Listing, root_of};
 ghost use Rattle.def_reach.specs.Sharing.{Reaches};
-ghost use Rattle.def_graph.specs.Reach.{has_entry};
+ghost use Rattle.def_reach.specs.Reach.{has_entry};
 ghost use Rattle.ct_licence.specs.Rows.{IsRow, row_at};
 
 use ct_entry::{Comp, Entries, Entry, Gate, Kind, Mode, Owner};

@@ -2,7 +2,7 @@
 use Rattle.std.proofs.Common.{ℕ, ◌≡◌, ◌%◌, ◌<◌, Bool, true, false, cond, nat_lt, nat_eq, List, length, Option, Some, None, refl, sym, ap, ◌∙◌, subst, inl, inr}
 use Rattle.std.specs.Prelude.{option_and_then}
 use Rattle.law_lists.proofs.Tests.{lt_tells, both_right}
-use Rattle.def_description.specs.Rows.{AtRow}
+use Rattle.def_desc.specs.Rows.{AtRow}
 use Rattle.def_link.specs.Owners.{Built, label_or, is_begin, begin_of}
 
 begin_at : Built → ℕ → Option ℕ

@@ -6,14 +6,14 @@ use Rattle.law_lists.proofs.Alls.{all_joined, all_mapped, all_so}
 use Rattle.def_profile.specs.declared.limits.TheConstants.{MOST_FRAMES, MOST_THREADS_2}
 use Rattle.def_layout.specs.Placement.{needed}
 use Rattle.def_image.specs.Sizes.{sum_of}
-use Rattle.def_description.specs.Lawful.{IsLawful, IsLawfulCompartment, IsLawfulLibrary, IsLawfulExport, IsLawfulShared, IsLawfulSealed, IsLawfulThread}
-use Rattle.def_description.specs.Rows.{ExportRow, SharedRow, SealedRow, ThreadRow, CompartmentRow, LibraryRow, DescRow}
+use Rattle.def_desc.specs.Lawful.{IsLawful, IsLawfulCompartment, IsLawfulLibrary, IsLawfulExport, IsLawfulShared, IsLawfulSealed, IsLawfulThread}
+use Rattle.def_desc.specs.Rows.{ExportRow, SharedRow, SealedRow, ThreadRow, CompartmentRow, LibraryRow, DescRow}
 use Rattle.def_link.specs.declared.LinkFault.TheVariants as fault
 use Rattle.def_link.specs.Linked.{compartment_sizes, library_code_size, area_size}
-use Rattle.law_link_regions.proofs.Lying.{threads_most, shared_sizes, sealed_sizes, stack_sizes, trusted_size}
-use Rattle.law_link_regions.proofs.Placings.{few_areas}
+use Rattle.law_link.proofs.Lying.{threads_most, shared_sizes, sealed_sizes, stack_sizes, trusted_size}
+use Rattle.law_link.proofs.Placings.{few_areas}
 use Rattle.ct_asm.specs.Labels.{Assembled}
-use Rattle.ct_objects.specs.Objects.{RefusesLink}
+use Rattle.ct_link_objects.specs.Objects.{RefusesLink}
 use Rattle.ct_layout.specs.Rows.{SizesRow, PlacesRow, IsPlaceable, HasRoom}
 use Rattle.ct_link_slots.specs.Exporters.{IsExporter, IsLibraryExporter, AreCounted}
 use Rattle.ct_link.specs.Laid.{sizes_with, laid_of, IsPlaced, AreObjects}

@@ -5,14 +5,14 @@ use Rattle.std.specs.List.{AllByRecursion}
 use Rattle.std.proofs.Math.Path.{fun_ext}
 use Rattle.law_lists.proofs.Alls.{all_joined}
 use Rattle.def_profile.specs.declared.limits.TheConstants.{MOST_BYTES}
-use Rattle.def_description.specs.Lawful.{IsLawfulCode, IsLawfulCompartment, IsLawfulLibrary}
-use Rattle.def_description.specs.Rows.{CompartmentRow, LibraryRow, DescRow}
+use Rattle.def_desc.specs.Lawful.{IsLawfulCode, IsLawfulCompartment, IsLawfulLibrary}
+use Rattle.def_desc.specs.Rows.{CompartmentRow, LibraryRow, DescRow}
 use Rattle.def_link.specs.declared.LinkFault.{LinkFault}
 use Rattle.def_link.specs.Owners.{Unit as OwnerUnit, Built, units_of, compartment_unit, library_unit, numbered, unit_built, with_front, source_for, rest_of, all_built}
-use Rattle.law_link_regions.proofs.Texts.{IsText}
-use Rattle.law_link_regions.proofs.Builts.{unit_sound}
+use Rattle.law_link.proofs.Texts.{IsText}
+use Rattle.law_link.proofs.Builts.{unit_sound}
 use Rattle.ct_asm.specs.Labels.{Assembled, label_named}
-use Rattle.ct_objects.specs.Objects.{built_of, HoldsBuilt, AllHold}
+use Rattle.ct_link_objects.specs.Objects.{built_of, HoldsBuilt, AllHold}
 use Rattle.ct_link.specs.Rows.{IsSized}
 
 -- what an object holds is what was built

@@ -3,7 +3,7 @@ use Rattle.std.proofs.Common.{ℕ, zero, suc, ◌≡◌, ◌+◌, ◌*◌, ◌<�
 use Rattle.def_layout.specs.declared.Region.{Region}
 use Rattle.def_image.specs.Parts.{SharedRow as SharedPart, SealedRow as SealedPart, CodeRow as CodePart, CompartmentRow as CompartmentPart, ThreadRow as ThreadPart}
 use Rattle.def_image.specs.Sizes.{sum_of}
-use Rattle.def_description.specs.Rows.{SharedRow, SealedRow, ThreadRow, CompartmentRow, LibraryRow, DescRow}
+use Rattle.def_desc.specs.Rows.{SharedRow, SealedRow, ThreadRow, CompartmentRow, LibraryRow, DescRow}
 use Rattle.def_link.specs.Slots.{compartment_export_named}
 use Rattle.def_link.specs.Owners.{numbered}
 use Rattle.def_link.specs.Linked.{BuiltCompartment, BuiltLibrary, compartment_code_size, library_code_size, compartment_sizes, base_at, length_at, compartment_part, compartment_parts, compartment_entries, library_part, library_parts, library_entries, shared_parts, sealed_parts, thread_part, thread_parts}

@@ -6,17 +6,17 @@ use Rattle.law_lists.proofs.Tests.{lt_tells}
 use Rattle.def_layout.specs.Placement.{placed, last_end, needed}
 use Rattle.def_image.specs.Parts.{PartsRow}
 use Rattle.def_image.specs.Accepted.{IsFaultless}
-use Rattle.def_description.specs.Lawful.{IsLawful}
-use Rattle.def_description.specs.Rows.{DescRow}
+use Rattle.def_desc.specs.Lawful.{IsLawful}
+use Rattle.def_desc.specs.Rows.{DescRow}
 use Rattle.def_link.specs.declared.LinkFault.{LinkFault}
 use Rattle.def_link.specs.declared.LinkFault.TheVariants as fault
 use Rattle.def_link.specs.Owners.{Built, units_of, compartment_unit, library_unit, numbered, all_built}
 use Rattle.def_link.specs.Linked.{compartments_with, libraries_with, built_parts, linked_with, linked}
-use Rattle.law_link.specs.Links.{Links}
+use Rattle.def_link.specs.Links.{LinksTo}
 use Rattle.law_link.proofs.Indexed.{numbered_length}
-use Rattle.law_link_limits.proofs.Whole as whole
+use Rattle.law_link.proofs.Whole as whole
 use Rattle.ct_asm.specs.Labels.{Assembled}
-use Rattle.ct_objects.specs.Objects.{built_of, IsLinkable, AreBuilt, RefusesLink}
+use Rattle.ct_link_objects.specs.Objects.{built_of, IsLinkable, AreBuilt, RefusesLink}
 use Rattle.ct_link.specs.Laid.{sizes_with, laid_of, parts_with, IsPlaced, AreObjects, AreReady}
 use Rattle.ct_layout.specs.Rows.{PlacesRow}
 use Rattle.ct_link.proofs.Holding.{same_builts, built_each, objects_sized, all_taken, all_dropped}

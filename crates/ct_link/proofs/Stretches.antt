@@ -3,8 +3,8 @@ use Rattle.std.proofs.Common.{ℕ, zero, suc, ◌≡◌, ◌+◌, ◌≤◌, ◌
 use Rattle.std.specs.List.{AllByRecursion}
 use Rattle.std.proofs.lemmas.Option.{slice_get-get_or}
 use Rattle.def_link.specs.Owners.{numbered}
-use Rattle.ct_objects.proofs.Walks.{numbered_one}
-use Rattle.ct_objects.proofs.Steps.{at_each as each}
+use Rattle.ct_link_objects.proofs.Walks.{numbered_one}
+use Rattle.ct_link_objects.proofs.Steps.{at_each as each}
 
 pub numbered_more : {A B : Type 0} (f : ℕ → A → B) (n : ℕ) (xs : List A) (k : ℕ) (d : A) → k < length xs
     → numbered f n (take (k + 1) xs) ≡ numbered f n (take k xs) ++ f (n + k) (get_or xs k d) ∷ []

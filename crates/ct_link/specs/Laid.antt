@@ -4,8 +4,8 @@ use Rattle.std.specs.List.{AllByRecursion}
 use Rattle.def_layout.specs.declared.Region.{Region}
 use Rattle.def_layout.specs.Placement.{placed, last_end, needed}
 use Rattle.def_image.specs.Parts.{PartsRow}
-use Rattle.def_description.specs.Lawful.{IsLawful}
-use Rattle.def_description.specs.Rows.{DescRow}
+use Rattle.def_desc.specs.Lawful.{IsLawful}
+use Rattle.def_desc.specs.Rows.{DescRow}
 use Rattle.def_link.specs.declared.LinkFault.{LinkFault}
 use Rattle.def_link.specs.Linked.{sizes_of, parts_of, built_parts, linked}
 use Rattle.ct_layout.specs.Rows.{PlacesRow}

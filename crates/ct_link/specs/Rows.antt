@@ -4,11 +4,11 @@ use Rattle.std.specs.List.{AllByRecursion}
 use Rattle.def_profile.specs.declared.limits.TheConstants as most
 use Rattle.def_layout.specs.declared.Region.{Region}
 use Rattle.def_image.specs.Parts.{CodeRow as CodePart}
-use Rattle.def_description.specs.Rows.{ExportRow, CompartmentRow, LibraryRow, DescRow}
+use Rattle.def_desc.specs.Rows.{ExportRow, CompartmentRow, LibraryRow, DescRow}
 use Rattle.def_link.specs.Slots.{compartment_slots, compartment_gates}
 use Rattle.def_link.specs.Linked.{BuiltCompartment, BuiltLibrary, compartments_with, libraries_with, compartment_slot_count}
 use Rattle.ct_asm.specs.Labels.{Assembled}
-use Rattle.ct_objects.specs.Objects.{built_of}
+use Rattle.ct_link_objects.specs.Objects.{built_of}
 use Rattle.ct_link_slots.specs.Exporters.{AreKeys}
 
 -- an object of a code that is built: each of its stretches is within a section's limit

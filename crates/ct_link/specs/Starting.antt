@@ -5,7 +5,7 @@ use Rattle.def_profile.specs.declared.limits.TheConstants as most
 use Rattle.def_layout.specs.declared.Region.{Region}
 use Rattle.def_image.specs.Parts.{PartsRow}
 use Rattle.def_image.specs.Sizes.{sum_of}
-use Rattle.def_description.specs.Rows.{DescRow}
+use Rattle.def_desc.specs.Rows.{DescRow}
 use Rattle.def_link.specs.Linked.{base_at, compartment_parts, library_parts, shared_parts, sealed_parts, thread_parts}
 use Rattle.ct_asm.specs.Labels.{Assembled}
 use Rattle.ct_link.specs.declared.laid.Starts.{Starts}

@@ -3,14 +3,14 @@
 ghost use Rattle.std.specs.Prelude.{◌≡◌, ◌+◌, ◌<◌, ◌^◌, length, unwrap_or, IfOk};
 ghost use Rattle.def_link.specs.Owners as owners;
 ghost use Rattle.def_link.specs.Slots as spec;
-ghost use Rattle.ct_objects.specs.Objects.{built_of};
+ghost use Rattle.ct_link_objects.specs.Objects.{built_of};
 ghost use Rattle.ct_link.specs.Rows.{AreGated};
 
 use ct_asm::Object;
-use ct_objects::begin_of;
-use ct_parts::Export as Gate;
-use ct_rows::{At, Export, LibraryExport};
-use def_description::Passes;
+use ct_desc_rows::{At, Export, LibraryExport};
+use ct_image_parts::Export as Gate;
+use ct_link_objects::begin_of;
+use def_desc::Passes;
 use def_image::ExportRow;
 use std::alloc::{AllocError, Global};
 

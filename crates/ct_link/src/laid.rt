@@ -1,7 +1,7 @@
 //! From the objects of all owners to the image.
 
 ghost use Rattle.std.specs.Prelude.{◌≡◌, Ok, IfOk, IfErr};
-ghost use Rattle.ct_objects.specs.Objects.{RefusesLink};
+ghost use Rattle.ct_link_objects.specs.Objects.{RefusesLink};
 ghost use Rattle.ct_link.specs.Rows.{AreOwn, AreLent};
 ghost use Rattle.ct_link.specs.Starting.{AreSmallRows, AreStarts, AreFewStarts, parts_at as spec_parts_at};
 ghost use Rattle.ct_link_slots.specs.Exporters.{AreCounted};
@@ -12,11 +12,11 @@ use crate::owners::{compartment_parts, entries_of, library_parts};
 use crate::regions::region_at;
 use crate::sizes::sizes_of;
 use ct_asm::Object;
-use ct_entry::Device;
+use ct_desc_rows::Desc;
+use ct_entry::{Device, Devices};
 use ct_image::Image;
+use ct_image_parts::Parts;
 use ct_layout::{LayoutFault, Places, Sizes, place};
-use ct_parts::Parts;
-use ct_rows::Desc;
 use def_layout::Region;
 use def_link::LinkFault;
 use std::alloc::{AllocError, Global};
@@ -107,7 +107,9 @@ fn parts_at(
         trusted: trusted.base,
         heap,
         name: String::from_str(alloc, desc.firmware.as_str())?,
-        devices: devices_of(alloc, desc.devices.as_slice())?,
+        devices: Devices {
+            rows: devices_of(alloc, desc.devices.as_slice())?,
+        },
         shared,
         sealed,
         compartments,

@@ -1,9 +1,9 @@
 //! A description and the texts of its files are linked to one image, exactly as def_link has it
 //! (docs/use/description.md, "Linking").
 //!
-//! The objects of all owners come first, in ct_objects; then the sizes of all regions, their places
+//! The objects of all owners come first, in ct_link_objects; then the sizes of all regions, their places
 //! by ct_layout, and the parts, whose slots come of ct_link_slots. What is linked
-//! is faultless by the law of law_link_limits, so that it is an image at once.
+//! is faultless by the law of law_link, so that it is an image at once.
 #![tactic(auto)]
 
 mod gates;
@@ -15,12 +15,12 @@ mod sizes;
 
 ghost use Rattle.std.specs.Prelude.{◌≡◌, Ok, IfOk, IfErr};
 ghost use Rattle.def_link.specs.Linked.{linked};
-ghost use Rattle.ct_objects.specs.Objects.{IsLinkable, RefusesLink};
+ghost use Rattle.ct_link_objects.specs.Objects.{IsLinkable, RefusesLink};
 
+use ct_desc_rows::Desc;
 use ct_image::Image;
-use ct_objects::objects;
-pub use ct_objects::{Sources, are_sourced};
-use ct_rows::Desc;
+use ct_link_objects::objects;
+pub use ct_link_objects::{Sources, are_sourced};
 pub use def_link::LinkFault;
 use std::alloc::Global;
 

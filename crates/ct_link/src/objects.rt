@@ -6,9 +6,9 @@ ghost use Rattle.def_link.specs.Slots.{compartment_export_named as spec_called};
 ghost use Rattle.ct_link_slots.specs.Exporters.{AreCounted};
 
 use crate::regions::region_at;
+use ct_desc_rows::{Desc, Sealed, Shared, Thread};
+use ct_image_parts::{Sealed as SealedPart, Shared as SharedPart, Thread as ThreadPart};
 use ct_link_slots::called;
-use ct_parts::{Sealed as SealedPart, Shared as SharedPart, Thread as ThreadPart};
-use ct_rows::{Desc, Sealed, Shared, Thread};
 use def_layout::Region;
 use std::alloc::{AllocError, Global};
 

@@ -12,9 +12,9 @@ use crate::gates::{compartment_gates, library_gates};
 use crate::regions::region_at;
 use crate::sizes::slot_count;
 use ct_asm::Object;
+use ct_desc_rows::{Compartment, Desc, Library};
+use ct_image_parts::{Code as CodePart, Compartment as CompartmentPart};
 use ct_link_slots::{compartment_slots, library_slots};
-use ct_parts::{Code as CodePart, Compartment as CompartmentPart};
-use ct_rows::{Compartment, Desc, Library};
 use def_layout::Region;
 use std::alloc::{AllocError, Global};
 

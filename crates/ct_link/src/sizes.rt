@@ -4,15 +4,15 @@
 ghost use Rattle.std.specs.Prelude.{◌≡◌, ◌+◌, ◌*◌, ◌≤◌, ◌++◌, length, map, max, IfOk, OnOk};
 ghost use Rattle.std.specs.List.{AllByRecursion};
 ghost use Rattle.def_profile.specs.declared.limits.TheConstants.{MOST_FRAMES, MOST_THREADS_2};
-ghost use Rattle.def_description.specs.Lawful.{IsLawfulSealed};
-ghost use Rattle.def_description.specs.Rows.{SharedRow, SealedRow, ThreadRow};
+ghost use Rattle.def_desc.specs.Lawful.{IsLawfulSealed};
+ghost use Rattle.def_desc.specs.Rows.{SharedRow, SealedRow, ThreadRow};
 ghost use Rattle.def_image.specs.Sizes.{sum_of};
 ghost use Rattle.def_link.specs.Linked as spec;
 ghost use Rattle.ct_link.specs.Laid.{AreObjects, sizes_with};
 ghost use Rattle.ct_link.specs.Rows.{AreOwn, AreLent, IsSized, IsSmallOwner, IsSmallLibrary, own_built, lent_built, with_object, library_with_object};
 
 use ct_asm::Object;
-use ct_rows::{Compartment, Desc, Library, Sealed, Shared, Thread};
+use ct_desc_rows::{Compartment, Desc, Library, Sealed, Shared, Thread};
 use def_profile::layout::{AREA_HEAD, FRAME_SIZE, SLOT_SIZE, TABLE_HEAD, TABLE_ROW, TRUSTED_HEAD};
 use std::alloc::{AllocError, Global};
 

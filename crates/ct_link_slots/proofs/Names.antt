@@ -7,8 +7,8 @@ use Rattle.std.proofs.lemmas.Slice.Eq.{bytes_eq-Decides}
 use Rattle.std.proofs.Math.Seq.{take_at, drop_at}
 use Rattle.std.proofs.lemmas.Bool.{eq-eqb}
 use Rattle.law_lists.proofs.Tests.{eq_tells, lt_tells}
-use Rattle.def_description.specs.References.{export_name}
-use Rattle.def_description.specs.Rows.{ExportRow, CompartmentRow, LexportRow, LibraryRow}
+use Rattle.def_desc.specs.References.{export_name}
+use Rattle.def_desc.specs.Rows.{ExportRow, CompartmentRow, LexportRow, LibraryRow}
 use Rattle.def_link.specs.Slots.{index_of, Exported, exported, Exporter, full_names, export_from}
 use Rattle.ct_link_slots.specs.Exporters.{exporter, library_exporter, after_point, after_owner}
 

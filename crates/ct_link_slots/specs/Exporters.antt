@@ -2,8 +2,8 @@
 -- can count, numbers that a row's field can hold.
 use Rattle.std.specs.Prelude.{ℕ, ◌==◌, ◌<◌, ◌^◌, List, [], ◌∷◌, length, take, drop, bytes_eq, Option, Some, None, if◌then◌else◌}
 use Rattle.std.specs.List.{AllByRecursion}
-use Rattle.def_description.specs.Named.{export_names, library_export_names}
-use Rattle.def_description.specs.Rows.{CompartmentRow, LibraryRow, DescRow}
+use Rattle.def_desc.specs.Named.{export_names, library_export_names}
+use Rattle.def_desc.specs.Rows.{CompartmentRow, LibraryRow, DescRow}
 use Rattle.def_link.specs.Slots.{Exporter}
 
 -- ---- owners by the names of their exports

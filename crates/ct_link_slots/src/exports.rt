@@ -2,12 +2,12 @@
 
 ghost use Rattle.std.specs.Prelude.{◌≡◌, ◌<◌, ◌^◌, length, map, option_map};
 ghost use Rattle.std.specs.List.{AllByRecursion};
-ghost use Rattle.def_description.specs.References.{export_name};
+ghost use Rattle.def_desc.specs.References.{export_name};
 ghost use Rattle.def_link.specs.Slots as spec;
 ghost use Rattle.ct_link_slots.specs.Exporters.{IsExporter, IsLibraryExporter, exporter, library_exporter, after_point as spec_after_point, after_owner as spec_after_owner};
 
 use crate::named::{Named, index_named};
-use ct_rows::{Compartment, Library};
+use ct_desc_rows::{Compartment, Library};
 use std::marker::Model;
 
 /// An export, by its owner's index and its own.

@@ -1,18 +1,18 @@
 //! The slots of imports, quotas and keys.
 
 ghost use Rattle.std.specs.Prelude.{◌≡◌, ◌<◌, ◌^◌, codes, option_map, string_bytes, unwrap_or, [], IfOk};
-ghost use Rattle.def_description.specs.Names as name;
+ghost use Rattle.def_desc.specs.Names as name;
 ghost use Rattle.def_link.specs.Slots as spec;
 ghost use Rattle.def_words.specs.Permissions.{packed as spec_packed};
-ghost use Rattle.def_description.specs.Reading.{rights_of};
+ghost use Rattle.def_desc.specs.Reading.{rights_of};
 ghost use Rattle.ct_link_slots.specs.Exporters.{AreCounted};
-ghost use Rattle.ct_rows.specs.Named.{named};
+ghost use Rattle.ct_desc_rows.specs.Named.{named};
 
 use crate::rights::{claimed, packed};
 use crate::rows::{form_row, library_row, switch_row};
-use ct_parts::Slot;
-use ct_rows::{Desc, Import, LibraryImport, Quota, Target};
-use def_description::Form;
+use ct_desc_rows::{Desc, Import, LibraryImport, Quota, Target};
+use ct_image_parts::Slot;
+use def_desc::Form;
 use def_image::{ImportRow, SlotKind};
 use def_profile::rights::{KEY_RIGHTS, QUOTA_RIGHTS};
 use std::alloc::{AllocError, Global};

@@ -3,8 +3,8 @@
 ghost use Rattle.std.specs.Prelude.{ℕ, ◌≡◌, ◌<◌, ◌^◌, List, length, map};
 ghost use Rattle.def_link.specs.Slots.{index_of};
 
+use ct_desc_rows::{Export, LibraryExport, Sealed, Shared};
 use ct_entry::Device;
-use ct_rows::{Export, LibraryExport, Sealed, Shared};
 
 /// What has a name.
 pub(crate) trait Named {

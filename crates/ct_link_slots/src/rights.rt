@@ -3,11 +3,11 @@
 ghost use Rattle.std.specs.Prelude.{◌≡◌, ◌<◌, ◌^◌, nat_eq};
 ghost use Rattle.std.specs.List.{list_any};
 ghost use Rattle.def_words.specs.Permissions.{packed as spec_packed};
-ghost use Rattle.def_description.specs.Reading.{rights_of};
+ghost use Rattle.def_desc.specs.Reading.{rights_of};
 ghost use Rattle.def_link.specs.Slots as spec;
 
 use ct_perm::Perms;
-use def_description::Rights;
+use def_desc::Rights;
 use def_profile::rights::{GL, LD, LG, LM, MC, SD};
 
 /// The bits of a set of rights.

@@ -1,14 +1,14 @@
 //! The slots of an owner, in slot order.
 
 ghost use Rattle.std.specs.Prelude.{◌≡◌, ◌++◌, map, IfOk, OnOk};
-ghost use Rattle.def_description.specs.Rows.{LimportRow};
+ghost use Rattle.def_desc.specs.Rows.{LimportRow};
 ghost use Rattle.def_link.specs.Slots as spec;
 ghost use Rattle.ct_link_slots.specs.Exporters.{AreCounted, AreKeys};
 
 use crate::imports::{import_slot, key_slot, library_slot, quota_slot, switch_slot};
-use ct_parts::Slot;
-use ct_rows::{Compartment, Desc, Import, Library, Quota};
-use def_description::Form;
+use ct_desc_rows::{Compartment, Desc, Import, Library, Quota};
+use ct_image_parts::Slot;
+use def_desc::Form;
 use std::alloc::{AllocError, Global};
 
 fn add_imports(

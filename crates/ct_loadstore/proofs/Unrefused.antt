@@ -7,12 +7,12 @@ use Rattle.def_memory.specs.Accesses.{loaded}
 use Rattle.def_instr.specs.declared.Instr.{Instr}
 use Rattle.def_step.specs.declared.Access.{Access}
 use Rattle.def_step.specs.Checks.{first_failed}
-use Rattle.def_step.specs.Accesses.{Space, access_of, access_address, access_checks, load_checks, store_checks, access_result, accessed, ram_value, ram_stored, unless, widened}
+use Rattle.def_step.specs.Accesses.{MemoryAndDevices, access_of, access_address, access_checks, load_checks, store_checks, access_result, accessed, ram_value, ram_stored, unless, widened}
 use Rattle.ct_loadstore.specs.Shapes.{space_of}
 use Rattle.ct_loadstore.specs.Quiet.{Quiet}
 
 -- an instruction counts by its access
-result_by : (i : Instr) (a : Access) (x y : Cap) (p : Space) → access_of i ≡ a
+result_by : (i : Instr) (a : Access) (x y : Cap) (p : MemoryAndDevices) → access_of i ≡ a
     → access_result i x y p ≡ unless (first_failed (access_checks a x y (access_address a x))) (accessed a x y (access_address a x) p)
 unfolding access_result
 result_by i a x y p is = ap (λ (b : Access). unless (first_failed (access_checks b x y (access_address b x))) (accessed b x y (access_address b x) p)) is

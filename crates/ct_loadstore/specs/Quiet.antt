@@ -5,7 +5,7 @@ use Rattle.def_memory.specs.declared.Granule.{Granule}
 use Rattle.def_machine.specs.Memory.{lies_in}
 use Rattle.def_instr.specs.declared.Instr.{Instr}
 use Rattle.def_step.specs.declared.Access.{Access}
-use Rattle.def_step.specs.Devices.{Bank}
+use Rattle.def_step.specs.Devices.{DeviceStates}
 use Rattle.def_step.specs.Accesses.{access_of, access_address, access_result, load_checks, store_checks}
 use Rattle.def_step.specs.Checks.{first_failed}
 use Rattle.ct_loadstore.specs.Shapes.{space_of}
@@ -13,7 +13,7 @@ use Rattle.ct_loadstore.specs.Shapes.{space_of}
 -- of an access through x, of y where it stores: the value that it gives, if any, and the granules that it leaves
 abbrev pub Quiet : Access → Cap → Cap → ℕ → List Granule → Option Cap → List Granule → Type 0
 Quiet a x y ram gs value hs =
-    (i : Instr) (k : Bank) (time : ℕ) → access_of i ≡ a
+    (i : Instr) (k : DeviceStates) (time : ℕ) → access_of i ≡ a
     → access_result i x y (space_of ram gs k time)
     ≡ Ok (record { value = value; act = None; granules = hs; bank = k })
 

@@ -4,8 +4,8 @@ use Rattle.ct_entry.specs.declared.acts.Act.{Act}
 use Rattle.def_words.specs.declared.Cap.{Cap}
 use Rattle.def_memory.specs.declared.Granule.{Granule}
 use Rattle.def_step.specs.declared.Access.{Access}
-use Rattle.def_step.specs.Devices.{Bank}
-use Rattle.def_step.specs.Accesses.{Space}
+use Rattle.def_step.specs.Devices.{DeviceStates}
+use Rattle.def_step.specs.Accesses.{MemoryAndDevices}
 
 abbrev pub IsShape : Access → Type 0
 IsShape a =
@@ -20,11 +20,11 @@ pub record Reaches (a : Access) (ram granules at : ℕ) : Type 0 where
   pub aligned : at % a.width ≡ 0
 
 -- RAM from its base, the devices and the time
-abbrev pub space_of : ℕ → List Granule → Bank → ℕ → Space
+abbrev pub space_of : ℕ → List Granule → DeviceStates → ℕ → MemoryAndDevices
 space_of ram gs k time = record { ram = ram; granules = gs; bank = k; time = time }
 
 -- the devices alone
-abbrev pub space : Bank → ℕ → Space
+abbrev pub space : DeviceStates → ℕ → MemoryAndDevices
 space k time = space_of 0 [] k time
 
 pub record MovedRow : Type 0 where

@@ -15,11 +15,11 @@ use Rattle.def_machine.specs.Threads as threads
 use Rattle.def_machine.specs.Threads.{with_statuses}
 use Rattle.def_machine.specs.Frames as frames
 use Rattle.def_machine.specs.Frames.{callee_start, entered}
-use Rattle.def_step.specs.Devices.{Bank}
+use Rattle.def_step.specs.Devices.{DeviceStates}
 use Rattle.def_step.specs.Switch.{Switched, Trapped, TooDeep, NoStack, Enters, switch_of, frame_top}
 use Rattle.def_step.specs.Routines.{switched_to, switch, code}
 use Rattle.def_step.specs.Instructions.{ran, deed}
-use Rattle.def_machine.specs.Board.{MachineRow}
+use Rattle.def_machine.specs.Platform.{MachineRow}
 use Rattle.ct_areas.specs.Threads as areas
 use Rattle.ct_sched.specs.Sched.{SchedRow}
 use Rattle.ct_switch.specs.declared.calls.Called.{Called}
@@ -39,7 +39,7 @@ use Rattle.ct_machine.proofs.Keeping.{machine_by, same_kept}
 use Rattle.ct_machine.proofs.Opened.{placed_at}
 use Rattle.ct_machine.proofs.Resting.{answers_are, register_alike}
 
-module _ (i : Image) (e : Seen) (r : SchedRow) (k : Bank) (pending : Bool) (time : ℕ) (c : Counts) (t : ℕ) (kept : IsKept i e r)
+module _ (i : Image) (e : Seen) (r : SchedRow) (k : DeviceStates) (pending : Bool) (time : ℕ) (c : Counts) (t : ℕ) (kept : IsKept i e r)
     (base : (area_at e t).stack ≡ stack_base i t) (most : areas.frames_most (area_at e t) ≡ frames_most i t) where
   abbrev here : State
   here = state_by e r pending k.states time c

@@ -19,21 +19,22 @@ use Rattle.def_machine.specs.Memory.{filtered_in}
 use Rattle.def_machine.specs.Frames as frames
 use Rattle.def_machine.specs.Frames.{left_with, left_by, answer_by}
 use Rattle.def_step.specs.Handlers.{Handed, handled, handled_by, handler_entered, handler_value, is_handled, is_handled_by, record_words, return_taken, trap_taken, words_written, handed}
-use Rattle.def_step.specs.Devices.{Bank}
-use Rattle.def_step.specs.Accesses.{Space}
+use Rattle.def_step.specs.Devices.{DeviceStates}
+use Rattle.def_step.specs.Accesses.{MemoryAndDevices}
 use Rattle.def_step.specs.Instructions.{actor_of, deed, space_of, executed}
-use Rattle.def_machine.specs.Board.{Board, MachineRow}
+use Rattle.def_machine.specs.Platform.{Platform, MachineRow}
 use Rattle.def_step.specs.Events.{noted, with_deed}
 use Rattle.ct_sched.specs.Sched as sched
 use Rattle.ct_sched.specs.Sched.{SchedRow}
+use Rattle.ct_threads.specs.Handling.{record_place}
 use Rattle.ct_engine.specs.Seen as engine
 use Rattle.ct_engine.specs.Seen.{after_jump, with_granules, area_at, Seen}
 use Rattle.ct_engine.specs.Steps.{space_in}
-use Rattle.ct_exports.specs.Exports.{callee_of}
-use Rattle.law_handlers.proofs.Entered.{says}
+use Rattle.ct_switch.specs.Exports.{callee_of}
+use Rattle.law_events.proofs.Entered.{says}
 use Rattle.ct_engine.specs.Calls as calls
 use Rattle.ct_engine.specs.Calls.{HeadStands}
-use Rattle.ct_engine.specs.Handling.{is_marked, is_handled_of, handed_at, record_place, handler_begun}
+use Rattle.ct_engine.specs.Handling.{is_marked, is_handled_of, handed_at, handler_begun}
 use Rattle.ct_engine.proofs.AsWritten.{handed_made}
 use Rattle.ct_execute.specs.declared.ran.Ran.{Ran}
 use Rattle.ct_execute.specs.declared.ran.Ran.TheVariants.{Went, Returned, Native, Trapped}
@@ -182,8 +183,8 @@ module _ (i : Image) (e : Seen) (r : SchedRow) (pending : Bool) (devices : List 
       handler_by entries handler why f fs same handles.is (handles.heads has) (handles.own has))
       (λ off. valued_by UNWOUND (f ∷ fs) base some)
 
-module _ (i : Image) (entries : Listed) (e : Seen) (r : SchedRow) (k : Bank) (pending : Bool) (time : ℕ) (c : Counts) (t : ℕ) (kept : IsKept i e r) (same : entries ≡ i.entries) where
-  abbrev board : Board
+module _ (i : Image) (entries : Listed) (e : Seen) (r : SchedRow) (k : DeviceStates) (pending : Bool) (time : ℕ) (c : Counts) (t : ℕ) (kept : IsKept i e r) (same : entries ≡ i.entries) where
+  abbrev board : Platform
   board = record { image = i; bases = k.bases }
 
   abbrev here : State
@@ -192,7 +193,7 @@ module _ (i : Image) (entries : Listed) (e : Seen) (r : SchedRow) (k : Bank) (pe
   -- ---- an instruction
 
   -- the scheduler's status is no part of what decides
-  decided_alike : (p : Space) → decide i.entries (get_or (with_statuses e.threads r.statuses) t nobody) p ≡ decide i.entries (get_or e.threads t nobody) p
+  decided_alike : (p : MemoryAndDevices) → decide i.entries (get_or (with_statuses e.threads r.statuses) t nobody) p ≡ decide i.entries (get_or e.threads t nobody) p
   decided_alike p = ap (λ (x : Thread). decide i.entries x p) (like_with e.threads r.statuses t Ended)
 
   space_alike : space_in e k time ≡ space_of board here
@@ -201,14 +202,14 @@ module _ (i : Image) (entries : Listed) (e : Seen) (r : SchedRow) (k : Bank) (pe
   decision_is : decision entries e t k time ≡ decide i.entries (thread here t) (space_of board here)
   decision_is =
       ap (λ (es : Listed). decide es (get_or e.threads t nobody) (space_in e k time)) same
-      ∙ ap (λ (p : Space). decide i.entries (get_or e.threads t nobody) p) space_alike
+      ∙ ap (λ (p : MemoryAndDevices). decide i.entries (get_or e.threads t nobody) p) space_alike
       ∙ sym (decided_alike (space_of board here))
 
   acted_is : (entry : ℕ) (act : Option Act) → deed_by t (actor_of (thread here t).frames) (Went (option_map (act_by entry) act)) ≡ option_map (deed here t entry) act
   acted_is entry None = refl
   acted_is entry (Some act) = refl
 
-  settled : (D : Decision) (e' : Seen) (k' : Bank) (ran : Ran) → Decided D t e k e' k' ran
+  settled : (D : Decision) (e' : Seen) (k' : DeviceStates) (ran : Ran) → Decided D t e k e' k' ran
       → finished board t (actor_of (thread here t).frames) (state_by (e') r pending k'.states time c) ran ≡ settle board here t D
   settled (Goes d entry) e' k' ran h =
       let there = went_is i e r pending k.states time c t kept d.pcc d.posture d.to d.value d.granules d.bank.states in
@@ -220,18 +221,18 @@ module _ (i : Image) (entries : Listed) (e : Seen) (r : SchedRow) (k : Bank) (pe
   settled (Serves number) e' k' ran h = rw (h.0, h.1, h.2) refl
   settled (Traps why) e' k' ran h = rw (h.0, h.1, h.2) refl
 
-  executed_so : (e' : Seen) (k' : Bank) (ran : Ran) → Decided (decision entries e t k time) t e k e' k' ran
+  executed_so : (e' : Seen) (k' : DeviceStates) (ran : Ran) → Decided (decision entries e t k time) t e k e' k' ran
       → finished board t (actor_of (thread here t).frames) (state_by (e') r pending k'.states time c) ran ≡ executed board here t
   executed_so e' k' ran h = settled (decision entries e t k time) e' k' ran h ∙ ap (settle board here t) decision_is ∙ sym (executed_is board here t)
 
   -- a machine of the same image
-  abbrev machine : Seen → Bank → MachineRow
+  abbrev machine : Seen → DeviceStates → MachineRow
   machine x b = machine_by i x r b pending time c
 
-  same_machine : (e' : Seen) (k' : Bank) → (e' ≡ e) × (k' ≡ k) → machine e' k' ≡ machine e k
+  same_machine : (e' : Seen) (k' : DeviceStates) → (e' ≡ e) × (k' ≡ k) → machine e' k' ≡ machine e k
   same_machine e' k' h = rw (h.0, h.1) refl
 
-  pub came : (e' : Seen) (k' : Bank) (ran : Ran) → Decided (decision entries e t k time) t e k e' k' ran → k'.bases ≡ k.bases → IfUnfinished ran ((e' ≡ e) × (k' ≡ k))
+  pub came : (e' : Seen) (k' : DeviceStates) (ran : Ran) → Decided (decision entries e t k time) t e k e' k' ran → k'.bases ≡ k.bases → IfUnfinished ran ((e' ≡ e) × (k' ≡ k))
       → CameTo (machine e k) (machine e' k') t ran (executed board here t)
   came e' k' ran h bases waits = record {
     is = executed_so e' k' ran h;

@@ -21,14 +21,14 @@ use Rattle.def_reach.specs.Roots.{Listing, is_quota}
 use Rattle.def_machine.specs.Rows.{RowsFit}
 use Rattle.def_confined.specs.Capabilities.{Rooted}
 use Rattle.def_confined.specs.Confined.{Confined}
-use Rattle.def_facts.specs.Facts.{Facts}
+use Rattle.def_confined.specs.Facts.{Facts}
 use Rattle.def_machine.specs.Image.{Image, root}
 use Rattle.def_machine.specs.State.{State, Thread, Object, Counts, thread, register, nobody}
 use Rattle.def_machine.specs.Objects.{charges, quarantine}
 use Rattle.def_machine.specs.Memory.{filtered_in}
 use Rattle.def_machine.specs.Heap as heap
 use Rattle.def_machine.specs.Threads.{with_statuses}
-use Rattle.def_step.specs.Devices.{Bank}
+use Rattle.def_step.specs.Devices.{DeviceStates}
 use Rattle.def_step.specs.Checks.{first_failed}
 use Rattle.def_step.specs.Switch.{return_checks}
 use Rattle.def_step.specs.Routines as routine
@@ -37,8 +37,8 @@ use Rattle.def_step.specs.Quotas as quotas
 use Rattle.def_step.specs.Quotas.{Allocation, Refused, Made, is_quota_cap, whole_of, allocation}
 use Rattle.def_step.specs.Tokens as tokens
 use Rattle.def_step.specs.Instructions.{actor_of, deed_told, ran}
-use Rattle.def_machine.specs.Board.{MachineRow}
-use Rattle.law_jumps.proofs.Moves.{in_rooted}
+use Rattle.def_machine.specs.Platform.{MachineRow}
+use Rattle.law_moves.proofs.JumpsMoves.{in_rooted}
 use Rattle.ct_sched.specs.Sched.{SchedRow}
 use Rattle.ct_engine.specs.Seen as engine
 use Rattle.ct_execute.specs.declared.ran.Ran.{Ran}
@@ -51,7 +51,7 @@ use Rattle.ct_engine.proofs.Granted.{allocation_same}
 use Rattle.ct_services.specs.Granted as granted
 use Rattle.ct_services.specs.Sealed as sealed
 use Rattle.ct_services.specs.Served.{answered_in}
-use Rattle.ct_machine.specs.declared.engine.Engine.TheInside.{Inside}
+use Rattle.ct_machine.specs.declared.parts.Parts.TheInside.{Inside}
 use Rattle.ct_machine.specs.Parts.{state_by, IsCounted, IsKept}
 use Rattle.ct_machine.specs.Going.{CameTo, IsDone, MayGoOn, deed_by}
 use Rattle.ct_machine.proofs.Statuses.{thread_with, set_with}
@@ -61,7 +61,7 @@ use Rattle.ct_machine.proofs.Sizes.{same_by}
 use Rattle.ct_machine.proofs.Resting.{by_trap, checked_once, answers_are, register_alike}
 
 -- what passed the load filter of the memory that the machine has
-sifted_is : (i : Image) (x : Seen) (r : SchedRow) (k : Bank) (pending : Bool) (time : ℕ) (c : Counts) (t : ℕ) → IsKept i x r
+sifted_is : (i : Image) (x : Seen) (r : SchedRow) (k : DeviceStates) (pending : Bool) (time : ℕ) (c : Counts) (t : ℕ) → IsKept i x r
     → state_by (after_filter x t) r pending k.states time c
     ≡ record (state_by x r pending k.states time c) {
       threads = set (with_statuses x.threads r.statuses) t (record (get_or (with_statuses x.threads r.statuses) t nobody) {
@@ -80,7 +80,7 @@ sifted_is i x r k pending time c t kept =
       });
     }) (ram_is i x r kept)
 
-module _ (i : Image) (e : Seen) (r : SchedRow) (k : Bank) (pending : Bool) (time : ℕ) (c : Counts) (t : ℕ) (kept : IsKept i e r) where
+module _ (i : Image) (e : Seen) (r : SchedRow) (k : DeviceStates) (pending : Bool) (time : ℕ) (c : Counts) (t : ℕ) (kept : IsKept i e r) where
   abbrev here : State
   here = state_by e r pending k.states time c
 
@@ -352,52 +352,52 @@ module _ (i : Image) (e : Seen) (r : SchedRow) (k : Bank) (pending : Bool) (time
 
 -- ---- of an engine that is open, and keeps what a machine keeps
 
-module _ {M : Type 0} (i : Inside M) (t : ℕ) (held : IsKept i.plan i.threads i.sched × IsCounted i.counts i.time i.threads.next) where
+module _ {M : Type 0} (i : Inside M) (t : ℕ) (held : IsKept i.plan i.engine i.sched × IsCounted i.counts i.time i.engine.next) where
   -- the machine that it makes
   abbrev pub whole : MachineRow
-  whole = machine_by i.plan i.threads i.sched i.bus i.pending i.time i.counts
+  whole = machine_by i.plan i.engine i.sched i.bus i.pending i.time i.counts
 
   abbrev pub ServesIn : ℕ → Seen × Ran → routine.Ran → Type 0
-  ServesIn most p x = Serves i.plan i.threads i.sched i.bus i.pending i.time i.counts t held.0 most p x
+  ServesIn most p x = Serves i.plan i.engine i.sched i.bus i.pending i.time i.counts t held.0 most p x
 
-  pub named_in : (m : MachineRow) → whole ≡ m → MayGoOn m → granted.NamesQuota i.threads t
-  named_in m is may = names_quota_in i.plan i.threads i.sched i.bus i.pending i.time i.counts t held.0 m is may
+  pub named_in : (m : MachineRow) → whole ≡ m → MayGoOn m → granted.NamesQuota i.engine t
+  named_in m is may = names_quota_in i.plan i.engine i.sched i.bus i.pending i.time i.counts t held.0 m is may
 
-  pub allocated_in : (p : Seen × Ran) → p ≡ granted.by_quota i.threads t (granted.allocated i.threads t (allocation_in i.threads (granted.quota_in i.threads t) (cap_address (register (engine.thread i.threads t) 11))))
-      → ServesIn (i.threads.next + 1) p (quotas.allocate i.plan whole.state t)
-  allocated_in p is = serves_allocate i.plan i.threads i.sched i.bus i.pending i.time i.counts t held.0 p is
+  pub allocated_in : (p : Seen × Ran) → p ≡ granted.by_quota i.engine t (granted.allocated i.engine t (allocation_in i.engine (granted.quota_in i.engine t) (cap_address (register (engine.thread i.engine t) 11))))
+      → ServesIn (i.engine.next + 1) p (quotas.allocate i.plan whole.state t)
+  allocated_in p is = serves_allocate i.plan i.engine i.sched i.bus i.pending i.time i.counts t held.0 p is
 
-  pub freed_in : (p : Seen × Ran) → p ≡ granted.by_quota i.threads t (granted.freed_as i.threads t (granted.object_in i.threads t)) → ServesIn i.threads.next p (quotas.free i.plan whole.state t)
-  freed_in p is = serves_free i.plan i.threads i.sched i.bus i.pending i.time i.counts t held.0 p is
+  pub freed_in : (p : Seen × Ran) → p ≡ granted.by_quota i.engine t (granted.freed_as i.engine t (granted.object_in i.engine t)) → ServesIn i.engine.next p (quotas.free i.plan whole.state t)
+  freed_in p is = serves_free i.plan i.engine i.sched i.bus i.pending i.time i.counts t held.0 p is
 
-  pub remaining_in : (p : Seen × Ran) → p ≡ granted.by_quota i.threads t (granted.tells i.threads t (integer (granted.left_in i.threads t))) → ServesIn i.threads.next p (quotas.remaining i.plan whole.state t)
-  remaining_in p is = serves_remaining i.plan i.threads i.sched i.bus i.pending i.time i.counts t held.0 p is
+  pub remaining_in : (p : Seen × Ran) → p ≡ granted.by_quota i.engine t (granted.tells i.engine t (integer (granted.left_in i.engine t))) → ServesIn i.engine.next p (quotas.remaining i.plan whole.state t)
+  remaining_in p is = serves_remaining i.plan i.engine i.sched i.bus i.pending i.time i.counts t held.0 p is
 
   -- each row is of a live object
-  pub rows_in : (m : MachineRow) → whole ≡ m → MayGoOn m → RowsFit i.threads.objects i.threads.tokens
+  pub rows_in : (m : MachineRow) → whole ≡ m → MayGoOn m → RowsFit i.engine.objects i.engine.tokens
   rows_in m is may = (subst MayGoOn (sym is) may).rows
 
   abbrev register_in : ℕ → Cap
-  register_in n = register (engine.thread i.threads t) n
+  register_in n = register (engine.thread i.engine t) n
 
-  pub token_key_in : (p : Seen × Ran) → p ≡ granted.by_quota i.threads t (sealed.made_token i.threads t None (allocation_in i.threads (granted.quota_in i.threads t) GRANULE))
-      → ServesIn (i.threads.next + 1) p (tokens.token_key i.plan whole.state t)
-  token_key_in p is = serves_token_key i.plan i.threads i.sched i.bus i.pending i.time i.counts t held.0 p is
+  pub token_key_in : (p : Seen × Ran) → p ≡ granted.by_quota i.engine t (sealed.made_token i.engine t None (allocation_in i.engine (granted.quota_in i.engine t) GRANULE))
+      → ServesIn (i.engine.next + 1) p (tokens.token_key i.plan whole.state t)
+  token_key_in p is = serves_token_key i.plan i.engine i.sched i.bus i.pending i.time i.counts t held.0 p is
 
   pub token_new_in : (p : Seen × Ran)
-      → p ≡ granted.by_quota i.threads t (sealed.by_key i.threads t (sealed.key_of i.threads (register_in 12)) (λ key. sealed.made_token i.threads t (Some key) (allocation_in i.threads (granted.quota_in i.threads t) (cap_address (register_in 11)))))
-      → ServesIn (i.threads.next + 1) p (tokens.token_new i.plan whole.state t)
-  token_new_in p is = serves_token_new i.plan i.threads i.sched i.bus i.pending i.time i.counts t held.0 p is
+      → p ≡ granted.by_quota i.engine t (sealed.by_key i.engine t (sealed.key_of i.engine (register_in 12)) (λ key. sealed.made_token i.engine t (Some key) (allocation_in i.engine (granted.quota_in i.engine t) (cap_address (register_in 11)))))
+      → ServesIn (i.engine.next + 1) p (tokens.token_new i.plan whole.state t)
+  token_new_in p is = serves_token_new i.plan i.engine i.sched i.bus i.pending i.time i.counts t held.0 p is
 
   pub token_open_in : (p : Seen × Ran)
-      → p ≡ granted.checked (first_failed (return_checks (register_in 1))) i.threads (sealed.by_key i.threads t (sealed.key_of i.threads (register_in 10)) (λ key. sealed.opens i.threads t (register_in 11) (sealed.token_of i.threads key (register_in 11))))
-      → ServesIn i.threads.next p (tokens.token_open whole.state t)
-  token_open_in p is = serves_token_open i.plan i.threads i.sched i.bus i.pending i.time i.counts t held.0 p is
+      → p ≡ granted.checked (first_failed (return_checks (register_in 1))) i.engine (sealed.by_key i.engine t (sealed.key_of i.engine (register_in 10)) (λ key. sealed.opens i.engine t (register_in 11) (sealed.token_of i.engine key (register_in 11))))
+      → ServesIn i.engine.next p (tokens.token_open whole.state t)
+  token_open_in p is = serves_token_open i.plan i.engine i.sched i.bus i.pending i.time i.counts t held.0 p is
 
   pub token_free_in : (p : Seen × Ran)
-      → p ≡ granted.by_quota i.threads t (sealed.by_key i.threads t (sealed.key_of i.threads (register_in 11)) (λ key. sealed.frees_token i.threads t (granted.quota_in i.threads t) (sealed.token_of i.threads key (register_in 12))))
-      → ServesIn i.threads.next p (tokens.token_free i.plan whole.state t)
-  token_free_in p is = serves_token_free i.plan i.threads i.sched i.bus i.pending i.time i.counts t held.0 p is
+      → p ≡ granted.by_quota i.engine t (sealed.by_key i.engine t (sealed.key_of i.engine (register_in 11)) (λ key. sealed.frees_token i.engine t (granted.quota_in i.engine t) (sealed.token_of i.engine key (register_in 12))))
+      → ServesIn i.engine.next p (tokens.token_free i.plan whole.state t)
+  token_free_in p is = serves_token_free i.plan i.engine i.sched i.bus i.pending i.time i.counts t held.0 p is
 
   -- a routine came to the same in the machine that this is
   pub came_in : (w : Image → State → ℕ → routine.Ran) (most : ℕ) (p : Seen × Ran) (m : MachineRow) → whole ≡ m → ServesIn most p (w i.plan whole.state t)
@@ -405,5 +405,5 @@ module _ {M : Type 0} (i : Inside M) (t : ℕ) (held : IsKept i.plan i.threads i
   came_in w most p m is h = came_by (λ (x : MachineRow). ran x.board x.state t (w x.board.image x.state t)) is refl h.came
 
   -- where it made no object the engine keeps what it kept
-  pub keeps_in : (p : Seen × Ran) (x : routine.Ran) → ServesIn i.threads.next p x → IsKept i.plan p.0 i.sched × IsCounted i.counts i.time p.0.next
-  keeps_in p x h = (h.stays, same_by i.counts i.time i.threads.next p.0.next held.1 h.made)
+  pub keeps_in : (p : Seen × Ran) (x : routine.Ran) → ServesIn i.engine.next p x → IsKept i.plan p.0 i.sched × IsCounted i.counts i.time p.0.next
+  keeps_in p x h = (h.stays, same_by i.counts i.time i.engine.next p.0.next held.1 h.made)

@@ -1,30 +1,30 @@
 -- A machine that starts is guarded, and every event keeps it so.
 use Rattle.std.proofs.Common.{◌≡◌, Bool, true, false, refl, ap, subst, sym}
 use Rattle.ct_entry.specs.declared.acts.Happened.{Happened}
-use Rattle.def_guarded.specs.Guarded.{Guarded}
+use Rattle.def_events.specs.Guarded.{Guarded}
 use Rattle.def_machine.specs.Rows.{RowsFit}
 use Rattle.def_confined.specs.Telling.{IsLicensedEvent}
 use Rattle.def_machine.specs.State.{State}
 use Rattle.def_step.specs.declared.Event.{Event}
 use Rattle.def_step.specs.declared.Event.TheVariants.{Step}
-use Rattle.def_machine.specs.Board.{Board, MachineRow}
+use Rattle.def_machine.specs.Platform.{Platform, MachineRow}
 use Rattle.def_step.specs.Events.{happens}
 use Rattle.def_image.specs.Parts.{PartsRow}
 use Rattle.def_image.specs.Sound.{Sound}
 use Rattle.def_boot.specs.Boot.{booted_machine, boot_state}
-use Rattle.law_grants.proofs.Wiring.{wired}
-use Rattle.law_grants.proofs.Ranges.{inside}
-use Rattle.law_grants.proofs.Holding.{holds}
-use Rattle.law_booted.proofs.Whole.{partitioned}
+use Rattle.law_boot.proofs.Wiring.{wired}
+use Rattle.law_boot.proofs.Ranges.{inside}
+use Rattle.law_boot.proofs.Holding.{holds}
+use Rattle.law_boot.proofs.Whole.{partitioned}
 use Rattle.law_started.proofs.Shutting.{shut}
 use Rattle.law_started.proofs.Whole.{keeps}
 use Rattle.law_started.proofs.Settling.{boot_settles}
 use Rattle.law_started.proofs.Blanking.{blank}
 use Rattle.law_started.proofs.Tokening.{boot_tokened}
-use Rattle.law_settled.proofs.Events.{event_settles}
-use Rattle.law_blank.proofs.Events.{event_blank}
-use Rattle.law_tokens.proofs.Events.{event_fit}
-use Rattle.law_tokens.proofs.Whole.{event_tokened}
+use Rattle.law_routines.proofs.Events.{event_settles}
+use Rattle.law_events.proofs.BlankEvents.{event_blank}
+use Rattle.law_history.proofs.TokensEvents.{event_fit}
+use Rattle.law_history.proofs.Whole.{event_tokened}
 use Rattle.law_events.proofs.Events.{event_keeps, deed_licensed, span_licensed}
 use Rattle.ct_machine.specs.Going.{silence}
 
@@ -70,7 +70,7 @@ event_licensed m e g = record {
 pub kept_by : (m n : MachineRow) (e : Event) → Guarded m → n.state ≡ (happens m.board m.state e).0 → n.board ≡ m.board → Guarded n
 kept_by m n e g state board = whole n.board n.state board state
   where
-    whole : (b : Board) (s : State) → b ≡ m.board → s ≡ (happens m.board m.state e).0 → Guarded (record { board = b; state = s })
+    whole : (b : Platform) (s : State) → b ≡ m.board → s ≡ (happens m.board m.state e).0 → Guarded (record { board = b; state = s })
     whole b s is_board is_state = rw (is_board, is_state) (after_event m e g)
 
 pub told_by : (m n : MachineRow) (e : Event) (h : Happened) → Guarded m → m ≡ n → h ≡ (happens m.board m.state e).1 → IsLicensedEvent n.board.image.entries h
@@ -83,10 +83,10 @@ booted_by p m s is = subst Guarded (sym is) (at_boot p s)
 
 -- ---- a step that tells nothing, or nothing
 
-same_by : (m n : MachineRow) → n.state ≡ m.state → n.board ≡ m.board → Guarded m → Guarded n
+pub same_by : (m n : MachineRow) → n.state ≡ m.state → n.board ≡ m.board → Guarded m → Guarded n
 same_by m n state board h = whole n.board n.state board state
   where
-    whole : (b : Board) (s : State) → b ≡ m.board → s ≡ m.state → Guarded (record { board = b; state = s })
+    whole : (b : Platform) (s : State) → b ≡ m.board → s ≡ m.state → Guarded (record { board = b; state = s })
     whole b s is_board is_state = rw (is_board, is_state) h
 
 pub quietly_by : (m n : MachineRow) (went : Bool) → (went ≡ true → (n.state, silence) ≡ happens m.board m.state Step) → (went ≡ false → n.state ≡ m.state) → n.board ≡ m.board

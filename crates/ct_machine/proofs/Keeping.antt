@@ -19,19 +19,20 @@ use Rattle.def_machine.specs.State.{State, Thread, Frame, Counts, nobody, regist
 use Rattle.def_machine.specs.Memory.{filtered_in}
 use Rattle.def_machine.specs.Frames.{left_with}
 use Rattle.def_words.specs.declared.Trap.{Trap}
-use Rattle.def_step.specs.Devices.{Bank}
+use Rattle.def_step.specs.Devices.{DeviceStates}
 use Rattle.def_step.specs.Handlers.{handler_value, record_words}
 use Rattle.def_step.specs.Switch.{Switched, Trapped as NotMade, TooDeep, NoStack, Enters}
-use Rattle.def_machine.specs.Board.{MachineRow}
+use Rattle.def_machine.specs.Platform.{MachineRow}
 use Rattle.ct_entry.specs.declared.acts.Deed.{Deed}
 use Rattle.ct_areas.specs.declared.thread.Area.{Area}
 use Rattle.ct_sched.specs.Sched.{SchedRow, with_statuses, after_pick}
+use Rattle.ct_threads.specs.Steps.{IsHeapPlaced}
+use Rattle.ct_threads.specs.Handling.{record_place}
 use Rattle.ct_engine.specs.Seen as engine
 use Rattle.ct_engine.specs.Seen.{area_at, resumed, with_running, Seen}
 use Rattle.ct_engine.specs.Written.{HasHeap}
-use Rattle.ct_engine.specs.Steps.{IsHeapPlaced}
 use Rattle.ct_engine.specs.Calls.{switched, ended_by, ended_with, returned}
-use Rattle.ct_engine.specs.Handling.{is_marked, is_handled_at, record_place, handler_begun}
+use Rattle.ct_engine.specs.Handling.{is_marked, is_handled_at, handler_begun}
 use Rattle.ct_execute.specs.declared.ran.Ran.{Ran}
 use Rattle.ct_execute.specs.declared.ran.Ran.TheVariants.{Went, Returned, Native, Trapped}
 use Rattle.ct_execute.specs.Deciding.{Decision, Goes, Returns, Serves, Traps, Decided, IfUnfinished, Stays}
@@ -41,7 +42,7 @@ use Rattle.ct_machine.specs.Parts.{state_by, IsKept, IsCounted}
 use Rattle.ct_machine.specs.Going.{left_after, goes_after, status_after, CameTo}
 
 -- the machine that these parts make
-abbrev pub machine_by : Image → Seen → SchedRow → Bank → Bool → ℕ → Counts → MachineRow
+abbrev pub machine_by : Image → Seen → SchedRow → DeviceStates → Bool → ℕ → Counts → MachineRow
 machine_by i e r k pending time c = record { board = record { image = i; bases = k.bases }; state = state_by e r pending k.states time c }
 
 pub two_more : (n : ℕ) → nat_lt 1 (suc (suc n)) ≡ true
@@ -159,7 +160,7 @@ left_next (Trapped why) e entries t handler =
 -- ---- an instruction
 
 -- one instruction leaves as many threads as there were
-as_many : (D : Decision) (t : ℕ) (e new : Seen) (k bank : Bank) (ran : Ran) → Decided D t e k new bank ran → length new.threads ≡ length e.threads
+as_many : (D : Decision) (t : ℕ) (e new : Seen) (k bank : DeviceStates) (ran : Ran) → Decided D t e k new bank ran → length new.threads ≡ length e.threads
 as_many (Goes d entry) t e new k bank ran h = ap (λ (x : Seen). length x.threads) h.0 ∙ length-set e.threads t _
 as_many Returns t e new k bank ran h = ap (λ (x : Seen). length x.threads) h.0
 as_many (Serves number) t e new k bank ran h = ap (λ (x : Seen). length x.threads) h.0
@@ -169,7 +170,7 @@ pub ran_else : (e new : Seen) → Stays e new → StaysElse e new
 ran_else e new stays =
     stays.beside ∙ ap (λ (o : Option ℕ). let x : Seen = record e { granules = new.granules; threads = new.threads; running = o } in x) (sym (ap (λ (x : Seen). x.running) stays.beside))
 
-pub ran_kept : (i : Image) (D : Decision) (t : ℕ) (e new : Seen) (r : SchedRow) (k bank : Bank) (ran : Ran) → IsKept i e r → Decided D t e k new bank ran → Stays e new → IsKept i new r
+pub ran_kept : (i : Image) (D : Decision) (t : ℕ) (e new : Seen) (r : SchedRow) (k bank : DeviceStates) (ran : Ran) → IsKept i e r → Decided D t e k new bank ran → Stays e new → IsKept i new r
 ran_kept i D t e new r k bank ran kept h stays =
     same_kept i e new r kept (ran_else e new stays) stays.size (as_many D t e new k bank ran h) (still_ready e new r.statuses kept.ready (ap (λ (x : Seen). x.running) stays.beside))
 

@@ -7,9 +7,11 @@ pub mod Opened
 pub mod Quietly
 pub mod Ready
 pub mod Resting
+pub mod Rounding
 pub mod Sizes
 pub mod Starts
 pub mod Statuses
 pub mod Stepping
 pub mod Sweeping
 pub mod Taking
+pub mod Walks

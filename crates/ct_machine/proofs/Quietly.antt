@@ -1,5 +1,5 @@
 -- A step that tells nothing: what the code leaves of it is what the written step leaves.
-use Rattle.std.proofs.Common.{ℕ, zero, suc, ◌+◌, ◌≡◌, ◌&&◌, nat_eq, is_none, Bool, true, false, inl, inr, if◌then◌else◌, List, [], ◌∷◌, Option, Some, None, option_map, refl, sym, ap, ◌∙◌}
+use Rattle.std.proofs.Common.{ℕ, zero, suc, ◌+◌, ◌≡◌, ◌&&◌, ◌||◌, nat_eq, is_none, is_some, Bool, true, false, inl, inr, if◌then◌else◌, List, [], ◌∷◌, Option, Some, None, option_map, refl, sym, ap, ◌∙◌, subst}
 use Rattle.std.proofs.Math.ListN.{get_or, set}
 use Rattle.law_lists.proofs.Tests.{eq_tells}
 use Rattle.ct_entry.specs.declared.acts.Act.{Act}
@@ -10,18 +10,20 @@ use Rattle.def_sched.specs.declared.Status.TheVariants.{Ended}
 use Rattle.def_instr.specs.declared.Instr.{Instr}
 use Rattle.def_memory.specs.declared.Granule.{Granule}
 use Rattle.def_machine.specs.Image.{Image}
-use Rattle.def_machine.specs.State.{State, Thread, Counts, thread, nobody}
+use Rattle.def_machine.specs.State.{State, Thread, DeviceState, Counts, thread, nobody}
+use Rattle.def_machine.specs.Objects.{has_quarantined}
 use Rattle.def_machine.specs.Threads.{jumped, with_status}
 use Rattle.def_step.specs.declared.Class.{Class}
 use Rattle.def_step.specs.declared.Class.TheVariants as class
 use Rattle.def_step.specs.declared.Event.TheVariants.{Step}
 use Rattle.def_step.specs.declared.Next.{Next}
 use Rattle.def_step.specs.declared.Next.TheVariants.{Returning, Instruction, Native, Nothing}
-use Rattle.def_step.specs.Devices.{Bank}
-use Rattle.def_step.specs.Instructions.{actor_of}
-use Rattle.def_machine.specs.Board.{Board, MachineRow}
-use Rattle.def_step.specs.Events.{holder_by, holder, begun_since, begun, preempted, scheduled, one_more_step, run_on, told_of, happens}
+use Rattle.def_step.specs.Devices.{DeviceStates}
+use Rattle.def_step.specs.Instructions.{actor_of, fetch_checks, next_at}
+use Rattle.def_machine.specs.Platform.{Platform, MachineRow}
+use Rattle.def_step.specs.Events.{holder_by, holder, begun_since, begun, preempted, scheduled, one_more_step, run_on, told_of, happens, end_of}
 use Rattle.ct_sched.specs.Sched.{SchedRow}
+use Rattle.ct_threads.specs.Steps.{no_bank, is_word_of_ram}
 use Rattle.ct_engine.specs.Seen as engine
 use Rattle.ct_engine.specs.Seen.{Seen}
 use Rattle.ct_execute.specs.declared.ran.Ran.{Ran}
@@ -30,21 +32,20 @@ use Rattle.ct_execute.specs.Deciding.{act_by, Decision, Goes, Returns, Serves, T
 use Rattle.ct_machine.specs.Parts.{state_by, IsKept, IsCounted}
 use Rattle.def_words.specs.Authority.{cap_address}
 use Rattle.def_step.specs.Checks.{first_failed}
-use Rattle.def_step.specs.Instructions.{fetch_checks, next_at}
 use Rattle.def_step.specs.Operands.{class_of}
-use Rattle.ct_engine.specs.Steps.{no_bank, is_word_of_ram}
 use Rattle.ct_loadstore.specs.Shapes.{space_of}
 use Rattle.ct_execute.specs.Quiet.{goes_quietly, goes_at, goes_by, jump_by, jumps_whole, offset_of}
 use Rattle.ct_machine.specs.Going.{silence, runner_goes, steps_quietly}
+use Rattle.ct_machine.specs.Quiet.{has_sweep}
 use Rattle.ct_machine.proofs.Carried.{came}
 use Rattle.ct_machine.proofs.Keeping.{machine_by, ran_kept, counted_so}
-use Rattle.ct_machine.proofs.Statuses.{thread_with}
+use Rattle.ct_machine.proofs.Statuses.{thread_with, ready_goes, end_none}
 use Rattle.ct_machine.proofs.Stepping.{carried_so, quietly_left}
 use Rattle.ct_machine.proofs.Taking.{ram_is, posture_with, not_pending, runs_scheduled}
 
 -- ---- what was decided
 
-quietly_decided : (D : Decision) (t : ℕ) (s : Seen) (k : Bank) (new : Seen) → WentQuietly D t s k new → Decided D t s k new k (Went None)
+quietly_decided : (D : Decision) (t : ℕ) (s : Seen) (k : DeviceStates) (new : Seen) → WentQuietly D t s k new → Decided D t s k new k (Went None)
 quietly_decided (Goes d entry) t s k new h = (h.0, h.1, ap (λ (o : Option Act). Went (option_map (act_by entry) o)) (sym h.2))
 quietly_decided Returns t s k new h = absurd h
 quietly_decided (Serves number) t s k new h = absurd h
@@ -55,7 +56,7 @@ set_posture [] t x is = refl
 set_posture (y ∷ ts) zero x is = is
 set_posture (y ∷ ts) (suc t) x is = set_posture ts t x is
 
-same_posture : (D : Decision) (t : ℕ) (s : Seen) (k : Bank) (new : Seen) → WentQuietly D t s k new → (engine.thread new t).posture ≡ (engine.thread s t).posture
+same_posture : (D : Decision) (t : ℕ) (s : Seen) (k : DeviceStates) (new : Seen) → WentQuietly D t s k new → (engine.thread new t).posture ≡ (engine.thread s t).posture
 same_posture (Goes d entry) t s k new h =
     ap (λ (x : Seen). (engine.thread x t).posture) h.0 ∙ set_posture s.threads t (jumped (get_or s.threads t nobody) d.pcc d.posture d.to d.value) h.3
 same_posture Returns t s k new h = absurd h
@@ -82,10 +83,10 @@ none_begun s new t runs still posture = ap (begun_since (holder s) new) (holder_
 
 -- ---- the written step, where no tick is pending and a thread runs
 
-goes_straight_on : (b : Board) (s : State) (t : ℕ) → s.pending ≡ false → s.running ≡ Some t → scheduled b (preempted (one_more_step s)) ≡ one_more_step s
+goes_straight_on : (b : Platform) (s : State) (t : ℕ) → s.pending ≡ false → s.running ≡ Some t → scheduled b (preempted (one_more_step s)) ≡ one_more_step s
 goes_straight_on b s t none runs = ap (scheduled b) (not_pending (one_more_step s) none) ∙ runs_scheduled b (one_more_step s) t runs
 
-goes_on_quietly : (b : Board) (s new : State) (t : ℕ) → s.pending ≡ false → s.running ≡ Some t → new.running ≡ Some t → (thread new t).posture ≡ (thread s t).posture
+goes_on_quietly : (b : Platform) (s new : State) (t : ℕ) → s.pending ≡ false → s.running ≡ Some t → new.running ≡ Some t → (thread new t).posture ≡ (thread s t).posture
     → (new, None) ≡ run_on b (one_more_step s) → (new, silence) ≡ happens b s Step
 goes_on_quietly b s new t none runs still posture is =
     ap (λ (o : Option Owned). (new, record { deed = None; off = o })) (sym (none_begun s new t runs still posture))
@@ -118,7 +119,7 @@ goes_alike w s ram gs =
     ap (λ (b : Bool). is_none (first_failed (fetch_checks w.pcc)) && (is_word_of_ram ram gs (cap_address w.pcc) && b))
     (at_alike w s ram gs (next_at (space_of ram gs no_bank 0) (cap_address w.pcc)))
 
-module _ (i : Image) (e : Seen) (r : SchedRow) (k : Bank) (pending : Bool) (time : ℕ) (c : Counts) where
+module _ (i : Image) (e : Seen) (r : SchedRow) (k : DeviceStates) (pending : Bool) (time : ℕ) (c : Counts) where
   abbrev here : MachineRow
   here = machine_by i e r k pending time c
 
@@ -143,11 +144,11 @@ module _ (i : Image) (e : Seen) (r : SchedRow) (k : Bank) (pending : Bool) (time
 
 -- ---- what the code leaves
 
-module _ (i : Image) (e new : Seen) (r : SchedRow) (k : Bank) (pending : Bool) (time : ℕ) (c : Counts) (t : ℕ)
+module _ (i : Image) (e new : Seen) (r : SchedRow) (k : DeviceStates) (pending : Bool) (time : ℕ) (c : Counts) (t : ℕ)
     (kept : IsKept i e r) (runs : Some t ≡ e.running)
     (quiet : WentQuietly (decision i.entries e t k time) t e k new)
     (stays : Stays e new) where
-  abbrev board : Board
+  abbrev board : Platform
   board = record { image = i; bases = k.bases }
 
   abbrev one_more : Counts
@@ -179,3 +180,22 @@ module _ (i : Image) (e new : Seen) (r : SchedRow) (k : Bank) (pending : Bool) (
   quietly_is after none counts =
       ap (λ (s : State). (s, silence)) counts
       ∙ goes_on_quietly board (state_by e r pending k.states time c) (state_by new r pending k.states time one_more) t none (sym runs) (ap (λ (x : Seen). x.running) stays.beside ∙ sym runs) still_posture quietly_run
+
+-- ---- whether the instruction was carried out or not
+
+pub kept_after : (i : Image) (e new : Seen) (r : SchedRow) (k : DeviceStates) (pending : Bool) (time : ℕ) (c : Counts) (t : ℕ) → IsKept i e r → IsCounted c time e.next → Some t ≡ e.running → Stays e new
+    → (went : Bool) → (went ≡ true → WentQuietly (decision i.entries e t k time) t e k new) → (went ≡ false → new ≡ e) → IsKept i new r × IsCounted c time new.next
+kept_after i e new r k pending time c t kept counted runs stays true quiet same = quietly_kept i e new r k pending time c t kept runs (quiet refl) stays counted
+kept_after i e new r k pending time c t kept counted runs stays false quiet same =
+    subst (λ (x : Seen). IsKept i x r × IsCounted c time x.next) (sym (same refl)) (kept, counted)
+
+-- whether a sweep has work stays as it was
+pub sweep_stays : (e new : Seen) (r : SchedRow) (pending : Bool) (devices : List DeviceState) (time : ℕ) (c : Counts) → Stays e new
+    → has_sweep (state_by new r pending devices time c) ≡ has_sweep (state_by e r pending devices time c)
+sweep_stays e new r pending devices time c stays = ap (λ (x : Seen). is_some x.front || has_quarantined x.objects) stays.beside
+
+-- where a thread runs the machine has come to no end
+pub none_ended : (i : Image) (e : Seen) (r : SchedRow) (pending : Bool) (devices : List DeviceState) (time : ℕ) (c : Counts) (t : ℕ) → IsKept i e r → Some t ≡ e.running
+    → end_of (state_by e r pending devices time c) ≡ None
+none_ended i e r pending devices time c t kept runs =
+    sym (end_none (state_by e r pending devices time c) e.threads r.statuses refl kept.statuses (ready_goes r.statuses t (kept.ready t (sym runs))))

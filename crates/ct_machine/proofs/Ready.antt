@@ -2,15 +2,15 @@
 use Rattle.std.proofs.Common.{ℕ, ◌≡◌, ◌&&◌, ◌<◌, Bool, not, false, List, length, Option, Some, None, sym, subst}
 use Rattle.law_lists.proofs.Tests.{chosen}
 use Rattle.ct_entry.specs.Listed.{Listed}
-use Rattle.def_guarded.specs.Guarded.{Guarded}
+use Rattle.def_events.specs.Guarded.{Guarded}
 use Rattle.def_confined.specs.Confined.{Confined}
 use Rattle.def_confined.specs.Holding.{EndsFit}
 use Rattle.def_machine.specs.Image.{Image, handler_entry}
 use Rattle.def_machine.specs.State.{State, DeviceState, Counts, thread}
-use Rattle.def_machine.specs.Board.{Board, MachineRow}
+use Rattle.def_machine.specs.Platform.{Platform, MachineRow}
 use Rattle.def_step.specs.Events.{preempted_from, preempted, scheduled, one_more_step}
 use Rattle.law_events.proofs.Events.{ready_keeps}
-use Rattle.ct_exports.specs.Exports.{AreSorted}
+use Rattle.ct_switch.specs.Exports.{AreSorted}
 use Rattle.ct_sched.specs.Sched.{SchedRow}
 use Rattle.ct_engine.specs.Seen as engine
 use Rattle.ct_engine.specs.Seen.{Seen}
@@ -19,7 +19,7 @@ use Rattle.ct_engine.specs.Handling.{MayHandle}
 use Rattle.law_callable.specs.Showing.{IsOfSound}
 use Rattle.law_callable.proofs.Calls.{handlers_asked}
 use Rattle.ct_machine.specs.Parts.{state_by, IsKept}
-use Rattle.law_tokens.proofs.Events.{ready_fit}
+use Rattle.law_history.proofs.TokensEvents.{ready_fit}
 use Rattle.ct_machine.specs.Going.{MayGoOn}
 use Rattle.ct_machine.proofs.Calling.{shows_caller}
 use Rattle.ct_machine.proofs.Opened.{tops}
@@ -34,7 +34,7 @@ ends_fit s new h is = subst EndsFit (sym is) (ends_from (one_more_step s) s.runn
 pub may_go_on : (m n : MachineRow) → Guarded m → n.board ≡ m.board → n.state ≡ scheduled m.board (preempted (one_more_step m.state)) → MayGoOn n
 may_go_on m n g board state = whole n.board n.state board state
   where
-    whole : (b : Board) (s : State) → b ≡ m.board → s ≡ scheduled m.board (preempted (one_more_step m.state)) → MayGoOn (record { board = b; state = s })
+    whole : (b : Platform) (s : State) → b ≡ m.board → s ≡ scheduled m.board (preempted (one_more_step m.state)) → MayGoOn (record { board = b; state = s })
     whole b s is_board is_state = rw (is_board, is_state) (record { shut = g.shut; facts = g.facts; keeps = ready_keeps m.board m.state g.partitioned g.keeps; rows = ready_fit m.board m.state g.rows })
 
 -- what the trap of a thread of a confined state asks, of its compartment's error handler

@@ -17,13 +17,13 @@ use Rattle.def_machine.specs.State.{State, Thread, Counts, thread, register}
 use Rattle.def_machine.specs.Registers as registers
 use Rattle.def_machine.specs.Threads as threads
 use Rattle.def_machine.specs.Threads.{with_statuses}
-use Rattle.def_step.specs.Devices.{Bank}
+use Rattle.def_step.specs.Devices.{DeviceStates}
 use Rattle.def_step.specs.Checks.{Check, first_failed}
 use Rattle.def_step.specs.Switch.{return_checks}
 use Rattle.def_step.specs.Routines as routine
 use Rattle.def_step.specs.Routines.{Traps, Leaves, checked, answered, answers, code, stops, waits, wakes, word_checks, sleep, wait, wake}
 use Rattle.def_step.specs.Instructions.{ran}
-use Rattle.def_machine.specs.Board.{Board, MachineRow}
+use Rattle.def_machine.specs.Platform.{Platform, MachineRow}
 use Rattle.ct_sched.specs.Sched as sched
 use Rattle.ct_sched.specs.Sched.{SchedRow}
 use Rattle.ct_engine.specs.Seen as engine
@@ -77,8 +77,8 @@ woken_ready address most ss t is = elim (lt_tells t (length ss)) [
   | inr past ↦ absurd (let clash : Ended ≡ Ready = sym (get_or_past ss t Ended past.1) ∙ is in cc)
 ]
 
-module _ (i : Image) (e : Seen) (r : SchedRow) (k : Bank) (pending : Bool) (time : ℕ) (c : Counts) (t : ℕ) (kept : IsKept i e r) where
-  abbrev board : Board
+module _ (i : Image) (e : Seen) (r : SchedRow) (k : DeviceStates) (pending : Bool) (time : ℕ) (c : Counts) (t : ℕ) (kept : IsKept i e r) where
+  abbrev board : Platform
   board = record { image = i; bases = k.bases }
 
   abbrev here : State

@@ -10,18 +10,18 @@ use Rattle.def_machine.specs.Image.{Image}
 use Rattle.def_machine.specs.State.{Thread, no_counts}
 use Rattle.def_machine.specs.Threads.{with_statuses}
 use Rattle.def_sched.specs.declared.Status.TheVariants.{Ready}
-use Rattle.def_step.specs.Devices.{Bank}
-use Rattle.def_machine.specs.Board.{MachineRow}
+use Rattle.def_step.specs.Devices.{DeviceStates}
+use Rattle.def_machine.specs.Platform.{MachineRow}
 use Rattle.def_image.specs.Parts.{ThreadRow, PartsRow}
 use Rattle.def_image.specs.Sound.{Sound}
 use Rattle.def_boot.specs.Gates.{entries_of}
 use Rattle.def_boot.specs.Entries as listed
-use Rattle.law_listed.proofs.Few.{few_entries}
+use Rattle.law_boot.proofs.Few.{few_entries}
 use Rattle.def_boot.specs.Boot.{boot_state, booted_machine, first_thread, first_threads, image_of}
 use Rattle.def_boot.specs.Contents.{boot_granules, granules_from, granules_in}
+use Rattle.ct_threads.specs.Steps.{IsHeapPlaced}
 use Rattle.ct_engine.specs.Seen.{Seen}
 use Rattle.ct_engine.specs.Written.{HasHeap}
-use Rattle.ct_engine.specs.Steps.{IsHeapPlaced}
 use Rattle.ct_sched.specs.Sched.{SchedRow}
 use Rattle.ct_boot.specs.Launching.{launched}
 use Rattle.ct_boot.specs.Placed.{ArePlaced}
@@ -35,14 +35,14 @@ ready_with : (p : PartsRow) (n : ℕ) (ts : List ThreadRow) → with_statuses (f
 ready_with p n [] = refl
 ready_with p n (t ∷ ts) = ap (λ (us : List Thread). first_thread p n t ∷ us) (ready_with p (n + 1) ts)
 
-abbrev pub row_of : Image → Seen → SchedRow → Bank → MachineRow
+abbrev pub row_of : Image → Seen → SchedRow → DeviceStates → MachineRow
 row_of i e r k = machine_by i e r k false 0 no_counts
 
 booted_is : (p : PartsRow) (limits : List ℕ) → row_of (image_of p) (launched p limits) (rows_of p) (bank_of p) ≡ booted_machine p
 unfolding boot_state
 booted_is p limits = rw (ready_with p 0 p.threads) refl
 
-pub started_is : (p : PartsRow) (limits : List ℕ) (i : Image) (e : Seen) (r : SchedRow) (k : Bank) → i ≡ image_of p → e ≡ launched p limits → r ≡ rows_of p → k ≡ bank_of p → row_of i e r k ≡ booted_machine p
+pub started_is : (p : PartsRow) (limits : List ℕ) (i : Image) (e : Seen) (r : SchedRow) (k : DeviceStates) → i ≡ image_of p → e ≡ launched p limits → r ≡ rows_of p → k ≡ bank_of p → row_of i e r k ≡ booted_machine p
 started_is p limits i e r k image engine rows bank = rw (image, engine, rows, bank) (booted_is p limits)
 
 -- ---- what it keeps

@@ -6,7 +6,7 @@ use Rattle.std.specs.Prelude.{count_by}
 use Rattle.std.proofs.lemmas.List.Sums.{sum_by-cons}
 use Rattle.def_sched.specs.declared.Status.{Status}
 use Rattle.def_sched.specs.declared.Status.TheVariants.{Ready, Sleeping, Waiting, Ended}
-use Rattle.def_sched.specs.Statuses.{goes_on, is_ended, is_waiting, after_tick}
+use Rattle.def_sched.specs.Statuses.{goes_on, is_ended, is_waiting, after_tick, status_of}
 use Rattle.ct_entry.specs.declared.acts.End.TheVariants.{Finished, Idle}
 use Rattle.def_machine.specs.State.{State, Thread, nobody}
 use Rattle.def_machine.specs.Threads.{with_status, statuses_of, with_statuses, timed}
@@ -121,6 +121,20 @@ goes_with (x ∷ ts) (Sleeping n ∷ ss) e some = record { ended = refl; goes = 
 goes_with (x ∷ ts) (Waiting a ∷ ss) e some = more_go (with_status x (Waiting a)) (with_statuses ts ss) (goes_with ts ss (omega (arith, e)) (omega (arith, some)))
 goes_with (x ∷ ts) (Ended ∷ ss) e some = more_go (with_status x Ended) (with_statuses ts ss) (goes_with ts ss (omega (arith, e)) (omega (arith, some)))
 
+-- who is ready goes on
+pub ready_goes : (ss : List Status) (t : ℕ) → status_of ss t ≡ Ready → 0 < count_by goes_on ss
+ready_goes [] t is = absurd (let clash : Ended ≡ Ready = is in cc)
+ready_goes (s ∷ ss) zero is =
+    let weight : Status → ℕ = λ q. cond (goes_on q) 1 0 in
+    let more : count_by goes_on (s ∷ ss) ≡ weight s + count_by goes_on ss = sum_by-cons weight s ss in
+    let one : weight s ≡ 1 = ap weight is in
+    omega (arith, more, one)
+ready_goes (s ∷ ss) (suc t) is =
+    let weight : Status → ℕ = λ q. cond (goes_on q) 1 0 in
+    let more : count_by goes_on (s ∷ ss) ≡ weight s + count_by goes_on ss = sum_by-cons weight s ss in
+    let rest = ready_goes ss t is in
+    omega (arith, more, rest)
+
 -- where none goes on they have all ended, or one waits
 pub record NoneGoes (ts : List Thread) : Type 0 where
   pub waits : all_ended ts ≡ false → one_waits ts ≡ true
@@ -137,7 +151,7 @@ stays_with (x ∷ ts) (Ended ∷ ss) e none = let rest = stays_with ts ss (omega
 
 -- ---- whether the run has ended
 
-and_none : (b : Bool) → (b && false) ≡ false
+pub and_none : (b : Bool) → (b && false) ≡ false
 and_none true = refl
 and_none false = refl
 

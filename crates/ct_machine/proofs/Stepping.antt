@@ -3,9 +3,9 @@ use Rattle.std.proofs.Common.{ℕ, ◌≡◌, ◌<◌, Bool, true, false, List, 
 use Rattle.ct_entry.specs.declared.acts.Deed.{Deed}
 use Rattle.def_machine.specs.Image.{Image}
 use Rattle.def_machine.specs.State.{State, Frame, Counts, thread}
-use Rattle.def_step.specs.Devices.{Bank}
+use Rattle.def_step.specs.Devices.{DeviceStates}
 use Rattle.def_step.specs.Instructions.{actor_of, executed}
-use Rattle.def_machine.specs.Board.{Board, MachineRow}
+use Rattle.def_machine.specs.Platform.{Platform, MachineRow}
 use Rattle.def_step.specs.Events.{continued, run_on, noted}
 use Rattle.ct_sched.specs.Sched.{SchedRow}
 use Rattle.ct_engine.specs.Seen as engine
@@ -17,7 +17,7 @@ use Rattle.ct_machine.specs.Going.{MayGoOn, Runs, MayEnd, CameTo, finished, is_q
 use Rattle.ct_machine.proofs.Keeping.{machine_by, unfinished_map}
 use Rattle.ct_machine.proofs.Taking.{frames_with}
 
-module _ (i : Image) (e : Seen) (r : SchedRow) (k : Bank) (pending : Bool) (time : ℕ) (c : Counts) (t : ℕ) where
+module _ (i : Image) (e : Seen) (r : SchedRow) (k : DeviceStates) (pending : Bool) (time : ℕ) (c : Counts) (t : ℕ) where
   abbrev machine : MachineRow
   machine = machine_by i e r k pending time c
 
@@ -31,7 +31,7 @@ pub ends_by : (m n : MachineRow) (t actor : ℕ) (ran : Ran) (whole : State × O
 ends_by m n t actor ran whole may runs acts came =
     unfinished_map ran (n ≡ m) (MayEnd n t actor) (λ same. subst (λ (x : MachineRow). MayEnd x t actor) (sym same) (record { may = may; runs = runs; acts = acts })) came.unfinished
 
-quiet_finished : (b : Board) (t actor : ℕ) (s : State) (ran : Ran) → is_quiet ran ≡ true → finished b t actor s ran ≡ (s, None)
+quiet_finished : (b : Platform) (t actor : ℕ) (s : State) (ran : Ran) → is_quiet ran ≡ true → finished b t actor s ran ≡ (s, None)
 quiet_finished b t actor s (Went None) quiet = refl
 quiet_finished b t actor s (Went (Some acted)) quiet = absurd (let clash : false ≡ true = quiet in cc)
 quiet_finished b t actor s Returned quiet = absurd (let clash : false ≡ true = quiet in cc)
@@ -46,7 +46,7 @@ pub carried_so : (m n : MachineRow) (t actor : ℕ) (ran : Ran) (after : State) 
     → CameTo m n t ran (executed m.board m.state t) → (after, d) ≡ noted (finished n.board t actor n.state ran) → (after, d) ≡ run_on m.board m.state
 carried_so m n t actor ran after d runs acts came left =
     left
-    ∙ ap (λ (b : Board). noted (finished b t actor n.state ran)) came.board
+    ∙ ap (λ (b : Platform). noted (finished b t actor n.state ran)) came.board
     ∙ ap (λ k. noted (finished m.board t k n.state ran)) acts
     ∙ ap noted came.is
     ∙ ap (continued m.board m.state) (sym runs)

@@ -6,25 +6,25 @@ use Rattle.def_words.specs.declared.Cap.{Cap}
 use Rattle.def_words.specs.declared.Posture.{Posture}
 use Rattle.def_memory.specs.declared.Granule.{Granule}
 use Rattle.def_sched.specs.declared.Status.TheVariants.{Ready}
-use Rattle.def_guarded.specs.Guarded.{Guarded}
+use Rattle.def_events.specs.Guarded.{Guarded}
 use Rattle.def_confined.specs.Keeps.{Keeps}
 use Rattle.def_confined.specs.Partitioned.{Partitioned}
-use Rattle.def_facts.specs.Facts.{RootsAway}
+use Rattle.def_confined.specs.Facts.{RootsAway}
 use Rattle.def_machine.specs.Image.{Image}
 use Rattle.def_machine.specs.State.{State, Thread, Frame, Object, Counts, thread, nobody}
 use Rattle.def_machine.specs.Objects.{Each, has_quarantined, painted}
 use Rattle.def_machine.specs.Heap as heap
 use Rattle.def_machine.specs.Slices.{kept_threads, marks_cleared}
 use Rattle.def_machine.specs.Threads.{Clockwork, with_status}
-use Rattle.def_step.specs.Devices.{Bank}
-use Rattle.def_machine.specs.Board.{Board, MachineRow}
+use Rattle.def_step.specs.Devices.{DeviceStates}
+use Rattle.def_machine.specs.Platform.{Platform, MachineRow}
 use Rattle.def_step.specs.Events.{happens, holder, holder_by, begun_since, swept_on}
 use Rattle.def_step.specs.declared.Event.TheVariants.{Sweep}
 use Rattle.law_lists.proofs.Tests.{eq_tells}
-use Rattle.law_turns.proofs.Moves.{clock_confined}
-use Rattle.law_sweeps.proofs.Moves.{clock_beside}
-use Rattle.law_sweeps.specs.Clean.{SavedClean, StoppedClean, IsClean}
-use Rattle.law_sweeps.proofs.Ending.{ends_clean}
+use Rattle.law_moves.proofs.TurnsMoves.{clock_confined}
+use Rattle.law_moves.proofs.SweepsMoves.{clock_beside}
+use Rattle.def_confined.specs.Stale.{SavedClean, StoppedClean, IsClean}
+use Rattle.law_moves.proofs.Ending.{ends_clean}
 use Rattle.law_hidden.proofs.Slices.{kept_length}
 use Rattle.ct_sched.specs.Sched.{SchedRow}
 use Rattle.ct_engine.specs.Seen as engine
@@ -127,7 +127,7 @@ swept_next e new rate is = ap (λ (x : Seen). x.next) is ∙ (swept_stays e rate
 
 -- ---- what it asks where it ends
 
-module _ (i : Image) (e : Seen) (r : SchedRow) (k : Bank) (pending : Bool) (time : ℕ) (c : Counts) (kept : IsKept i e r) where
+module _ (i : Image) (e : Seen) (r : SchedRow) (k : DeviceStates) (pending : Bool) (time : ℕ) (c : Counts) (kept : IsKept i e r) where
   abbrev here : State
   here = state_by e r pending k.states time c
 
@@ -193,10 +193,10 @@ counted_keeps i s new h is =
 pub may_sweep : (m n : MachineRow) → Guarded m → n.board ≡ m.board → n.state ≡ one_more_sweep m.state → MaySweep n
 may_sweep m n g board state = whole n.board n.state board state
   where
-    whole : (b : Board) (s : State) → b ≡ m.board → s ≡ one_more_sweep m.state → MaySweep (record { board = b; state = s })
+    whole : (b : Platform) (s : State) → b ≡ m.board → s ≡ one_more_sweep m.state → MaySweep (record { board = b; state = s })
     whole b s is_board is_state = rw is_board (record { parts = g.partitioned; away = g.facts.away; keeps = counted_keeps m.board.image m.state s g.keeps is_state })
 
-pub swept_as : (b : Board) (s mid new : State) → mid ≡ one_more_sweep s → new ≡ heap.swept b.image mid → new ≡ swept_on b s
+pub swept_as : (b : Platform) (s mid new : State) → mid ≡ one_more_sweep s → new ≡ heap.swept b.image mid → new ≡ swept_on b s
 swept_as b s mid new is after = after ∙ ap (λ (m : State). heap.swept b.image m) is
 
 -- ---- a sweep tells nothing
@@ -248,7 +248,7 @@ none_begins : (s : State) (o : Option (ℕ × ℕ)) → begun_since o s o ≡ No
 none_begins s None = refl
 none_begins s (Some h) = rw (same_number h.0, same_number h.1) refl
 
-pub sweep_silent : (b : Board) (s : State) → (happens b s Sweep).1 ≡ silence
+pub sweep_silent : (b : Platform) (s : State) → (happens b s Sweep).1 ≡ silence
 sweep_silent b s =
     let counted : State = one_more_sweep s in
     let stays : holder (swept_on b s) ≡ holder s = holder_stays counted (heap.swept b.image counted) (swept_postures b.image counted) in
@@ -257,7 +257,7 @@ sweep_silent b s =
     told_with : Option Owned → Happened
     told_with o = record { deed = None; off = o }
 
-pub both_told : (b : Board) (s new : State) → new ≡ (happens b s Sweep).0 → (happens b s Sweep).1 ≡ silence → (new, silence) ≡ happens b s Sweep
+pub both_told : (b : Platform) (s new : State) → new ≡ (happens b s Sweep).0 → (happens b s Sweep).1 ≡ silence → (new, silence) ≡ happens b s Sweep
 both_told b s new is told = ap (λ (n : State). pair n silence) is ∙ ap (λ (h : Happened). pair (happens b s Sweep).0 h) (sym told)
   where
     pair : State → Happened → State × Happened

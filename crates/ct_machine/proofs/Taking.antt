@@ -15,7 +15,7 @@ use Rattle.def_machine.specs.State.{State, Thread, Frame, DeviceState, Counts, t
 use Rattle.def_machine.specs.Threads.{with_statuses, picked_with}
 use Rattle.def_machine.specs.Memory.{filtered_in}
 use Rattle.def_step.specs.Instructions.{actor_of}
-use Rattle.def_machine.specs.Board.{Board}
+use Rattle.def_machine.specs.Platform.{Platform}
 use Rattle.def_step.specs.Events.{preempted_from, preempted, picked_as, picked_from, scheduled, interrupted, holder_by, holder, is_holder, begun_since, begun, ticked, told_of}
 use Rattle.ct_sched.specs.Sched.{SchedRow, after_pick}
 use Rattle.ct_sched.specs.Sched as sched
@@ -135,10 +135,10 @@ module _ (e : Seen) (r : SchedRow) (pending : Bool) (devices : List DeviceState)
 
 -- ---- a thread is picked
 
-pub runs_scheduled : (b : Board) (s : State) (t : ℕ) → s.running ≡ Some t → scheduled b s ≡ s
+pub runs_scheduled : (b : Platform) (s : State) (t : ℕ) → s.running ≡ Some t → scheduled b s ≡ s
 runs_scheduled b s t runs = ap (picked_from b s) runs
 
-module _ (b : Board) (e : Seen) (r : SchedRow) (pending : Bool) (devices : List DeviceState) (time : ℕ) (counts : Counts) where
+module _ (b : Platform) (e : Seen) (r : SchedRow) (pending : Bool) (devices : List DeviceState) (time : ℕ) (counts : Counts) where
   pub picks_as : (o : Option ℕ) → IsKept b.image e r → e.running ≡ None → pick r.priorities r.statuses r.order ≡ o
       → scheduled b (state_by e r pending devices time counts) ≡ picked_as b (state_by e r pending devices time counts) o
   picks_as o kept idle is =

@@ -10,14 +10,14 @@ use Rattle.def_words.specs.declared.Trap as words
 use Rattle.def_machine.specs.Rows.{RowsFit}
 use Rattle.def_confined.specs.Keeps.{Keeps}
 use Rattle.def_confined.specs.Partitioned.{Partitioned}
-use Rattle.def_facts.specs.Facts.{Facts, RootsAway}
+use Rattle.def_confined.specs.Facts.{Facts, RootsAway}
 use Rattle.def_hidden.specs.Hidden.{Shut}
 use Rattle.def_machine.specs.State as state
 use Rattle.def_machine.specs.State.{State}
 use Rattle.def_machine.specs.Threads.{timed}
 use Rattle.def_sched.specs.declared.Status.TheVariants.{Ended}
 use Rattle.def_sched.specs.Statuses.{asleep}
-use Rattle.def_machine.specs.Board.{MachineRow, Board}
+use Rattle.def_machine.specs.Platform.{MachineRow, Platform}
 use Rattle.def_step.specs.Handlers.{handler_value, return_taken}
 use Rattle.def_step.specs.Instructions.{actor_of, trapped, served}
 use Rattle.def_step.specs.Native.{native}
@@ -167,7 +167,7 @@ deed_by t actor (Trapped why) =
 
 -- What is left to do in this state, where `actor` was the innermost frame's compartment before the instruction: a frame
 -- ends, or its error handler is entered, or a native routine runs; and the deed is told.
-abbrev pub finished : Board → ℕ → ℕ → State → Ran → State × Option Deed
+abbrev pub finished : Platform → ℕ → ℕ → State → Ran → State × Option Deed
 finished b t actor s (Went acted) = (s, deed_by t actor (Went acted))
 finished b t actor s Returned = (return_taken b.image s t (state.thread s t).frames, None)
 finished b t actor s (Native number) = served b s t (native b.image s t number)

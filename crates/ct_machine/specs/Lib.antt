@@ -1,3 +1,4 @@
 pub mod Parts
 pub mod Going
 pub mod Starting
+pub mod Quiet

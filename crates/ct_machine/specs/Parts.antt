@@ -7,9 +7,9 @@ use Rattle.def_machine.specs.Image.{Image, root}
 use Rattle.def_machine.specs.State.{State, DeviceState, Counts}
 use Rattle.def_machine.specs.Threads.{with_statuses}
 use Rattle.def_reach.specs.Roots.{is_quota}
+use Rattle.ct_threads.specs.Steps.{IsHeapPlaced}
 use Rattle.ct_engine.specs.Seen.{Seen, region_of}
 use Rattle.ct_engine.specs.Written.{HasHeap}
-use Rattle.ct_engine.specs.Steps.{IsHeapPlaced}
 use Rattle.ct_boot.specs.Placed.{ArePlaced}
 use Rattle.ct_sched.specs.Sched.{SchedRow}
 

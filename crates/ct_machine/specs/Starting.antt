@@ -4,7 +4,7 @@ use Rattle.ct_entry.specs.Listed.{Listed, DeviceRow}
 use Rattle.ct_entry.specs.declared.rows.Entry.{Entry}
 use Rattle.def_sched.specs.declared.Status.TheVariants.{Ready}
 use Rattle.def_sched.specs.Picks.{first_order}
-use Rattle.def_step.specs.Devices.{Bank}
+use Rattle.def_step.specs.Devices.{DeviceStates}
 use Rattle.def_machine.specs.State.{fresh_device}
 use Rattle.def_image.specs.Parts.{ThreadRow, PartsRow}
 use Rattle.def_image.specs.Sound.{Sound}
@@ -12,13 +12,13 @@ use Rattle.def_boot.specs.Boot.{image_of}
 use Rattle.ct_sched.specs.Sched.{SchedRow}
 
 -- devices at rest
-abbrev pub at_rest : List DeviceRow → Bank
+abbrev pub at_rest : List DeviceRow → DeviceStates
 at_rest ds = record {
   bases = map (λ (d : DeviceRow). d.base) ds;
   states = map (λ (d : DeviceRow). fresh_device d.kind) ds;
 }
 
-abbrev pub bank_of : PartsRow → Bank
+abbrev pub bank_of : PartsRow → DeviceStates
 bank_of p = at_rest p.devices
 
 abbrev pub priorities_of : List ThreadRow → List ℕ

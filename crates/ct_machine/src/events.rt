@@ -1,23 +1,22 @@
-//! What an event does to an engine.
+//! What an event does to a machine.
 
-ghost use Rattle.std.specs.Prelude.{◌≡◌, ◌≤◌, ◌<◌, IsTrue, true, false};
+ghost use Rattle.std.specs.Prelude.{◌≡◌, ◌≤◌, ◌<◌, IsTrue};
 ghost use Rattle.def_profile.specs.declared.limits.TheConstants.{MOST_STEPS};
-ghost use Rattle.def_guarded.specs.Guarded.{Guarded};
+ghost use Rattle.def_events.specs.Guarded.{Guarded};
 ghost use Rattle.def_machine.specs.Heap.{swept};
 ghost use Rattle.def_step.specs.Events.{happens, is_lawful, one_more_step};
 ghost use Rattle.def_step.specs.declared.Event.TheVariants as event;
-ghost use Rattle.ct_machine.specs.Going.{MaySweep, clock_on, sleepers_on, one_more_sweep, silence, steps_quietly};
+ghost use Rattle.ct_machine.specs.Going.{MaySweep, clock_on, sleepers_on, one_more_sweep, silence};
 ghost use Rattle.ct_machine.specs.Parts.{deeds_of};
 
-use crate::engine::Engine;
+use crate::parts::Parts;
 use ct_entry::Happened;
-use ct_execute::execute_quietly;
 use ct_mem::Memory;
 use def_step::Event;
 
-impl<M: Memory + Drop> Engine<M> {
+impl<M: Memory + Drop> Parts<M> {
     /// A step counts.
-    fn count_step(&mut self)
+    pub(crate) fn count_step(&mut self)
         requires { self.old.state.counts.steps < MOST_STEPS }
         ensures state { self.new.state ≡ one_more_step self.old.state }
         ensures board { self.new.board ≡ self.old.board }
@@ -41,33 +40,6 @@ impl<M: Memory + Drop> Engine<M> {
         let deed = self.carry_on();
         let off = self.begun(before);
         Happened { deed, off }
-    }
-
-    /// The same exactly where no tick is pending, a thread runs, and `execute_quietly` carries its instruction out:
-    /// `true`, and the step tells nothing. Else `false`, and nothing changes.
-    #[inline(always)]
-    pub(crate) fn step_quietly(&mut self) -> bool
-        requires guarded { Guarded self.old }
-        requires lawful { IsTrue (is_lawful self.old.state event.Step) }
-        ensures when { result ≡ steps_quietly self.old }
-        ensures is { result ≡ true
-            → (self.new.state, silence) ≡ happens self.old.board self.old.state event.Step }
-        ensures same { result ≡ false → self.new.state ≡ self.old.state }
-        ensures board { self.new.board ≡ self.old.board }
-    {
-        if self.pending {
-            return false;
-        }
-        match self.threads.running() {
-            Some(t) => {
-                if !execute_quietly(&mut self.threads, t, &mut self.decoded) {
-                    return false;
-                }
-                self.count_step();
-                true
-            }
-            None => false,
-        }
     }
 
     /// A tick counts, and time goes on.
@@ -103,7 +75,7 @@ impl<M: Memory + Drop> Engine<M> {
     }
 
     /// A sweep counts.
-    fn count_sweep(&mut self)
+    pub(crate) fn count_sweep(&mut self)
         requires { self.old.state.counts.sweeps < MOST_STEPS }
         ensures state { self.new.state ≡ one_more_sweep self.old.state }
         ensures board { self.new.board ≡ self.old.board }
@@ -117,7 +89,7 @@ impl<M: Memory + Drop> Engine<M> {
         ensures state { self.new.state ≡ swept self.old.board.image self.old.state }
         ensures board { self.new.board ≡ self.old.board }
     {
-        self.threads.sweep(self.plan.sweep());
+        self.engine.sweep(self.plan.sweep());
     }
 
     /// One slice of the revoker, as an event, which tells nothing.

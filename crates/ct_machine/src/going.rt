@@ -7,14 +7,14 @@ ghost use Rattle.ct_engine.specs.Seen.{thread};
 ghost use Rattle.ct_engine.specs.Calls.{TopLies};
 ghost use Rattle.ct_engine.specs.Handling.{MayHandle};
 ghost use Rattle.ct_execute.specs.Deciding.{IfUnfinished, RanInRange};
-ghost use Rattle.ct_exports.specs.Exports.{AreSorted};
+ghost use Rattle.ct_switch.specs.Exports.{AreSorted};
 ghost use Rattle.ct_machine.specs.Going.{MayGoOn, Runs, MayEnd, CameTo, IsDone, finished};
 ghost use Rattle.ct_machine.specs.Going.{return_at, trap_at, goes_trapped, left_after, goes_after, status_after};
 ghost use Rattle.ct_machine.specs.Going.{deed_by, is_quiet};
 ghost use Rattle.ct_machine.specs.Parts.{deeds_of};
 
-use crate::engine::Engine;
-use ct_engine::Engine as Threads;
+use crate::parts::Parts;
+use ct_engine::Engine;
 use ct_entry::{Act, Deed, Entries};
 use ct_execute::{Ran, execute};
 use ct_mem::Memory;
@@ -23,58 +23,58 @@ use def_words::Trap;
 
 /// The running thread returned: its innermost frame ends, by its error handler where that was entered. `false` exactly
 /// where it has none left.
-fn take_return<M: Memory + Drop>(threads: &mut Threads<M>, t: u32, entries: &Entries) -> bool
-    requires runs { threads.old.running ≡ Some t }
-    requires top { TopLies threads.old t }
+fn take_return<M: Memory + Drop>(engine: &mut Engine<M>, t: u32, entries: &Entries) -> bool
+    requires runs { engine.old.running ≡ Some t }
+    requires top { TopLies engine.old t }
     requires sorted { AreSorted entries.now.gates }
-    ensures result { result ≡ nat_lt 1 (length (thread threads.old t).frames) }
-    ensures is { threads.new ≡ return_at threads.old entries.now t }
+    ensures result { result ≡ nat_lt 1 (length (thread engine.old t).frames) }
+    ensures is { engine.new ≡ return_at engine.old entries.now t }
 {
-    if threads.is_handling(t) {
-        return threads.end_handler(t, entries);
+    if engine.is_handling(t) {
+        return engine.end_handler(t, entries);
     }
-    threads.return_to_caller(t, entries)
+    engine.return_to_caller(t, entries)
 }
 
 /// The running thread trapped: it enters its compartment's error handler, this export, or its innermost frame is
 /// unwound. `false` exactly where it has none left.
 fn take_trap<M: Memory + Drop>(
-    threads: &mut Threads<M>,
+    engine: &mut Engine<M>,
     t: u32,
     entries: &Entries,
     handler: u32,
     trap: Trap,
 ) -> bool
-    requires runs { threads.old.running ≡ Some t }
-    requires may { MayHandle threads.old t entries.now handler }
-    ensures result { result ≡ goes_trapped threads.old t handler }
-    ensures is { threads.new ≡ trap_at threads.old entries.now t handler trap }
+    requires runs { engine.old.running ≡ Some t }
+    requires may { MayHandle engine.old t entries.now handler }
+    ensures result { result ≡ goes_trapped engine.old t handler }
+    ensures is { engine.new ≡ trap_at engine.old entries.now t handler trap }
 {
-    if threads.handle(t, entries, handler, trap) {
+    if engine.handle(t, entries, handler, trap) {
         return true;
     }
-    threads.unwind(t, entries)
+    engine.unwind(t, entries)
 }
 
 /// Where the running thread returned or trapped, its innermost frame ends, or its compartment's error handler, this
 /// export, is entered. `false` exactly where it has no frame left.
 fn leave<M: Memory + Drop>(
-    threads: &mut Threads<M>,
+    engine: &mut Engine<M>,
     t: u32,
     entries: &Entries,
     handler: u32,
     ran: Ran,
 ) -> bool
     requires { IfUnfinished ran
-        ((threads.old.running ≡ Some t) × MayHandle threads.old t entries.now handler) }
-    ensures result { result ≡ goes_after ran threads.old t handler }
-    ensures is { threads.new
-        ≡ left_after ran threads.old entries.now t handler }
+        ((engine.old.running ≡ Some t) × MayHandle engine.old t entries.now handler) }
+    ensures result { result ≡ goes_after ran engine.old t handler }
+    ensures is { engine.new
+        ≡ left_after ran engine.old entries.now t handler }
 {
     match ran {
         Ran::Went { .. } | Ran::Native { .. } => true,
-        Ran::Returned => take_return(threads, t, entries),
-        Ran::Trapped { trap } => take_trap(threads, t, entries, handler, trap),
+        Ran::Returned => take_return(engine, t, entries),
+        Ran::Trapped { trap } => take_trap(engine, t, entries, handler, trap),
     }
 }
 
@@ -121,7 +121,7 @@ fn is_quiet(ran: Ran) -> bool
     matches!(ran, Ran::Went { done: None })
 }
 
-impl<M: Memory + Drop> Engine<M> {
+impl<M: Memory + Drop> Parts<M> {
     /// One instruction of the running thread.
     fn execute(&mut self, t: u32) -> Ran
         requires may { MayGoOn self.old }
@@ -131,7 +131,7 @@ impl<M: Memory + Drop> Engine<M> {
         ensures ranged { RanInRange result }
     {
         execute(
-            &mut self.threads,
+            &mut self.engine,
             t,
             self.plan.entries(),
             &mut self.bus,
@@ -167,7 +167,7 @@ impl<M: Memory + Drop> Engine<M> {
         ensures board { self.new.board ≡ self.old.board }
     {
         let handler = self.plan.handler(actor);
-        let goes = leave(&mut self.threads, t, self.plan.entries(), handler, ran);
+        let goes = leave(&mut self.engine, t, self.plan.entries(), handler, ran);
         end_unless(&mut self.sched, t, goes);
         let deed = deed_of(t, actor, ran);
         self.counts.count_deed(deed);
@@ -182,9 +182,9 @@ impl<M: Memory + Drop> Engine<M> {
         ensures is { (self.new.state, result) ≡ run_on self.old.board self.old.state }
         ensures board { self.new.board ≡ self.old.board }
     {
-        match self.threads.running() {
+        match self.engine.running() {
             Some(t) => {
-                let actor = self.threads.actor(t);
+                let actor = self.engine.actor(t);
                 let ran = self.run(t);
                 if is_quiet(ran) {
                     return None;

@@ -1,15 +1,18 @@
 //! The machine: threads of an image that take turns over its memory and devices.
 #![tactic(auto)]
 
-mod engine;
 mod events;
 mod going;
+mod known;
 mod machine;
+mod parts;
 mod plan;
+mod quiet;
 mod serving;
 mod starting;
 mod tally;
 mod turns;
 
 pub use def_step::Event;
+pub use known::Known;
 pub use machine::Machine;

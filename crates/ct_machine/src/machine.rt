@@ -1,7 +1,8 @@
-//! The machine: an engine whose state is confined.
+//! The machine: parts whose state is confined.
 
-ghost use Rattle.std.specs.Prelude.{ℕ, ◌≡◌, ◌≤◌, List, IsTrue, IfOk, true, false};
-ghost use Rattle.def_guarded.specs.Guarded.{Guarded};
+ghost use Rattle.std.specs.Prelude.{ℕ, ◌≡◌, ◌+◌, ◌≤◌, ◌<◌, List, IsTrue, IfOk, true, false};
+ghost use Rattle.def_profile.specs.declared.limits.TheConstants.{MOST_STEPS};
+ghost use Rattle.def_events.specs.Guarded.{Guarded};
 ghost use Rattle.def_boot.specs.Boot.{booted_machine};
 ghost use Rattle.def_confined.specs.Telling.{AllLicensed, IsLicensedEvent};
 ghost use Rattle.def_machine.specs.Image.{root};
@@ -11,11 +12,12 @@ ghost use Rattle.def_step.specs.declared.Event.TheVariants.{Step, Sweep};
 ghost use Rattle.def_events.specs.Upheld.{Upholds};
 ghost use Rattle.def_safety.specs.Each.{EachEvent};
 ghost use Rattle.def_step.specs.Events.{happenings_of, happens, run, is_lawful, end_of, totals_of};
-ghost use Rattle.def_boot_words.specs.Booting.{empty_granules};
+ghost use Rattle.def_boot.specs.Booting.{empty_granules};
 ghost use Rattle.def_safety.specs.Chunks.{SweptBeforeReuse, UnusedAfterFree};
 ghost use Rattle.ct_machine.specs.Going.{silence, steps_quietly};
+ghost use Rattle.ct_machine.specs.Quiet.{goes_on_quietly, WentRounds};
 
-use crate::engine::Engine;
+use crate::parts::Parts;
 use ct_entry::{End, Happened, Totals};
 use ct_image::Image;
 use ct_mem::Memory;
@@ -30,18 +32,18 @@ use std::marker::Model;
 /// code bytes are: the state is *Confined*, and what is hidden is zero (docs/claims/confinement.md).
 #[derive(Drop)]
 pub struct Machine<M: Memory + Drop> {
-    engine: Engine<M>,
+    parts: Parts<M>,
 }
 
 impl<M: Memory + Drop> Model for Machine<M> {
-    ghost use Rattle.def_guarded.specs.Guarded.{Guarded};
-    ghost use Rattle.def_machine.specs.Board.{MachineRow};
+    ghost use Rattle.def_events.specs.Guarded.{Guarded};
+    ghost use Rattle.def_machine.specs.Platform.{MachineRow};
 
     ghost Value = { MachineRow };
 
-    ghost view = { λ m. m.engine };
+    ghost view = { λ m. m.parts };
 
-    ghost invariant = { λ m. Guarded m.engine };
+    ghost invariant = { λ m. Guarded m.parts };
 }
 
 impl<M: Memory + Drop> Machine<M> {
@@ -56,8 +58,8 @@ impl<M: Memory + Drop> Machine<M> {
         ensures booted { IfOk result (λ m. m ≡ booted_machine image.now) }
         ensures guarded { IfOk result (λ m. Guarded m) }
     {
-        match Engine::start(alloc, image, mem) {
-            Ok(engine) => Ok(Machine { engine }),
+        match Parts::start(alloc, image, mem) {
+            Ok(parts) => Ok(Machine { parts }),
             Err(none) => Err(none),
         }
     }
@@ -67,7 +69,7 @@ impl<M: Memory + Drop> Machine<M> {
     pub fn lawful(&self, event: Event) -> bool
         ensures { result ≡ is_lawful self.now.state event }
     {
-        self.engine.lawful(event)
+        self.parts.lawful(event)
     }
 
     /// `Finished` exactly where every thread has ended, `Idle` exactly where one waits and none is
@@ -75,14 +77,14 @@ impl<M: Memory + Drop> Machine<M> {
     pub fn ended(&self) -> Option<End>
         ensures { result ≡ end_of self.now.state }
     {
-        self.engine.ended()
+        self.parts.ended()
     }
 
     /// The counts of the run so far, which ended so.
     pub fn totals(&self, end: End) -> Totals
         ensures { result ≡ totals_of self.now.state end }
     {
-        self.engine.totals(end)
+        self.parts.totals(end)
     }
 
     /// One event. It is lawful now. No event is refused, and none takes memory.
@@ -97,7 +99,7 @@ impl<M: Memory + Drop> Machine<M> {
         ensures guarded { Guarded self.new }
         ensures licensed { IsLicensedEvent self.old.board.image.entries result }
     {
-        self.engine.advance(event)
+        self.parts.advance(event)
     }
 
     /// A slice of a sweep, which is lawful now: what `advance` does of that event, which tells nothing.
@@ -108,7 +110,7 @@ impl<M: Memory + Drop> Machine<M> {
         ensures board { self.new.board ≡ self.old.board }
         ensures guarded { Guarded self.new }
     {
-        self.engine.sweep();
+        self.parts.sweep();
     }
 
     /// A step, which is lawful now, where it tells nothing and is one of the many that take no more than the running
@@ -127,7 +129,22 @@ impl<M: Memory + Drop> Machine<M> {
         ensures board { self.new.board ≡ self.old.board }
         ensures guarded { Guarded self.new }
     {
-        self.engine.step_quietly()
+        self.parts.step_quietly()
+    }
+
+    /// Rounds, each a slice of a sweep and a step, as long as no sweep has work and the step is quiet, as `step_quietly`
+    /// says of it; at most `most`, which are lawful now: how many. They leave what `advance` leaves of these events, one
+    /// after another. Each tells nothing, and before each round the machine has come to no end. Where they are
+    /// fewer than `most`, a sweep has work then, or the next step isn't quiet. This call is for speed.
+    pub fn run_quietly(&mut self, most: u32) -> u32
+        requires steps { self.old.state.counts.steps + most ≤ MOST_STEPS }
+        requires sweeps { self.old.state.counts.sweeps + most ≤ MOST_STEPS }
+        ensures most { result ≤ most }
+        ensures went { WentRounds self.old self.new result }
+        ensures stops { result < most → goes_on_quietly self.new ≡ false }
+        ensures guarded { Guarded self.new }
+    {
+        self.parts.run_quietly(most)
     }
 
     /// Whatever events come next, one after another: calls are clean, and each access goes through a capability
@@ -149,6 +166,6 @@ impl<M: Memory + Drop> Machine<M> {
             → charges q (run self.now.board self.now.state es).objects
             ≤ (root self.now.board.image q).limit }
     {
-        let _engine = &self.engine;
+        let _parts = &self.parts;
     }
 }

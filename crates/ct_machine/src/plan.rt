@@ -2,14 +2,14 @@
 
 ghost use Rattle.std.specs.Prelude.{◌≡◌, IfOk, slice_index_or};
 ghost use Rattle.def_boot.specs.Boot.{image_of};
-ghost use Rattle.ct_exports.specs.Exports.{AreSorted};
+ghost use Rattle.ct_switch.specs.Exports.{AreSorted};
 ghost use Rattle.def_machine.specs.Image.{handler_entry};
 ghost use Rattle.law_callable.specs.Showing.{IsOfSound};
 
+use crate::Known;
 use ct_entries::{entries, handlers};
 use ct_entry::Entries;
 use ct_image::Image;
-use ct_known::Known;
 use def_refusals::NoMemory;
 use std::alloc::Global;
 use std::marker::Model;

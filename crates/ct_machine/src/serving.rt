@@ -7,10 +7,10 @@ ghost use Rattle.def_step.specs.Native.{native};
 ghost use Rattle.def_step.specs.Quotas as quotas;
 ghost use Rattle.def_step.specs.Routines as routine;
 ghost use Rattle.def_step.specs.Tokens as tokens;
-ghost use Rattle.ct_engine.specs.Steps.{IsRoutine};
+ghost use Rattle.ct_threads.specs.Steps.{IsRoutine};
 ghost use Rattle.ct_machine.specs.Going.{MayGoOn, Runs, CameTo, IsDone, ran_by_service, ran_by_call, rests_for};
 
-use crate::engine::Engine;
+use crate::parts::Parts;
 use ct_entry::Act;
 use ct_execute::{ActBy, Ran};
 use ct_mem::Memory;
@@ -51,19 +51,7 @@ fn ran_by_call(called: Called) -> Ran
     }
 }
 
-impl<M: Memory + Drop> Engine<M> {
-    /// The switch.
-    fn call(&mut self, t: u32) -> Ran
-        requires may { MayGoOn self.old }
-        requires runs { Runs self.old t }
-        ensures came { CameTo self.old self.new t result
-            (ran self.old.board self.old.state t
-            (routine.switch self.old.board.image self.old.state t)) }
-        ensures done { IsDone result }
-    {
-        ran_by_call(switch(&mut self.threads, t, self.plan.entries()))
-    }
-
+impl<M: Memory + Drop> Parts<M> {
     /// The running thread stops, to be ready after so many ticks, where its check of c1 passes.
     fn rest_for(&mut self, t: u32, ticks: u32) -> Ran
         requires runs { Runs self.old t }
@@ -71,7 +59,7 @@ impl<M: Memory + Drop> Engine<M> {
             (ran self.old.board self.old.state t (rests_for self.old.state t ticks)) }
         ensures done { IsDone result }
     {
-        ran_by_service(rest(&mut self.threads, &mut self.sched, t, ticks))
+        ran_by_service(rest(&mut self.engine, &mut self.sched, t, ticks))
     }
 
     /// Yield.
@@ -91,7 +79,7 @@ impl<M: Memory + Drop> Engine<M> {
             (ran self.old.board self.old.state t (routine.sleep self.old.state t)) }
         ensures done { IsDone result }
     {
-        let ticks = self.threads.address_in(t, 10);
+        let ticks = self.engine.address_in(t, 10);
         self.rest_for(t, ticks)
     }
 
@@ -104,7 +92,7 @@ impl<M: Memory + Drop> Engine<M> {
             (routine.wait self.old.board.image self.old.state t)) }
         ensures done { IsDone result }
     {
-        ran_by_service(wait(&mut self.threads, &mut self.sched, t, self.plan.ram()))
+        ran_by_service(wait(&mut self.engine, &mut self.sched, t, self.plan.ram()))
     }
 
     /// Wake.
@@ -115,7 +103,7 @@ impl<M: Memory + Drop> Engine<M> {
             (routine.wake self.old.board.image self.old.state t)) }
         ensures done { IsDone result }
     {
-        ran_by_service(wake(&mut self.threads, &mut self.sched, t, self.plan.ram()))
+        ran_by_service(wake(&mut self.engine, &mut self.sched, t, self.plan.ram()))
     }
 
     /// Allocate.
@@ -128,7 +116,7 @@ impl<M: Memory + Drop> Engine<M> {
             (quotas.allocate self.old.board.image self.old.state t)) }
         ensures done { IsDone result }
     {
-        allocate(&mut self.threads, t)
+        allocate(&mut self.engine, t)
     }
 
     /// Free.
@@ -140,7 +128,7 @@ impl<M: Memory + Drop> Engine<M> {
             (quotas.free self.old.board.image self.old.state t)) }
         ensures done { IsDone result }
     {
-        free(&mut self.threads, t)
+        free(&mut self.engine, t)
     }
 
     /// Remaining.
@@ -152,7 +140,7 @@ impl<M: Memory + Drop> Engine<M> {
             (quotas.remaining self.old.board.image self.old.state t)) }
         ensures done { IsDone result }
     {
-        remaining(&mut self.threads, t)
+        remaining(&mut self.engine, t)
     }
 
     /// Token_key.
@@ -165,7 +153,7 @@ impl<M: Memory + Drop> Engine<M> {
             (tokens.token_key self.old.board.image self.old.state t)) }
         ensures done { IsDone result }
     {
-        token_key(&mut self.threads, t)
+        token_key(&mut self.engine, t)
     }
 
     /// Token_new.
@@ -178,7 +166,7 @@ impl<M: Memory + Drop> Engine<M> {
             (tokens.token_new self.old.board.image self.old.state t)) }
         ensures done { IsDone result }
     {
-        token_new(&mut self.threads, t)
+        token_new(&mut self.engine, t)
     }
 
     /// Token_open.
@@ -190,7 +178,7 @@ impl<M: Memory + Drop> Engine<M> {
             (tokens.token_open self.old.state t)) }
         ensures done { IsDone result }
     {
-        token_open(&mut self.threads, t)
+        token_open(&mut self.engine, t)
     }
 
     /// Token_free.
@@ -202,7 +190,7 @@ impl<M: Memory + Drop> Engine<M> {
             (tokens.token_free self.old.board.image self.old.state t)) }
         ensures done { IsDone result }
     {
-        token_free(&mut self.threads, t)
+        token_free(&mut self.engine, t)
     }
 
     /// The native routine of a number from allocate's on.
@@ -248,7 +236,7 @@ impl<M: Memory + Drop> Engine<M> {
         ensures done { IsDone result }
     {
         if number == SWITCH {
-            self.call(t)
+            ran_by_call(switch(&mut self.engine, t, self.plan.entries()))
         } else if number == YIELD {
             self.pause(t)
         } else if number == SLEEP {

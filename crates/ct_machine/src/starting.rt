@@ -1,28 +1,28 @@
-//! An engine before its first event.
+//! A machine before its first event.
 
 ghost use Rattle.std.specs.Prelude.{ℕ, ◌≡◌, ◌≤◌, ◌*◌, IfOk, Some, length, slice_get};
 ghost use Rattle.def_profile.specs.declared.limits.TheConstants.{MOST_PRIORITY};
-ghost use Rattle.def_guarded.specs.Guarded.{Guarded};
+ghost use Rattle.def_events.specs.Guarded.{Guarded};
 ghost use Rattle.def_boot.specs.Boot.{booted_machine, image_of};
 ghost use Rattle.def_boot.specs.Gates.{entries_of};
 ghost use Rattle.def_image.specs.Parts.{ThreadRow};
 ghost use Rattle.def_image.specs.Sound.{Sound};
-ghost use Rattle.def_boot_words.specs.Booting.{empty_granules};
+ghost use Rattle.def_boot.specs.Booting.{empty_granules};
 ghost use Rattle.ct_boot.specs.Launching.{launched};
 ghost use Rattle.ct_boot.specs.Placed.{ArePlaced};
 ghost use Rattle.ct_machine.specs.Starting.{bank_of, limits_of, priorities_of, rows_of};
 
-use crate::engine::Engine;
+use crate::parts::Parts;
 use crate::plan::Plan;
 use crate::tally::Tally;
 use ct_boot::launch;
 use ct_bus::Bus;
-use ct_decoded::Decoded;
-use ct_engine::Engine as Threads;
+use ct_decode::Decoded;
+use ct_engine::Engine;
 use ct_entry::Entries;
 use ct_image::Image;
+use ct_image_parts::{Parts as ImageParts, Thread};
 use ct_mem::Memory;
-use ct_parts::{Parts, Thread};
 use ct_sched::Sched;
 use def_refusals::NoMemory;
 use std::alloc::Global;
@@ -49,7 +49,7 @@ fn priorities(alloc: Global, threads: &[Thread]) -> Result<Vec<u8>, NoMemory>
 }
 
 /// The scheduler of an image's threads, all ready, of which none has been picked.
-fn turns(alloc: Global, parts: &Parts) -> Result<Sched, NoMemory>
+fn turns(alloc: Global, parts: &ImageParts) -> Result<Sched, NoMemory>
     requires { Sound parts.now }
     ensures { IfOk result (λ s. s ≡ rows_of parts.now) }
 {
@@ -68,13 +68,13 @@ fn limits(alloc: Global, entries: &Entries) -> Result<Vec<u32>, NoMemory>
     Ok(all)
 }
 
-/// The threads of an image and its heap, over memory that is booted.
+/// The engine of an image: its threads and its heap, over memory that is booted.
 fn booted<M: Memory + Drop>(
     alloc: Global,
     image: &Image,
     plan: &Plan,
     mem: M,
-) -> Result<Threads<M>, NoMemory>
+) -> Result<Engine<M>, NoMemory>
     requires sound { Sound image.now }
     requires empty { M.granules mem ≡ empty_granules image.now }
     requires plan { plan.now ≡ image_of image.now }
@@ -86,9 +86,9 @@ fn booted<M: Memory + Drop>(
 {
     match limits(alloc, plan.entries()) {
         Ok(limits) => {
-            let threads = launch(alloc, image, mem, limits.as_slice());
+            let engine = launch(alloc, image, mem, limits.as_slice());
             drop(limits);
-            threads
+            engine
         }
         Err(none) => {
             drop(mem);
@@ -98,7 +98,7 @@ fn booted<M: Memory + Drop>(
 }
 
 /// The devices of an image at rest, the turns of its threads, and no word that is kept decoded.
-fn rest(alloc: Global, parts: &Parts) -> Result<(Bus, Sched, Decoded), NoMemory>
+fn rest(alloc: Global, parts: &ImageParts) -> Result<(Bus, Sched, Decoded), NoMemory>
     requires { Sound parts.now }
     ensures bus { IfOk result (λ r. r.0 ≡ bank_of parts.now) }
     ensures sched { IfOk result (λ r. r.1 ≡ rows_of parts.now) }
@@ -116,28 +116,28 @@ fn rest(alloc: Global, parts: &Parts) -> Result<(Bus, Sched, Decoded), NoMemory>
     Ok((bus, sched, decoded))
 }
 
-/// An engine of its parts, before its first event.
+/// The parts of a machine before its first event.
 fn put_together<M: Memory + Drop>(
-    parts: &Parts,
+    parts: &ImageParts,
     plan: Plan,
-    threads: Threads<M>,
+    engine: Engine<M>,
     bus: Bus,
     sched: Sched,
     decoded: Decoded,
-) -> Engine<M>
+) -> Parts<M>
     requires sound { Sound parts.now }
     requires plan { plan ≡ image_of parts.now }
-    requires threads { threads ≡ launched parts.now (limits_of (entries_of parts.now)) }
-    requires placed { ArePlaced (image_of parts.now) (8 * length threads.granules)
-        threads.areas }
+    requires engine { engine ≡ launched parts.now (limits_of (entries_of parts.now)) }
+    requires placed { ArePlaced (image_of parts.now) (8 * length engine.granules)
+        engine.areas }
     requires bus { bus ≡ bank_of parts.now }
     requires sched { sched ≡ rows_of parts.now }
     ensures { result ≡ booted_machine parts.now }
 {
     let _ = parts;
-    Engine {
+    Parts {
         plan,
-        threads,
+        engine,
         bus,
         sched,
         pending: false,
@@ -157,9 +157,9 @@ fn put_together<M: Memory + Drop>(
     }
 }
 
-impl<M: Memory + Drop> Engine<M> {
-    /// The engine of an image, booted.
-    pub(crate) fn start(alloc: Global, image: &Image, mem: M) -> Result<Engine<M>, NoMemory>
+impl<M: Memory + Drop> Parts<M> {
+    /// The parts of the machine of an image, booted.
+    pub(crate) fn start(alloc: Global, image: &Image, mem: M) -> Result<Parts<M>, NoMemory>
         requires empty { M.granules mem ≡ empty_granules image.now }
         ensures booted { IfOk result (λ m. m ≡ booted_machine image.now) }
         ensures guarded { IfOk result (λ m. Guarded m) }
@@ -169,15 +169,15 @@ impl<M: Memory + Drop> Engine<M> {
             return Err(NoMemory);
         };
         let parts = image.parts();
-        let Ok(threads) = booted(alloc, image, &plan, mem) else {
+        let Ok(engine) = booted(alloc, image, &plan, mem) else {
             drop(plan);
             return Err(NoMemory);
         };
         let Ok((bus, sched, decoded)) = rest(alloc, parts) else {
             drop(plan);
-            drop(threads);
+            drop(engine);
             return Err(NoMemory);
         };
-        Ok(put_together(parts, plan, threads, bus, sched, decoded))
+        Ok(put_together(parts, plan, engine, bus, sched, decoded))
     }
 }

@@ -4,10 +4,10 @@ ghost use Rattle.std.specs.Prelude.{◌≡◌};
 ghost use Rattle.def_confined.specs.Holding.{EndsFit};
 ghost use Rattle.def_step.specs.Events.{interrupted, preempted, scheduled};
 
-use crate::engine::Engine;
+use crate::parts::Parts;
 use ct_mem::Memory;
 
-impl<M: Memory + Drop> Engine<M> {
+impl<M: Memory + Drop> Parts<M> {
     /// A thread that runs with interrupts on stops where a tick is pending.
     pub(crate) fn preempt(&mut self)
         ensures state { self.new.state ≡ preempted self.old.state }
@@ -18,9 +18,9 @@ impl<M: Memory + Drop> Engine<M> {
         if !self.pending {
             return;
         }
-        if let Some(t) = self.threads.running() {
-            if !self.threads.posture(t).off {
-                self.threads.stop(t);
+        if let Some(t) = self.engine.running() {
+            if !self.engine.posture(t).off {
+                self.engine.stop(t);
                 self.pending = false;
             }
         }
@@ -34,10 +34,10 @@ impl<M: Memory + Drop> Engine<M> {
         ensures counts { self.new.state.counts ≡ self.old.state.counts }
         ensures next { self.new.state.next ≡ self.old.state.next }
     {
-        match self.threads.running() {
+        match self.engine.running() {
             Some(_) => {}
             None => match self.sched.pick() {
-                Some(t) => self.threads.pick(t),
+                Some(t) => self.engine.pick(t),
                 None => {}
             },
         }
@@ -49,11 +49,11 @@ impl<M: Memory + Drop> Engine<M> {
         ensures state { self.new.state ≡ interrupted self.old.state self.old.state.running }
         ensures board { self.new.board ≡ self.old.board }
     {
-        if let Some(t) = self.threads.running() {
-            if self.threads.posture(t).off {
+        if let Some(t) = self.engine.running() {
+            if self.engine.posture(t).off {
                 self.pending = true;
             } else {
-                self.threads.stop(t);
+                self.engine.stop(t);
             }
         }
     }

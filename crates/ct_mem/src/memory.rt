@@ -4,7 +4,7 @@ ghost use Rattle.std.specs.Prelude.{ℕ, ◌≡◌, ◌*◌, ◌/◌, ◌<◌, f
 ghost use Rattle.def_memory.specs.declared.Granule.{Granule};
 ghost use Rattle.def_memory.specs.Granules.{granule_at};
 ghost use Rattle.def_memory.specs.Accesses.{IsAccess, IsPlace, loaded, stored, loaded_cap, stored_cap};
-ghost use Rattle.def_memory.specs.Ranges.{IsRange, IsZeroed, IsMarked, IsNextTagged, Inside, is_tagged};
+ghost use Rattle.def_memory.specs.Ranges.{IsRange, IsZeroed, IsMarked, IsNextTagged, InsideRange, is_tagged};
 
 use def_words::Cap;
 
@@ -56,10 +56,20 @@ pub trait Memory {
         requires { at < 8 * length (granules self.now) }
         ensures { result ≡ (granule_at (granules self.now) (at / 8)).mark };
 
-    /// The offset of the least tagged granule at or after an offset and below another, `None`
-    /// exactly where there is none. What this takes goes by how far the two lie apart.
-    fn next_tagged(&self, from: u32, to: u32) -> Option<u32>
+    /// The offset of the least tagged granule at or after an offset, `None` exactly where there is
+    /// none.
+    fn next_tagged(&self, from: u32) -> Option<u32>
         ensures { MatchOption result
-            ((k : ℕ) → Inside from to k → is_tagged (granules self.now) k ≡ false)
+            ((k : ℕ) → InsideRange from (8 * length (granules self.now)) k
+            → is_tagged (granules self.now) k ≡ false)
+            (λ at. IsNextTagged (granules self.now) from at) }
+    {
+        self.next_tagged_below(from, self.size())
+    }
+
+    /// The same below another offset. What this takes goes by how far the two lie apart.
+    fn next_tagged_below(&self, from: u32, to: u32) -> Option<u32>
+        ensures { MatchOption result
+            ((k : ℕ) → InsideRange from to k → is_tagged (granules self.now) k ≡ false)
             (λ at. IsNextTagged (granules self.now) from at × (at < to)) };
 }

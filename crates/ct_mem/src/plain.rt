@@ -113,7 +113,7 @@ impl Memory for Plain {
         self.rows[(at / 8) as usize].mark
     }
 
-    fn next_tagged(&self, from: u32, to: u32) -> Option<u32> {
+    fn next_tagged_below(&self, from: u32, to: u32) -> Option<u32> {
         let first = (from as usize + 7) / 8;
         let end = ((to as usize + 7) / 8).min(self.rows.len());
         for i in first..end {

@@ -39,7 +39,7 @@ pub enum Form {
 
 /// The first form whose condition holds of a set.
 #[tactic(auto, unfolding(def_words::specs::Permissions::form_of))]
-pub fn form_of(set: Perms) -> Form
+pub(crate) fn form_of(set: Perms) -> Form
     ensures { written result ≡ form_of set.0 }
 {
     match (

@@ -10,7 +10,7 @@ use def_profile::rights::{EX, LD, LG, LM, MC, SD, SE, SL, SR, U0, US};
 
 /// The six bits of a set's normal: GL, then the form with its bits.
 #[tactic(auto, unfolding(def_words::specs::Permissions::packed))]
-pub fn packed(set: Perms) -> u8
+pub(crate) fn packed(set: Perms) -> u8
     ensures value { result ≡ packed set.0 }
     ensures six { result < 64 }
 {
@@ -62,7 +62,7 @@ fn three(set: Perms, high: Permission, middle: Permission, low: Permission) -> u
 }
 
 /// The set that six bits spell.
-pub fn told(bits: u8) -> Perms
+pub(crate) fn told(bits: u8) -> Perms
     requires { bits < 64 }
     ensures value { result.0 ≡ unpacked bits }
     ensures small { result.0 < 2 ^ 12 }

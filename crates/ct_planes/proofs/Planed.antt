@@ -9,7 +9,7 @@ use Rattle.ct_planes.specs.Lent.{bytes_of}
 use Rattle.def_words.specs.declared.Shadow.{Shadow}
 use Rattle.def_memory.specs.declared.Granule.{Granule}
 use Rattle.def_memory.specs.Granules.{nothing, granule_at, blank}
-use Rattle.def_memory.specs.Ranges.{IsRange, IsZeroed, IsMarked, IsNextTagged, Inside, is_tagged}
+use Rattle.def_memory.specs.Ranges.{IsRange, IsZeroed, IsMarked, IsNextTagged, InsideRange, is_tagged}
 use Rattle.ct_planes.specs.Bits.{Clear, IsNextSet}
 use Rattle.ct_planes.specs.Fills.{filled}
 use Rattle.def_words.specs.Capability.{nowhere}
@@ -155,7 +155,7 @@ pub tag_of : (ws : List ℕ) (ts : List Bool) (ss : List Shadow) (ms : List Bool
 tag_of ws ts ss ms k f = ap (λ (g : Granule). g.cap.tag) (granule_of ws ts ss ms k f)
 
 pub none_tagged : (ws : List ℕ) (ts : List Bool) (ss : List Shadow) (ms : List Bool) (from to : ℕ) → Fit ws ts ss ms → Clear ts ((from + 7) / 8) ((to + 7) / 8)
-    → (k : ℕ) → Inside from to k → is_tagged (granules_of ws ts ss ms) k ≡ false
+    → (k : ℕ) → InsideRange from to k → is_tagged (granules_of ws ts ss ms) k ≡ false
 none_tagged ws ts ss ms from to f none k within = tag_of ws ts ss ms k f ∙ none k (let le = within.0 in omega (arith, le)) (let lt = within.1 in omega (arith, lt))
 
 pub next_tagged_is : (ws : List ℕ) (ts : List Bool) (ss : List Shadow) (ms : List Bool) (from i : ℕ) → Fit ws ts ss ms → IsNextSet ts ((from + 7) / 8) i → IsNextTagged (granules_of ws ts ss ms) from (8 * i)

@@ -128,7 +128,7 @@ impl Memory for Planes {
         self.marks.get((at / 8) as usize)
     }
 
-    fn next_tagged(&self, from: u32, to: u32) -> Option<u32> {
+    fn next_tagged_below(&self, from: u32, to: u32) -> Option<u32> {
         match self
             .tags
             .next((from as usize + 7) / 8, (to as usize + 7) / 8)

@@ -10,7 +10,7 @@ use Rattle.def_policy.specs.declared.PolicyFault.{PolicyFault}
 use Rattle.def_policy.specs.declared.PolicyFault.TheVariants.{At, NoMemory}
 use Rattle.def_policy.specs.Rules.{Rule, Device, Shared, Service, Call, Disabled, Data, Total, Quota, Apart, IsRule, ended, IsWord, line_of, spelled, words_of}
 use Rattle.def_policy.specs.Rulings.{Ruling, meant}
-use Rattle.def_policy.specs.Texts.{Begins, IsCause, IsKnown, Nameless, NoLine, Reads}
+use Rattle.def_policy.specs.Texts.{BeginsWithRule, IsPolicyCause, IsKnown, NamesUnknown, NoRuleLine, ReadsAsPolicy}
 use Rattle.ct_policy.specs.Forms.{form_of}
 use Rattle.ct_policy.specs.Words.{IsLine, NoWords}
 use Rattle.ct_policy.specs.Going.{Going, IsRefusal, Takes}
@@ -33,13 +33,13 @@ some_words (Total n) = omega arith
 some_words (Quota owner n) = omega arith
 some_words (Apart owner compartment) = omega arith
 
-pub line_of_rule : (text : List ℕ) (r : Rule) (rest : List ℕ) → Begins text r rest → IsLine text (words_of r) rest
+pub line_of_rule : (text : List ℕ) (r : Rule) (rest : List ℕ) → BeginsWithRule text r rest → IsLine text (words_of r) rest
 line_of_rule text r rest b = record { some = some_words r; are = b.rule.words; text_is = b.text_is }
 
-pub no_words_there : (text : List ℕ) → 0 < length text → NoWords text → NoLine text
+pub no_words_there : (text : List ℕ) → 0 < length text → NoWords text → NoRuleLine text
 no_words_there text some none = record { some = some; none = λ r rest b. none (words_of r) rest (line_of_rule text r rest b) }
 
-pub no_form : (text : List ℕ) (words : List (List ℕ)) (rest : List ℕ) → 0 < length text → IsLine text words rest → form_of words ≡ None → NoLine text
+pub no_form : (text : List ℕ) (words : List (List ℕ)) (rest : List ℕ) → 0 < length text → IsLine text words rest → form_of words ≡ None → NoRuleLine text
 no_form text words rest some line none = record {
   some = some;
   none = λ r gone b.
@@ -48,7 +48,7 @@ no_form text words rest some line none = record {
       absurd (cc);
 }
 
-pub rule_begins : (text : List ℕ) (words : List (List ℕ)) (rest : List ℕ) (r : Rule) → IsLine text words rest → form_of words ≡ Some r → Begins text r rest
+pub rule_begins : (text : List ℕ) (words : List (List ℕ)) (rest : List ℕ) (r : Rule) → IsLine text words rest → form_of words ≡ Some r → BeginsWithRule text r rest
 rule_begins text words rest r line found =
     let told : IsSaid words r = form_told words r found in
     record {
@@ -56,7 +56,7 @@ rule_begins text words rest r line found =
       text_is = line.text_is ∙ ap (λ ws. line_of ws ++ rest) (sym told.words_are);
     }
 
-pub nameless : (p : PartsRow) (text : List ℕ) (r : Rule) (rest : List ℕ) → Begins text r rest → meant p r ≡ None → Nameless p text
+pub nameless : (p : PartsRow) (text : List ℕ) (r : Rule) (rest : List ℕ) → BeginsWithRule text r rest → meant p r ≡ None → NamesUnknown p text
 nameless p text r rest begins none = record { next = r; rest = rest; begins = begins; unknown = none }
 
 -- ---- one more line
@@ -105,7 +105,7 @@ known_by p (r ∷ rs) (x ∷ xs) are (suc k) d inside = let later : map (meant p
 same_length : (p : PartsRow) (rules : List Rule) (rulings : List Ruling) → map (meant p) rules ≡ map (λ r. Some r) rulings → length rules ≡ length rulings
 same_length p rules rulings are = sym (length-map rules (meant p)) ∙ ap length are ∙ length-map rulings (λ r. Some r)
 
-pub fault_is : (p : PartsRow) (text left : List ℕ) (rulings : List Ruling) (fault : PolicyFault) → Going p text rulings left → IsRefusal p (length rulings) left fault → IsCause p text fault
+pub fault_is : (p : PartsRow) (text left : List ℕ) (rulings : List Ruling) (fault : PolicyFault) → Going p text rulings left → IsRefusal p (length rulings) left fault → IsPolicyCause p text fault
 fault_is p text left rulings NoMemory g r = tt
 fault_is p text left rulings (At number line) g r = record {
   rules = g.rules;
@@ -117,7 +117,7 @@ fault_is p text left rulings (At number line) g r = record {
   breaks = r.1;
 }
 
-pub reads : (p : PartsRow) (text left : List ℕ) (rulings : List Ruling) → Going p text rulings left → length left ≤ 0 → Reads p text rulings
+pub reads : (p : PartsRow) (text left : List ℕ) (rulings : List Ruling) → Going p text rulings left → length left ≤ 0 → ReadsAsPolicy p text rulings
 reads p text [] rulings g none = record { rules = g.rules; lines = g.lines; text_is = g.text_is ∙ append-nil (flat_map spelled g.rules); meant_are = g.meant_are }
 reads p text (c ∷ cs) rulings g none = absurd (omega (arith, none))
 
@@ -138,7 +138,7 @@ pub takes : (p : PartsRow) (old new : List Ruling) (left : List ℕ) (words : Li
 takes p old new left words rest r x line found means kept =
     record { rule = r; begins = rule_begins left words rest r line found; ruling = x; means = means; kept = kept }
 
-pub reads_kept : (p : PartsRow) (text left : List ℕ) (rulings : List Ruling) → length text < 4294967296 → Going p text rulings left → length left ≤ 0 → Reads p text rulings × AreKept rulings
+pub reads_kept : (p : PartsRow) (text left : List ℕ) (rulings : List Ruling) → length text < 4294967296 → Going p text rulings left → length left ≤ 0 → ReadsAsPolicy p text rulings × AreKept rulings
 reads_kept p text left rulings small g none =
-    let is : Reads p text rulings = reads p text left rulings g none in
+    let is : ReadsAsPolicy p text rulings = reads p text left rulings g none in
     (is, record { few = omega (arith, small, g.short); untrusted = untrusted p text rulings is })

@@ -6,7 +6,7 @@ use Rattle.std.proofs.lemmas.Bool.{both_ways}
 use Rattle.law_lists.proofs.Tests.{bool_tells, both_left, both_right, eq_tells, lt_tells}
 use Rattle.law_script.proofs.Runs.{same_run, no_end}
 use Rattle.ct_script.proofs.Parts.{IsRun, run_is, run_whole}
-use Rattle.def_description.specs.References.{export_name}
+use Rattle.def_desc.specs.References.{export_name}
 use Rattle.def_policy.specs.Rules.{IsSide, is_no_point}
 use Rattle.ct_policy.specs.Forms.{SidesRow, has_point, sides, sides_in}
 

@@ -6,8 +6,8 @@ use Rattle.law_lists.proofs.Tests.{bool_tells, both_left, both_right, lt_tells}
 use Rattle.def_policy.specs.declared.TheConstants.{MOST_TOTAL}
 use Rattle.def_policy.specs.Rules.{Rule, Device, Shared, Service, Call, Disabled, Data, Total, Quota, Apart, IsFormed, total, words_of}
 use Rattle.ct_policy.specs.Forms.{OnlyRow, SidesRow, apart_in, call_by, call_in, data_in, device_in, disabled_in, form_by, form_of, only_in, owners_in, quota_by, quota_in, service_in, shared_in, sides_in}
-use Rattle.ct_digits.proofs.Numbers.{number_back, number_told}
-use Rattle.def_digits.specs.Digits.{number_within}
+use Rattle.ct_texts.proofs.Numbers.{number_back, number_told}
+use Rattle.def_texts.specs.Digits.{number_within}
 use Rattle.ct_policy.proofs.Sides.{IsDotted, sides_back, sides_found, some_tells}
 
 -- ---- from a rule to its words and back

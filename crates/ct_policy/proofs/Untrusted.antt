@@ -7,10 +7,10 @@ use Rattle.def_image.specs.Parts.{PartsRow}
 use Rattle.def_policy.specs.declared.Subject.{Subject}
 use Rattle.def_policy.specs.declared.Subject.TheVariants as subject
 use Rattle.def_policy.specs.Names.{compartment_named, library_named, or_library, owner_named, owners_named, device_named, shared_named, export_named}
-use Rattle.def_description.specs.Tables.{service_of}
+use Rattle.def_desc.specs.Tables.{service_of}
 use Rattle.def_policy.specs.Rules.{Rule, Device, Shared, Service, Call, Disabled, Data, Total, Quota, Apart}
 use Rattle.def_policy.specs.Rulings.{Ruling, apart, meant, only}
-use Rattle.def_policy.specs.Texts.{Reads}
+use Rattle.def_policy.specs.Texts.{ReadsAsPolicy}
 use Rattle.ct_policy.specs.Kept.{IsUntrusted, KeepsUntrusted}
 
 -- an option of which each value is so
@@ -58,5 +58,5 @@ all_kept p (r ∷ rs) (x ∷ xs) are =
     let later : map (meant p) rs ≡ map (λ r. Some r) xs = cc in
     (subst (λ o. Each KeepsUntrusted o) here (each_meant p r), all_kept p rs xs later)
 
-pub untrusted : (p : PartsRow) (text : List ℕ) (rulings : List Ruling) → Reads p text rulings → AllByRecursion KeepsUntrusted rulings
+pub untrusted : (p : PartsRow) (text : List ℕ) (rulings : List Ruling) → ReadsAsPolicy p text rulings → AllByRecursion KeepsUntrusted rulings
 untrusted p text rulings reads = all_kept p reads.rules rulings reads.meant_are

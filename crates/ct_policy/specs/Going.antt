@@ -5,19 +5,19 @@ use Rattle.def_policy.specs.declared.PolicyFault.{PolicyFault}
 use Rattle.def_policy.specs.declared.PolicyFault.TheVariants.{At, NoMemory}
 use Rattle.def_policy.specs.Rules.{Rule, IsRule, spelled}
 use Rattle.def_policy.specs.Rulings.{Ruling, meant}
-use Rattle.def_policy.specs.Texts.{Begins, Breaks}
+use Rattle.def_policy.specs.Texts.{BeginsWithRule, BreaksPolicy}
 
 -- the line of a rule begins what is left, and what it means is kept
 pub record Takes (p : PartsRow) (old new : List Ruling) (left rest : List ℕ) : Type 0 where
   pub rule : Rule
-  pub begins : Begins left rule rest
+  pub begins : BeginsWithRule left rule rest
   pub ruling : Ruling
   pub means : meant p rule ≡ Some ruling
   pub kept : new ≡ old ++ ruling ∷ []
 
 -- the line after so many is at fault
 abbrev pub IsRefusal : PartsRow → ℕ → List ℕ → PolicyFault → Type 0
-IsRefusal p lines left (At number line) = (line ≡ lines + 1) × Breaks p left number
+IsRefusal p lines left (At number line) = (line ≡ lines + 1) × BreaksPolicy p left number
 IsRefusal p lines left NoMemory = Unit {0}
 
 -- what is kept is what the rules mean that the text before what is left spells

@@ -6,7 +6,7 @@ ghost use Rattle.ct_policy.specs.Forms.{only_row, rule_row};
 ghost use Rattle.ct_policy.specs.Words.{texts};
 
 use crate::parts::sides_of;
-use ct_digits::number_of;
+use ct_texts::number_of;
 use def_policy::MOST_TOTAL;
 
 /// A rule, by names.

@@ -13,7 +13,7 @@ use crate::names::add_names;
 use crate::rulings::Ruling;
 use ct_entry::{Comp, Entries, Gate, Owner};
 use ct_graph::Graph;
-use ct_parts::Parts;
+use ct_image_parts::Parts;
 use def_policy::Subject;
 use def_refusals::NoMemory;
 use itoa::Buffer;

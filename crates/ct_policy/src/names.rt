@@ -10,7 +10,7 @@ ghost use Rattle.ct_policy.specs.Words.{texts};
 
 use ct_entries::export_number;
 use ct_entry::{Device, Owner};
-use ct_parts::{Code, Compartment, Export, Parts, Shared};
+use ct_image_parts::{Code, Compartment, Export, Parts, Shared};
 use std::alloc::{AllocError, Global};
 
 /// What has a name.
@@ -99,7 +99,7 @@ pub(crate) fn device_named(parts: &Parts, name: &[u8]) -> Option<u32>
     requires { AreFew parts.now }
     ensures { result ≡ spec.device_named parts.now name.now }
 {
-    index_of(parts.devices.as_slice(), name)
+    index_of(parts.devices.rows.as_slice(), name)
 }
 
 /// The first shared object of this name, by its index.

@@ -3,7 +3,7 @@
 ghost use Rattle.std.specs.Prelude.{◌≡◌, ◌<◌, ◌^◌, IfOk, MatchResult, length, string_bytes};
 ghost use Rattle.def_boot.specs.Gates.{entries_of};
 ghost use Rattle.def_policy.specs.Denials.{AllDenied};
-ghost use Rattle.def_policy.specs.Texts.{IsCause, Reads};
+ghost use Rattle.def_policy.specs.Texts.{IsPolicyCause, ReadsAsPolicy};
 
 use crate::breaking::gates_of;
 use crate::judging::add_ruling;
@@ -40,8 +40,8 @@ impl Model for Rules {
 /// nothing in the image; `NoMemory` wants memory.
 pub fn read(alloc: Global, bytes: &[u8], image: &Image) -> Result<Rules, PolicyFault>
     requires { length bytes.now < 2 ^ 32 }
-    ensures { MatchResult result (λ r. Reads image.now bytes.now r)
-        (λ fault. IsCause image.now bytes.now fault) }
+    ensures { MatchResult result (λ r. ReadsAsPolicy image.now bytes.now r)
+        (λ fault. IsPolicyCause image.now bytes.now fault) }
 {
     let parts = image.parts();
     let rows = read_lines(alloc, bytes, parts)?;

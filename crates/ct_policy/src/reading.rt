@@ -2,14 +2,14 @@
 
 ghost use Rattle.std.specs.Prelude.{ℕ, ◌≡◌, ◌+◌, ◌<◌, ◌^◌, ◌++◌, ◌∷◌, [], length, MatchResult};
 ghost use Rattle.def_image.specs.Sound.{Sound};
-ghost use Rattle.def_policy.specs.Texts.{IsCause, Reads};
+ghost use Rattle.def_policy.specs.Texts.{IsPolicyCause, ReadsAsPolicy};
 ghost use Rattle.ct_policy.specs.Going.{Going, IsRefusal, Takes};
 ghost use Rattle.ct_policy.specs.Kept.{AreKept};
 
 use crate::forms::rule_of;
 use crate::rulings::{Ruling, ruling_of};
 use crate::words::first_line;
-use ct_parts::Parts;
+use ct_image_parts::Parts;
 use def_policy::PolicyFault;
 use std::alloc::Global;
 
@@ -68,8 +68,8 @@ pub(crate) fn read_lines(
     requires sound { Sound parts.now }
     requires short { length bytes.now < 2 ^ 32 }
     ensures { MatchResult result
-        (λ v. Reads parts.now bytes.now v.items × AreKept v.items)
-        (λ fault. IsCause parts.now bytes.now fault) }
+        (λ v. ReadsAsPolicy parts.now bytes.now v.items × AreKept v.items)
+        (λ fault. IsPolicyCause parts.now bytes.now fault) }
 {
     let mut rulings = Vec::new(alloc);
     let mut left = bytes;

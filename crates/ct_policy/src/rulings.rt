@@ -11,9 +11,9 @@ use crate::forms::Rule;
 use crate::names::{
     compartment_named, device_named, export_named, owner_named, owners_named, shared_named,
 };
+use ct_desc_value::tables::service_of;
 use ct_entry::Owner;
-use ct_parts::Parts;
-use ct_value::tables::service_of;
+use ct_image_parts::Parts;
 use def_policy::Subject;
 use std::alloc::{AllocError, Global};
 use std::marker::Model;

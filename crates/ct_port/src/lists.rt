@@ -43,7 +43,7 @@ impl Model for Reading {
 }
 
 /// The bytes of the first file of this name.
-pub fn find<'a>(files: &'a [StoredFile], name: &str) -> Option<&'a [u8]>
+pub(crate) fn find<'a>(files: &'a [StoredFile], name: &str) -> Option<&'a [u8]>
     ensures { option_map (λ v. v.now) result ≡ file_of files.now name.now }
 {
     for file in files {
@@ -70,7 +70,7 @@ fn position_of(files: &[StoredFile], name: &str) -> Option<usize>
 
 /// Keeps a file under this name, in place of one that has it. An error is want of memory, and
 /// changes nothing.
-pub fn put(
+pub(crate) fn put(
     files: &mut Vec<StoredFile>,
     alloc: Global,
     name: &str,
@@ -95,7 +95,7 @@ pub fn put(
 }
 
 /// Adds a read to the list. An error is want of memory, and changes nothing.
-pub fn note(
+pub(crate) fn note(
     calls: &mut Vec<Reading>,
     alloc: Global,
     name: &str,
@@ -115,7 +115,7 @@ pub fn note(
 }
 
 /// Whether a call's number stands in a list of numbers.
-pub fn has_number(listed: &[u64], call: u64) -> bool
+pub(crate) fn has_number(listed: &[u64], call: u64) -> bool
     ensures { result ≡ is_listed listed.now call }
 {
     for number in listed {
@@ -127,7 +127,7 @@ pub fn has_number(listed: &[u64], call: u64) -> bool
 }
 
 /// The first `limit + 1` bytes, or all where there are no more.
-pub fn front(alloc: Global, bytes: &[u8], limit: u64) -> Result<Vec<u8>, AllocError>
+pub(crate) fn front(alloc: Global, bytes: &[u8], limit: u64) -> Result<Vec<u8>, AllocError>
     requires { limit < 2 ^ 63 }
     ensures { IfOk result (λ v. v.items ≡ take (limit + 1) bytes.now) }
 {

@@ -8,7 +8,7 @@ use Rattle.def_words.specs.Authority.{cap_base}
 use Rattle.def_memory.specs.declared.Granule.{Granule}
 use Rattle.def_memory.specs.Granules.{nothing, granule_at}
 use Rattle.def_memory.specs.Accesses.{loaded_cap, stored_cap}
-use Rattle.def_memory.specs.Ranges.{Inside, IsNextTagged, is_tagged}
+use Rattle.def_memory.specs.Ranges.{InsideRange, IsNextTagged, is_tagged}
 use Rattle.def_machine.specs.Memory.{filtered_in, is_marked_in}
 use Rattle.law_granules.proofs.Lists.{cap_rest, past_untagged}
 use Rattle.ct_revoke.specs.Slices.{CleanFrom, IsSliced}
@@ -44,7 +44,7 @@ untagged_is_passed ram gs k none = ap (λ (c : Cap). record (granule_at gs k) { 
 
 -- the granules up to another offset are passed, where none from `at` on is tagged
 pub passed_on : (ram low high at to : ℕ) (old new : List Granule) → Passing ram low high at old new → ((k : ℕ) → at ≤ 8 * k → 8 * k < to → is_tagged new k ≡ false)
-    → (k : ℕ) → Inside low to k → granule_at new k ≡ record (granule_at old k) { cap = filtered_in ram old (granule_at old k).cap }
+    → (k : ℕ) → InsideRange low to k → granule_at new k ≡ record (granule_at old k) { cap = filtered_in ram old (granule_at old k).cap }
 passed_on ram low high at to old new p none k inside = elim (lt_tells (8 * k) at) [
   | inl below ↦ p.sliced.passed k (inside.0, below.1)
   | inr above ↦
@@ -114,7 +114,7 @@ finishes ram low high at old new p none = record {
 
 -- none is left up to the end of the range, or of memory
 pub finishes_within : (ram low high at end : ℕ) (old new : List Granule) → Passing ram low high at old new → end ≡ min high (8 * length old)
-    → ((k : ℕ) → Inside at end k → is_tagged new k ≡ false) → IsSliced ram low high old new
+    → ((k : ℕ) → InsideRange at end k → is_tagged new k ≡ false) → IsSliced ram low high old new
 finishes_within ram low high at end old new p is none =
     finishes ram low high at old new p
     (λ k a b. elim (lt_tells (8 * k) end) [

@@ -3,7 +3,7 @@ use Rattle.std.specs.Prelude.{ℕ, ◌≡◌, true, false, List, length}
 use Rattle.def_words.specs.Authority.{cap_base}
 use Rattle.def_memory.specs.declared.Granule.{Granule}
 use Rattle.def_memory.specs.Granules.{granule_at}
-use Rattle.def_memory.specs.Ranges.{Inside, Outside, is_tagged}
+use Rattle.def_memory.specs.Ranges.{InsideRange, Outside, is_tagged}
 use Rattle.def_machine.specs.Image.{Image}
 use Rattle.def_machine.specs.State.{State}
 use Rattle.def_machine.specs.Heap.{sliced}
@@ -19,14 +19,14 @@ SlicesHeap ram low high old new =
 -- no tagged granule from one offset to another has its base in a marked one
 abbrev pub CleanFrom : ℕ → ℕ → ℕ → List Granule → Type 0
 CleanFrom ram low high gs =
-    (k : ℕ) → Inside low high k → is_tagged gs k ≡ true
+    (k : ℕ) → InsideRange low high k → is_tagged gs k ≡ true
     → is_marked_in ram gs (cap_base (granule_at gs k).cap) ≡ false
 
 -- granule by granule: those from one offset to another passed the load filter, by the marks as they stood, and
 -- all others are as they were
 pub record IsSliced (ram low high : ℕ) (old new : List Granule) : Type 0 where
   pub size : length new ≡ length old
-  pub passed : (k : ℕ) → Inside low high k
+  pub passed : (k : ℕ) → InsideRange low high k
       → granule_at new k
       ≡ record (granule_at old k) { cap = filtered_in ram old (granule_at old k).cap }
   pub rest : (k : ℕ) → Outside low high k → granule_at new k ≡ granule_at old k

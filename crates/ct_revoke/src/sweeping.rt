@@ -30,7 +30,7 @@ pub(crate) fn pass<M: Memory>(mem: &mut M, ram: u32, low: u32, high: u32)
 {
     let end = high.min(mem.size());
     let mut at = low;
-    while let Some(found) = mem.next_tagged(at, end) {
+    while let Some(found) = mem.next_tagged_below(at, end) {
         pass_one(mem, ram, found);
         at = found + 8;
     }

@@ -11,7 +11,7 @@ use Rattle.std.proofs.lemmas.Bool.{cases_order}
 use Rattle.ct_entry.specs.Listed.{DeviceRow}
 use Rattle.def_script.specs.declared.ScriptFault.{ScriptFault}
 use Rattle.def_script.specs.declared.ScriptFault.TheVariants.{At, NoMemory}
-use Rattle.def_script.specs.Script.{Row, IsRow, IsScript, NoLine, Breaks, IsCause, Reads, due, device_named, last_step, spelled}
+use Rattle.def_script.specs.Script.{Row, IsScriptRow, IsScript, NoScriptLine, BreaksScript, IsScriptCause, ReadsAsScript, due, device_named, last_step, spelled}
 use Rattle.law_script.proofs.Lines.{line_long}
 use Rattle.ct_script.specs.Lines.{LinesRow, Going, Takes, Late, Lost, IsRefusal, AreLines, NeverFalls, dues_of, last_of, step_of, given_of}
 
@@ -48,9 +48,9 @@ text_more text left rest rows r whole first =
     ∙ ap (λ t. (flat_map spelled rows ++ t) ++ rest) (sym (flat_map-cons spelled r [] ∙ append-nil (spelled r)))
     ∙ ap (λ t. t ++ rest) (sym (flat_map-append spelled rows (r ∷ [])))
 
-script_more : (devices : List DeviceRow) (rows : List Row) (r : Row) → IsScript devices rows → IsRow r → last_step rows ≤ r.step → IsSome (device_named devices r.name) → IsScript devices (rows ++ r ∷ [])
+script_more : (devices : List DeviceRow) (rows : List Row) (r : Row) → IsScript devices rows → IsScriptRow r → last_step rows ≤ r.step → IsSome (device_named devices r.name) → IsScript devices (rows ++ r ∷ [])
 script_more devices rows r is row order named = record {
-  lines = All-push IsRow rows r is.lines row;
+  lines = All-push IsScriptRow rows r is.lines row;
   order = all_pairs_push NotLater rows r is.order (λ k d inside. omega (arith, up_to_last rows k d is.order inside, order));
   named = All-push (λ x. IsSome (device_named devices x.name)) rows r is.named named;
 }
@@ -69,7 +69,7 @@ goes_on devices text left rest old new g t =
 
 -- ---- a line that breaks a rule
 
-pub fault_is : (devices : List DeviceRow) (text left : List ℕ) (old : LinesRow) (fault : ScriptFault) → Going devices text old left → IsRefusal devices old left fault → IsCause devices text fault
+pub fault_is : (devices : List DeviceRow) (text left : List ℕ) (old : LinesRow) (fault : ScriptFault) → Going devices text old left → IsRefusal devices old left fault → IsScriptCause devices text fault
 fault_is devices text left old NoMemory g r = tt
 fault_is devices text left old (At number line) g r =
     let last : last_of old.steps ≡ last_step g.rows = ap last_of g.steps ∙ last_is g.rows in
@@ -83,7 +83,7 @@ fault_is devices text left old (At number line) g r =
     }
   where
     broken : (devices : List DeviceRow) (rows : List Row) (steps left : List ℕ) (number : ℕ) → last_of steps ≡ last_step rows
-        → ((number ≡ 1) × NoLine left) ⊎ ((number ≡ 2) × Late steps left) ⊎ ((number ≡ 3) × Lost devices steps left) → Breaks devices rows left number
+        → ((number ≡ 1) × NoScriptLine left) ⊎ ((number ≡ 2) × Late steps left) ⊎ ((number ≡ 3) × Lost devices steps left) → BreaksScript devices rows left number
     broken devices rows steps left number last (inl bare) = inl bare
     broken devices rows steps left number last (inr (inl late)) =
         inr (inl (late.0, record { next = late.1.next; rest = late.1.rest; begins = late.1.begins; falls = omega (arith, late.1.falls, last) }))
@@ -110,7 +110,7 @@ made : (devices : List DeviceRow) (rows : List Row) → dues_of (map step_of row
 made devices [] = refl
 made devices (r ∷ rs) = ap (λ ds. due devices r ∷ ds) (made devices rs)
 
-pub reads : (devices : List DeviceRow) (text : List ℕ) (l : LinesRow) → Going devices text l [] → Reads devices text (dues_of l.steps l.givens)
+pub reads : (devices : List DeviceRow) (text : List ℕ) (l : LinesRow) → Going devices text l [] → ReadsAsScript devices text (dues_of l.steps l.givens)
 reads devices text l g = record {
   rows = g.rows;
   script = g.script;

@@ -6,10 +6,10 @@ use Rattle.std.proofs.Math.Seq.{take-length}
 use Rattle.std.proofs.lemmas.List.{length-take-le, length-drop}
 use Rattle.std.proofs.lemmas.Bool.{both_ways}
 use Rattle.law_lists.proofs.Tests.{bool_tells, both_left}
-use Rattle.def_digits.specs.Digits.{number_within}
-use Rattle.ct_digits.proofs.Numbers.{number_back, number_told}
+use Rattle.def_texts.specs.Digits.{number_within}
+use Rattle.ct_texts.proofs.Numbers.{number_back, number_told}
 use Rattle.def_profile.specs.declared.limits.TheConstants.{MOST_STEPS}
-use Rattle.def_script.specs.Script.{Row, IsRow, Begins, NoLine, is_inner}
+use Rattle.def_script.specs.Script.{Row, IsScriptRow, BeginsWithRow, NoScriptLine, is_inner}
 use Rattle.law_script.proofs.Runs.{same_run, same_number, no_end, number_inner}
 use Rattle.law_script.proofs.Lines.{unrolled, step_small, byte_small}
 use Rattle.ct_script.specs.Fields.{IsNumber, NoNumber, IsName, NoName, row_of}
@@ -140,52 +140,52 @@ other_byte text inside other name rest is = other (name_meets text name rest ins
 abbrev before_name : Row → List ℕ → List ℕ
 before_name r rest = r.name ++ 32 ∷ (decimal r.byte ++ 10 ∷ rest)
 
-starts : (text : List ℕ) (r : Row) (rest : List ℕ) → Begins text r rest → IsNumber text 32 r.step (before_name r rest)
+starts : (text : List ℕ) (r : Row) (rest : List ℕ) → BeginsWithRow text r rest → IsNumber text 32 r.step (before_name r rest)
 starts text r rest b = record { small = omega (arith, b.row.within); text_is = b.text_is ∙ unrolled r rest }
 
-pub no_step : (text : List ℕ) → 0 < length text → NoNumber text 32 → NoLine text
+pub no_step : (text : List ℕ) → 0 < length text → NoNumber text 32 → NoScriptLine text
 no_step text some none = record { some = some; none = λ r rest b. none r.step (before_name r rest) (starts text r rest b) }
 
 -- the step that was read is the line's
-step_read : (text : List ℕ) (n : ℕ) (left : List ℕ) (r : Row) (rest : List ℕ) → IsNumber text 32 n left → Begins text r rest → (n ≡ r.step) × (left ≡ before_name r rest)
+step_read : (text : List ℕ) (n : ℕ) (left : List ℕ) (r : Row) (rest : List ℕ) → IsNumber text 32 n left → BeginsWithRow text r rest → (n ≡ r.step) × (left ≡ before_name r rest)
 step_read text n left r rest is b =
     let both = same_number n r.step 32 32 left (before_name r rest) (number_small n is.small) (step_small r b.row) refl refl (sym is.text_is ∙ (starts text r rest b).text_is) in
     (both.0, both.2)
 
-pub no_count : (text : List ℕ) (n : ℕ) (left : List ℕ) → 0 < length text → IsNumber text 32 n left → n ≡ 0 → NoLine text
+pub no_count : (text : List ℕ) (n : ℕ) (left : List ℕ) → 0 < length text → IsNumber text 32 n left → n ≡ 0 → NoScriptLine text
 no_count text n left some is none = record {
   some = some;
   none = λ r rest b. omega (arith, (step_read text n left r rest is b).0, none, b.row.counted);
 }
 
-pub too_many : (text : List ℕ) (n : ℕ) (left : List ℕ) → 0 < length text → IsNumber text 32 n left → MOST_STEPS < n → NoLine text
+pub too_many : (text : List ℕ) (n : ℕ) (left : List ℕ) → 0 < length text → IsNumber text 32 n left → MOST_STEPS < n → NoScriptLine text
 too_many text n left some is many = record {
   some = some;
   none = λ r rest b. omega (arith, (step_read text n left r rest is b).0, many, b.row.within);
 }
 
-named : (r : Row) (rest : List ℕ) → IsRow r → IsName (before_name r rest) r.name (decimal r.byte ++ 10 ∷ rest)
+named : (r : Row) (rest : List ℕ) → IsScriptRow r → IsName (before_name r rest) r.name (decimal r.byte ++ 10 ∷ rest)
 named r rest is = record { some = is.some; inner = is.inner; text_is = refl }
 
-pub no_name : (text : List ℕ) (n : ℕ) (left : List ℕ) → 0 < length text → IsNumber text 32 n left → NoName left → NoLine text
+pub no_name : (text : List ℕ) (n : ℕ) (left : List ℕ) → 0 < length text → IsNumber text 32 n left → NoName left → NoScriptLine text
 no_name text n left some is none = record {
   some = some;
   none = λ r rest b.
       none r.name (decimal r.byte ++ 10 ∷ rest) (subst (λ t. IsName t r.name (decimal r.byte ++ 10 ∷ rest)) (sym (step_read text n left r rest is b).1) (named r rest b.row));
 }
 
-name_read : (text : List ℕ) (n : ℕ) (left name more : List ℕ) (r : Row) (rest : List ℕ) → IsNumber text 32 n left → IsName left name more → Begins text r rest → (name ≡ r.name) × (more ≡ decimal r.byte ++ 10 ∷ rest)
+name_read : (text : List ℕ) (n : ℕ) (left name more : List ℕ) (r : Row) (rest : List ℕ) → IsNumber text 32 n left → IsName left name more → BeginsWithRow text r rest → (name ≡ r.name) × (more ≡ decimal r.byte ++ 10 ∷ rest)
 name_read text n left name more r rest is called b =
     let both = same_run is_inner name r.name 32 32 more (decimal r.byte ++ 10 ∷ rest) called.inner b.row.inner refl refl (sym called.text_is ∙ (step_read text n left r rest is b).1) in
     (both.0, both.2)
 
-pub no_byte : (text : List ℕ) (n : ℕ) (left name more : List ℕ) → 0 < length text → IsNumber text 32 n left → IsName left name more → NoNumber more 10 → NoLine text
+pub no_byte : (text : List ℕ) (n : ℕ) (left name more : List ℕ) → 0 < length text → IsNumber text 32 n left → IsName left name more → NoNumber more 10 → NoScriptLine text
 no_byte text n left name more some is called none = record {
   some = some;
   none = λ r rest b. none r.byte rest (record { small = omega (arith, b.row.small); text_is = (name_read text n left name more r rest is called b).1 });
 }
 
-pub bad_byte : (text : List ℕ) (n : ℕ) (left name more : List ℕ) (m : ℕ) (end : List ℕ) → 0 < length text → IsNumber text 32 n left → IsName left name more → IsNumber more 10 m end → 255 < m → NoLine text
+pub bad_byte : (text : List ℕ) (n : ℕ) (left name more : List ℕ) (m : ℕ) (end : List ℕ) → 0 < length text → IsNumber text 32 n left → IsName left name more → IsNumber more 10 m end → 255 < m → NoScriptLine text
 bad_byte text n left name more m end some is called byte many = record {
   some = some;
   none = λ r rest b.
@@ -193,7 +193,7 @@ bad_byte text n left name more m end some is called byte many = record {
       omega (arith, both.0, many, b.row.small);
 }
 
-pub line_is : (text : List ℕ) (n : ℕ) (left name more : List ℕ) (m : ℕ) (end : List ℕ) → IsNumber text 32 n left → 1 ≤ n → n ≤ MOST_STEPS → IsName left name more → IsNumber more 10 m end → m ≤ 255 → Begins text (row_of n name m) end
+pub line_is : (text : List ℕ) (n : ℕ) (left name more : List ℕ) (m : ℕ) (end : List ℕ) → IsNumber text 32 n left → 1 ≤ n → n ≤ MOST_STEPS → IsName left name more → IsNumber more 10 m end → m ≤ 255 → BeginsWithRow text (row_of n name m) end
 line_is text n left name more m end is counted within called byte small = record {
   row = record { counted = counted; within = within; some = called.some; inner = called.inner; small = small };
   text_is =

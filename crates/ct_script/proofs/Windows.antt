@@ -1,13 +1,13 @@
 -- What is given before a step stands together, between two places that halving finds.
-use Rattle.std.proofs.Common.{◌≡◌, ℕ, ◌+◌, ◌-◌, ◌<◌, ◌≤◌, ◌==◌, List, [], ◌∷◌, Bool, true, false, inl, inr, refl, ap, sym, ◌∙◌, arith, length, map, take, drop}
+use Rattle.std.proofs.Common.{◌≡◌, ℕ, ◌+◌, ◌-◌, ◌<◌, ◌≤◌, ◌==◌, zero, suc, List, [], ◌∷◌, Bool, true, false, inl, inr, refl, ap, sym, ◌∙◌, arith, length, map, take, drop}
 use Rattle.std.proofs.Math.ListN.{get_or}
 use Rattle.std.specs.List.{filter}
-use Rattle.std.proofs.lemmas.List.{get_or-map, take-map, drop-map, length-map}
-use Rattle.law_lists.proofs.Tests.{eq_tells, le_tells}
+use Rattle.std.proofs.lemmas.List.{get_or-map, get_or_default, take-map, drop-map, length-map}
+use Rattle.law_lists.proofs.Tests.{bool_tells, eq_tells, le_tells}
 use Rattle.law_lists.proofs.Finds.{filter_window}
 use Rattle.def_script.specs.declared.Given.{Given}
 use Rattle.def_script.specs.Script.{Due, given_at}
-use Rattle.ct_script.specs.Lines.{LinesRow, AreLines, IsFirstFrom, dues_of}
+use Rattle.ct_script.specs.Lines.{LinesRow, AreLines, IsFirstFrom, IsGap, dues_of}
 
 abbrev step_in : Due → ℕ
 step_in d = d.step
@@ -57,3 +57,59 @@ found l step low high lines a b =
     ∙ ap (λ gs. take (high - low) gs) (drop-map given_in low dues)
     ∙ take-map given_in (high - low) (drop low dues)
     ∙ ap (λ ds. map given_in ds) (sym window)
+
+-- ---- numbers that are no step
+
+-- what passes stays
+none_stays : {A : Type 0} (p : A → Bool) (xs : List A) (k : ℕ) (d : A) → k < length xs → p (get_or xs k d) ≡ true → filter p xs ≡ [] → ⊥
+none_stays p [] k d inside passes none = omega (arith, inside)
+none_stays p (x ∷ xs) zero d inside passes none = let e : (x ∷ filter p xs) ≡ [] = rw passes at none in absurd (cc)
+none_stays p (x ∷ xs) (suc k) d inside passes none =
+    elim (bool_tells (p x)) [
+      | inl here ↦ absurd (let e : (x ∷ filter p xs) ≡ [] = rw here at none in cc)
+      | inr other ↦ none_stays p xs k d (omega (arith, inside)) passes (rw other at none)
+    ]
+
+no_image : (ds : List Due) → map given_in ds ≡ [] → ds ≡ []
+no_image [] none = refl
+no_image (d ∷ ds) none = absurd (cc)
+
+module _ (l : LinesRow) (from most count : ℕ) (lines : AreLines l) (gap : IsGap l.steps from most count) where
+  abbrev dues : List Due
+  dues = dues_of l.steps l.givens
+
+  same : map step_in dues ≡ l.steps
+  same = steps_are l.steps l.givens lines.even
+
+  size : length dues ≡ length l.steps
+  size = sym (length-map dues step_in) ∙ ap length same
+
+  step_at : (k : ℕ) (d : Due) → k < length dues → (get_or dues k d).step ≡ get_or l.steps k 0
+  step_at k d inside = sym (get_or-map step_in dues k d 0 inside) ∙ ap (λ ss. get_or ss k 0) same
+
+  no_step : (n k : ℕ) (d : Due) → n < count → k < length dues → is_at (from + n) (get_or dues k d) ≡ false
+  no_step n k d lt inside =
+      other_tells (from + n) (get_or dues k d)
+      (λ e. elim (gap.none k (omega (arith, inside, size))) [
+        | inl less ↦ omega (arith, e, step_at k d inside, less)
+        | inr more ↦ omega (arith, e, step_at k d inside, more, lt)
+      ])
+
+  -- before none of them something is given
+  pub gap_bare : (n : ℕ) → n < count → given_at dues (from + n) ≡ []
+  gap_bare n lt =
+      ap (λ ds. map given_in ds)
+      (filter_window (is_at (from + n)) dues 0 0 (omega arith) (omega arith)
+      (λ k d less. absurd (omega (arith, less)))
+      (λ k d lo less. absurd (omega (arith, less)))
+      (λ k d lo inside. no_step n k d lt inside))
+
+  -- before the one that follows something is, where they are fewer than may be
+  pub gap_given : count < most → given_at dues (from + count) ≡ [] → ⊥
+  gap_given less none =
+      let (k, inside, is) = gap.next less in
+      let d : Due = record { step = 0; given = record { device = 0; byte = 0 } } in
+      let here : k < length dues = omega (arith, inside, size) in
+      none_stays (is_at (from + count)) dues k d here
+      (at_tells (from + count) (get_or dues k d) (step_at k d here ∙ get_or_default l.steps k 0 (from + count) inside ∙ is))
+      (no_image (filter (is_at (from + count)) dues) none)

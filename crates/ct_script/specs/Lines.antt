@@ -1,10 +1,10 @@
 -- The lines of a script as they are kept: steps and what is given, place by place.
-use Rattle.std.specs.Prelude.{ℕ, ◌≡◌, ◌+◌, ◌-◌, ◌<◌, ◌≤◌, ◌++◌, ◌⊎◌, IsSome, None, List, [], ◌∷◌, AllPairs, map, flat_map, length, slice_index_or}
+use Rattle.std.specs.Prelude.{ℕ, ◌≡◌, ◌+◌, ◌-◌, ◌<◌, ◌≤◌, ◌++◌, ◌⊎◌, IsSome, None, List, [], ◌∷◌, AllPairs, Contains, map, flat_map, length, slice_index_or}
 use Rattle.ct_entry.specs.Listed.{DeviceRow}
 use Rattle.def_script.specs.declared.Given.{Given}
 use Rattle.def_script.specs.declared.ScriptFault.{ScriptFault}
 use Rattle.def_script.specs.declared.ScriptFault.TheVariants.{At, NoMemory}
-use Rattle.def_script.specs.Script.{Row, IsScript, Due, Begins, NoLine, due, device_named, spelled}
+use Rattle.def_script.specs.Script.{Row, IsScript, Due, BeginsWithRow, NoScriptLine, due, device_named, spelled}
 
 pub record LinesRow : Type 0 where
   pub steps : List ℕ
@@ -29,6 +29,13 @@ pub record IsFirstFrom (steps : List ℕ) (step place : ℕ) : Type 0 where
   pub less : (k : ℕ) → k < place → slice_index_or steps k 0 < step
   pub rest : (k : ℕ) → place ≤ k → k < length steps → step ≤ slice_index_or steps k 0
 
+-- Of so many numbers from this one on none is a step of these; where they are fewer than may be, the next one is.
+pub record IsGap (steps : List ℕ) (from most count : ℕ) : Type 0 where
+  pub fits : count ≤ most
+  pub none : (k : ℕ) → k < length steps
+      → (slice_index_or steps k 0 < from) ⊎ (from + count ≤ slice_index_or steps k 0)
+  pub next : count < most → Contains steps (from + count)
+
 abbrev pub step_of : Row → ℕ
 step_of r = r.step
 
@@ -45,7 +52,7 @@ with_line l step given = record { steps = l.steps ++ step ∷ []; givens = l.giv
 -- a line begins what is left, breaks no rule after these, and is kept
 pub record Takes (devices : List DeviceRow) (old new : LinesRow) (left rest : List ℕ) : Type 0 where
   pub row : Row
-  pub begins : Begins left row rest
+  pub begins : BeginsWithRow left row rest
   pub order : last_of old.steps ≤ row.step
   pub named : IsSome (device_named devices row.name)
   pub kept : new ≡ with_line old row.step (given_of devices row)
@@ -54,21 +61,21 @@ pub record Takes (devices : List DeviceRow) (old new : LinesRow) (left rest : Li
 pub record Late (steps left : List ℕ) : Type 0 where
   pub next : Row
   pub rest : List ℕ
-  pub begins : Begins left next rest
+  pub begins : BeginsWithRow left next rest
   pub falls : next.step < last_of steps
 
 -- a line begins what is left, whose step isn't, but whose name is no device's that takes bytes
 pub record Lost (devices : List DeviceRow) (steps left : List ℕ) : Type 0 where
   pub next : Row
   pub rest : List ℕ
-  pub begins : Begins left next rest
+  pub begins : BeginsWithRow left next rest
   pub order : last_of steps ≤ next.step
   pub unknown : device_named devices next.name ≡ None
 
 abbrev pub IsRefusal : List DeviceRow → LinesRow → List ℕ → ScriptFault → Type 0
 IsRefusal devices old left (At number line) =
     (line ≡ length old.steps + 1)
-    × (((number ≡ 1) × NoLine left) ⊎ ((number ≡ 2) × Late old.steps left)
+    × (((number ≡ 1) × NoScriptLine left) ⊎ ((number ≡ 2) × Late old.steps left)
     ⊎ ((number ≡ 3) × Lost devices old.steps left))
 IsRefusal devices old left NoMemory = Unit {0}
 

@@ -2,10 +2,10 @@
 
 ghost use Rattle.std.specs.Prelude.{ℕ, ◌≡◌, ◌+◌, ◌<◌, ◌≤◌, ◌^◌, ◌++◌, ◌∷◌, length, take, drop, decimal, false, MatchOption, slice_index_or};
 ghost use Rattle.std.specs.List.{list_all, prefix_len};
-ghost use Rattle.def_script.specs.Script.{is_inner, NoLine, Begins};
+ghost use Rattle.def_script.specs.Script.{is_inner, NoScriptLine, BeginsWithRow};
 ghost use Rattle.ct_script.specs.Fields.{IsNumber, NoNumber, IsName, NoName, row_of};
 
-use ct_digits::number_of;
+use ct_texts::number_of;
 use def_profile::limits::MOST_STEPS;
 
 /// A number, and what follows its end.
@@ -106,8 +106,8 @@ fn name_before(text: &[u8]) -> Option<Named<'_>>
 #[tactic(auto, using(crate::proofs::Parts::no_step, crate::proofs::Parts::no_count, crate::proofs::Parts::too_many, crate::proofs::Parts::no_name, crate::proofs::Parts::no_byte, crate::proofs::Parts::bad_byte, crate::proofs::Parts::line_is))]
 pub(crate) fn first_line(text: &[u8]) -> Option<Line<'_>>
     requires { 0 < length text.now }
-    ensures { MatchOption result (NoLine text.now)
-        (λ l. Begins text.now (row_of l.step l.name.now l.byte) l.rest.now) }
+    ensures { MatchOption result (NoScriptLine text.now)
+        (λ l. BeginsWithRow text.now (row_of l.step l.name.now l.byte) l.rest.now) }
 {
     let step = match number_before(text, b' ') {
         Some(step) => step,

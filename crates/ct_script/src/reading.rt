@@ -1,11 +1,11 @@
 //! The lines of a text, one after another.
 
 ghost use Rattle.std.specs.Prelude.{ℕ, ◌≡◌, ◌+◌, ◌<◌, ◌≤◌, ◌^◌, length, [], MatchResult};
-ghost use Rattle.def_script.specs.Script.{IsCause, device_named, given_at, is_named, takes_bytes};
+ghost use Rattle.def_script.specs.Script.{IsScriptCause, device_named, given_at, is_named, takes_bytes};
 ghost use Rattle.ct_script.specs.Lines.{AreLines, Going, Takes, IsRefusal, dues_of, last_of, with_line};
 
 use crate::fields::first_line;
-use crate::finding::first_from;
+use crate::finding::{first_from, gap_from};
 use ct_entry::{Device, DeviceKind};
 use def_script::{Given, ScriptFault};
 use std::alloc::Global;
@@ -35,6 +35,18 @@ impl Lines {
         let from = first_from(&self.steps, step as u64);
         let to = first_from(&self.steps, step as u64 + 1);
         &self.givens[from..to]
+    }
+
+    /// How many steps from this one on, of at most `most`, come before the next before which something is given.
+    pub(crate) fn bare_steps(&self, from: u32, most: u32) -> u32
+        requires { AreLines self.now }
+        ensures most { result ≤ most }
+        ensures none { (k : ℕ) → k < result
+            → given_at (dues_of self.now.steps self.now.givens) (from + k) ≡ [] }
+        ensures next { result < most
+            → given_at (dues_of self.now.steps self.now.givens) (from + result) ≡ [] → ⊥ }
+    {
+        gap_from(&self.steps, from, most)
     }
 }
 
@@ -148,7 +160,7 @@ pub(crate) fn read_lines(
     requires bytes { length bytes.now < 2 ^ 32 }
     requires devices { length devices.now < 2 ^ 32 }
     ensures { MatchResult result (λ l. Going devices.now bytes.now l [])
-        (λ fault. IsCause devices.now bytes.now fault) }
+        (λ fault. IsScriptCause devices.now bytes.now fault) }
 {
     let mut lines = Lines {
         steps: Vec::new(alloc),

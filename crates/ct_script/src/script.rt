@@ -1,10 +1,10 @@
 //! A script: what is given, in order, each with the step before which it comes.
 
-ghost use Rattle.std.specs.Prelude.{ℕ, ◌≡◌, ◌<◌, ◌^◌, [], length, MatchResult};
-ghost use Rattle.def_script.specs.Script.{Reads, IsCause, given_at};
+ghost use Rattle.std.specs.Prelude.{ℕ, ◌≡◌, ◌+◌, ◌<◌, ◌≤◌, ◌^◌, [], length, MatchResult};
+ghost use Rattle.def_script.specs.Script.{ReadsAsScript, IsScriptCause, given_at};
 
 use crate::reading::{Lines, read_lines};
-use ct_entry::Device;
+use ct_entry::Devices;
 use def_script::{Given, ScriptFault};
 use std::alloc::Global;
 use std::marker::Model;
@@ -29,13 +29,13 @@ impl Model for Script {
 
 /// Reads a script. The answer `At` names the least line that breaks a rule, and on it the least rule;
 /// `NoMemory` wants memory.
-pub fn read(alloc: Global, bytes: &[u8], devices: &[Device]) -> Result<Script, ScriptFault>
+pub fn read(alloc: Global, bytes: &[u8], devices: &Devices) -> Result<Script, ScriptFault>
     requires bytes { length bytes.now < 2 ^ 32 }
     requires devices { length devices.now < 2 ^ 32 }
-    ensures { MatchResult result (λ s. Reads devices.now bytes.now s)
-        (λ fault. IsCause devices.now bytes.now fault) }
+    ensures { MatchResult result (λ s. ReadsAsScript devices.now bytes.now s)
+        (λ fault. IsScriptCause devices.now bytes.now fault) }
 {
-    let lines = read_lines(alloc, bytes, devices)?;
+    let lines = read_lines(alloc, bytes, devices.rows.as_slice())?;
     Ok(Script { lines })
 }
 
@@ -56,5 +56,14 @@ impl Script {
         ensures { result.now ≡ given_at self.now step }
     {
         self.lines.given_at(step)
+    }
+
+    /// How many steps from this one on, of at most `most`, come before the next before which a byte comes.
+    pub fn bare_steps(&self, from: u32, most: u32) -> u32
+        ensures most { result ≤ most }
+        ensures none { (k : ℕ) → k < result → given_at self.now (from + k) ≡ [] }
+        ensures next { result < most → given_at self.now (from + result) ≡ [] → ⊥ }
+    {
+        self.lines.bare_steps(from, most)
     }
 }

@@ -17,9 +17,9 @@ use crate::answering::{answer, code};
 use crate::words::word_trap;
 use ct_cap::{Live, Trap};
 use ct_engine::Engine;
-use ct_exports::return_trap;
 use ct_mem::Memory;
 use ct_sched::Sched;
+use ct_switch::return_trap;
 use def_profile::answers::DIFFERS;
 
 /// The running thread stops, to be ready after so many ticks.

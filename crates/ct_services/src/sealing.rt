@@ -21,8 +21,8 @@ use crate::granting::{base_of, capability, decline, free_whole, hand_out, quota_
 use ct_cap::Live;
 use ct_engine::{Engine, Found};
 use ct_execute::Ran;
-use ct_exports::return_trap;
 use ct_mem::Memory;
+use ct_switch::return_trap;
 use ct_token::opened;
 use def_profile::answers::{NO_KEY, NO_OBJECT, NO_QUOTA, NO_TOKEN};
 use def_profile::layout::GRANULE;

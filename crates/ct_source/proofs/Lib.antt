@@ -5,3 +5,4 @@ pub mod NamedRows
 pub mod PiecesOf
 pub mod ProgramsOf
 pub mod RowsOf
+pub mod SmallNumbers

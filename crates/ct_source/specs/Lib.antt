@@ -1,2 +1,3 @@
+pub mod Compact
 pub mod Runs
 pub mod Views

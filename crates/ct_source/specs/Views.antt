@@ -3,6 +3,9 @@
 use Rattle.std.specs.Prelude.{ℕ, List, map, option_map, Result, Ok, Err, Bool, true, false}
 use denote.Ref.{Bor}
 use Rattle.ct_source.specs.declared.Program.{Program}
+use Rattle.ct_source.specs.declared.compact.CompactLine.{CompactLine}
+use Rattle.ct_source.specs.declared.compact.CompactStatement.{CompactStatement}
+use Rattle.ct_source.specs.Compact.{compact_part}
 use Rattle.def_source.specs.Source.{Name, Statements}
 use Rattle.def_source.specs.declared.parts.Token.{Token}
 use Rattle.def_source.specs.declared.parts.Token.TheVariants as token
@@ -77,8 +80,9 @@ abbrev pub part_view : Part (Bor (List ℕ)) → Part Name
 part_view p = part_named (λ n. n.now) p
 
 -- a line with the bytes of its names
-abbrev pub line_view : Line (Bor (List ℕ)) → Line Name
-line_view l = record { label = option_map (λ n. n.now) l.label; part = option_map part_view l.part }
+abbrev pub line_view : CompactLine → Line Name
+line_view l =
+    record { label = option_map (λ n. n.now) l.label; part = option_map compact_part l.part }
 
 -- the directives with a number
 abbrev pub takes_number : Directive → Bool
@@ -86,10 +90,10 @@ takes_number directive.Text = false
 takes_number directive.Data = false
 takes_number _ = true
 
-abbrev pub statement_view : Statement (Bor (List ℕ)) → Statement Name
-statement_view s = record { line = s.line; part = part_view s.part }
+abbrev pub statement_view : CompactStatement → Statement Name
+statement_view s = record { line = s.line; part = compact_part s.part }
 
-abbrev pub statements_view : List (Statement (Bor (List ℕ))) → Statements
+abbrev pub statements_view : List CompactStatement → Statements
 statements_view ss = map statement_view ss
 
 -- the statements that a program holds

@@ -3,6 +3,7 @@
 #![tactic(auto)]
 
 mod characters;
+pub mod compact;
 mod forms;
 mod lines;
 mod numbers;
@@ -15,17 +16,19 @@ ghost use Rattle.std.specs.Prelude.{◌≡◌, ◌++◌, ◌+◌, ◌<◌, ◌^�
 ghost use Rattle.def_source.specs.Source as source;
 ghost use Rattle.def_source.specs.declared.parts.Section.TheVariants as section;
 ghost use Rattle.def_source.specs.Source.{Gives, IsLawful, program_of};
-ghost use Rattle.ct_source.specs.Views.{part_view, line_view, statements_view, program_view};
+ghost use Rattle.ct_source.specs.Views.{line_view, statements_view, program_view};
+ghost use Rattle.ct_source.specs.Compact.{compact_part};
 
+use crate::compact::{CompactLine, CompactPart, CompactStatement};
 use crate::lines::{first_line, line};
 use def_source::AsmFault;
-use def_source::parts::{Line, Part, Section, Statement};
+use def_source::parts::Section;
 use std::alloc::{AllocError, Global};
 
 /// The labels and statements of a source, in order. Names are slices of the source.
 #[derive(Drop)]
 pub struct Program<'a> {
-    pub statements: Vec<Statement<&'a [u8]>>,
+    pub statements: Vec<CompactStatement<'a>>,
 }
 
 /// The statements that a text stands for.
@@ -47,7 +50,7 @@ pub fn statements<'a>(alloc: Global, text: &'a [u8]) -> Result<Program<'a>, AsmF
 }
 
 /// The statements, line by line.
-fn all_statements<'a>(alloc: Global, text: &'a [u8]) -> Result<Vec<Statement<&'a [u8]>>, AsmFault>
+fn all_statements<'a>(alloc: Global, text: &'a [u8]) -> Result<Vec<CompactStatement<'a>>, AsmFault>
     requires { length text.now < 2 ^ 32 }
     ensures { Gives (λ v. statements_view v.items) result
         (source.program_from section.Text 1 (source.lines_of text.now)) }
@@ -74,33 +77,33 @@ fn all_statements<'a>(alloc: Global, text: &'a [u8]) -> Result<Vec<Statement<&'a
 
 /// Adds what stands on a line.
 fn add<'a>(
-    all: &mut Vec<Statement<&'a [u8]>>,
+    all: &mut Vec<CompactStatement<'a>>,
     line: u32,
-    read: Line<&'a [u8]>,
+    read: CompactLine<'a>,
 ) -> Result<(), AllocError>
     ensures { OnOk result
         (statements_view all.new.items ≡ statements_view all.old.items
         ++ source.line_statements line (line_view read.entry)) }
 {
     if let Some(name) = read.label {
-        all.push(Statement {
+        all.push(CompactStatement {
             line,
-            part: Part::Label { name },
+            part: CompactPart::Label { name },
         })?;
     }
     if let Some(part) = read.part {
-        all.push(Statement { line, part })?;
+        all.push(CompactStatement { line, part })?;
     }
     Ok(())
 }
 
 /// The section after a statement.
-fn section_after(section: Section, part: Option<Part<&[u8]>>) -> Section
-    ensures { result ≡ source.section_after section (option_map part_view part.entry) }
+fn section_after(section: Section, part: Option<CompactPart<'_>>) -> Section
+    ensures { result ≡ source.section_after section (option_map compact_part part.entry) }
 {
     match part {
-        Some(Part::Text) => Section::Text,
-        Some(Part::Data) => Section::Data,
+        Some(CompactPart::Text) => Section::Text,
+        Some(CompactPart::Data) => Section::Data,
         _ => section,
     }
 }

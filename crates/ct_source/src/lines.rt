@@ -4,20 +4,23 @@ ghost use Rattle.std.specs.Prelude.{◌≡◌, ◌<◌, ◌≤◌, ◌∷◌, le
 ghost use Rattle.def_source.specs.Source as source;
 ghost use Rattle.def_source.specs.Source.{result_map, Gives};
 ghost use Rattle.ct_source.specs.Views.{row_view, part_view, line_view, at_line};
+ghost use Rattle.ct_source.specs.Compact.{compact_part};
 ghost use Rattle.ct_source.specs.Runs.{len_before, shortened};
 
 use crate::characters::are_ascii;
+use crate::compact::{CompactLine, CompactPart};
 use crate::forms::{directive_form, form};
 use crate::ranges::{in_section, numbers_fit, registers_exist};
 use crate::tables;
 use crate::tokens::row;
 use def_source::AsmFault;
-use def_source::parts::{Line, Part, Section, Token};
+use def_source::parts::{Part, Section, Token};
 use std::alloc::{AllocError, Global};
 
 /// A statement that has its form, or the least number of what it breaks.
-fn lawful<'a>(section: Section, part: Part<&'a [u8]>) -> Result<Part<&'a [u8]>, u32>
-    ensures { result_map part_view result ≡ source.lawful_or_fault section (part_view part.entry) }
+#[tactic(auto, using(crate::proofs::SmallNumbers::numbers_small))]
+fn lawful<'a>(section: Section, part: Part<&'a [u8]>) -> Result<CompactPart<'a>, u32>
+    ensures { result_map compact_part result ≡ source.lawful_or_fault section (part_view part.entry) }
 {
     if !in_section(section, part) {
         return Err(3);
@@ -28,12 +31,15 @@ fn lawful<'a>(section: Section, part: Part<&'a [u8]>) -> Result<Part<&'a [u8]>, 
     if !registers_exist(part) {
         return Err(7);
     }
-    Ok(part)
+    Ok(CompactPart::of(part))
 }
 
 /// The statement of a form, if it has one.
-fn formed<'a>(section: Section, part: Option<Part<&'a [u8]>>) -> Result<Option<Part<&'a [u8]>>, u32>
-    ensures { result_map (λ o. option_map part_view o) result
+fn formed<'a>(
+    section: Section,
+    part: Option<Part<&'a [u8]>>,
+) -> Result<Option<CompactPart<'a>>, u32>
+    ensures { result_map (λ o. option_map compact_part o) result
         ≡ source.formed section (option_map part_view part.entry) }
 {
     match part {
@@ -46,8 +52,8 @@ fn formed<'a>(section: Section, part: Option<Part<&'a [u8]>>) -> Result<Option<P
 }
 
 /// The statement of a row of tokens, which may be none.
-fn statement<'a>(section: Section, row: &[Token<&'a [u8]>]) -> Result<Option<Part<&'a [u8]>>, u32>
-    ensures { result_map (λ o. option_map part_view o) result
+fn statement<'a>(section: Section, row: &[Token<&'a [u8]>]) -> Result<Option<CompactPart<'a>>, u32>
+    ensures { result_map (λ o. option_map compact_part o) result
         ≡ source.statement_of section (row_view row.now) }
 {
     match row {
@@ -86,11 +92,11 @@ fn after_label<'a, 'b>(row: &'b [Token<&'a [u8]>]) -> &'b [Token<&'a [u8]>]
 
 /// What a row of tokens says.
 #[tactic(auto, unfolding(def_source::specs::Source::row_line))]
-fn row_line<'a>(section: Section, row: &[Token<&'a [u8]>]) -> Result<Line<&'a [u8]>, u32>
+fn row_line<'a>(section: Section, row: &[Token<&'a [u8]>]) -> Result<CompactLine<'a>, u32>
     ensures { result_map line_view result ≡ source.row_line section (row_view row.now) }
 {
     match statement(section, after_label(row)) {
-        Ok(part) => Ok(Line {
+        Ok(part) => Ok(CompactLine {
             label: label(row),
             part,
         }),
@@ -141,7 +147,7 @@ pub(crate) fn line<'a>(
     section: Section,
     number: u32,
     text: &'a [u8],
-) -> Result<Line<&'a [u8]>, AsmFault>
+) -> Result<CompactLine<'a>, AsmFault>
     ensures { Gives line_view result (at_line number (source.line_of section text.now)) }
 {
     match line_tokens(alloc, text) {

@@ -14,8 +14,8 @@ use Rattle.ct_areas.specs.declared.thread.Thread as row
 use Rattle.ct_areas.specs.Threads.{area_begin, frames_most, living}
 use Rattle.ct_areas.specs.Parts.{register_in}
 use Rattle.ct_areas.proofs.Places.{alive_is}
-use Rattle.ct_exports.specs.declared.exports.Export.{Export}
-use Rattle.ct_exports.specs.Exports.{export_of}
+use Rattle.ct_switch.specs.declared.exports.Export.{Export}
+use Rattle.ct_switch.specs.Exports.{export_of}
 use Rattle.ct_switch.specs.Ready.{MayCall}
 use Rattle.ct_switch.specs.Calls.{failed_in, switch_in, decided, roomed, Enterable, MayEnter, TopFits}
 use Rattle.ct_switch.proofs.Failing.{checks_passed}

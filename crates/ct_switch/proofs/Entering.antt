@@ -9,8 +9,8 @@ use Rattle.def_step.specs.Switch.{Switched, Trapped, TooDeep, NoStack, Enters, n
 use Rattle.ct_areas.specs.declared.thread.Thread as row
 use Rattle.ct_areas.specs.Threads.{thread_of}
 use Rattle.ct_areas.specs.Parts.{register_in, with_frame}
-use Rattle.ct_exports.specs.declared.exports.Export.{Export}
-use Rattle.ct_exports.specs.Exports.{AreTogether, HeadLies, IsCallable, row_at, is_export_of, table_of, callee_of, export_of}
+use Rattle.ct_switch.specs.declared.exports.Export.{Export}
+use Rattle.ct_switch.specs.Exports.{AreTogether, HeadLies, IsCallable, row_at, is_export_of, table_of, callee_of, export_of}
 use Rattle.ct_switch.specs.declared.calls.Called.TheVariants as called
 use Rattle.ct_switch.specs.declared.deciding.Decision.{Decision}
 use Rattle.ct_switch.specs.declared.deciding.Decision.TheVariants as decision

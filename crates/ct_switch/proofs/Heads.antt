@@ -15,7 +15,7 @@ use Rattle.ct_areas.specs.declared.thread.Thread as row
 use Rattle.ct_areas.specs.Threads.{thread_of}
 use Rattle.ct_areas.specs.Parts.{register_in}
 use Rattle.ct_areas.proofs.Places.{alive_is}
-use Rattle.ct_exports.specs.Exports.{callee_of}
+use Rattle.ct_switch.specs.Exports.{callee_of}
 use Rattle.ct_switch.specs.Calls.{given_in, stack_cap, head_of, HoldsHeads}
 
 all_given : Cap → Cap → Cap → Cap → Given

@@ -1,3 +1,5 @@
+pub mod Rooms
+pub mod Rows
 pub mod Failing
 pub mod Coming
 pub mod Threads

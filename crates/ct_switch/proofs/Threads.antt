@@ -20,8 +20,8 @@ use Rattle.ct_areas.specs.Parts.{IsSpan, with_frame, without_frame, deeper, push
 use Rattle.ct_areas.proofs.Places.{some_depth}
 use Rattle.ct_areas.proofs.Same.{touched_same, cleared_same}
 use Rattle.ct_areas.proofs.Rows.{frames_are, pushed_touches, popped_touches}
-use Rattle.ct_exports.specs.declared.exports.Export.{Export}
-use Rattle.ct_exports.specs.Exports.{callee_of, export_of}
+use Rattle.ct_switch.specs.declared.exports.Export.{Export}
+use Rattle.ct_switch.specs.Exports.{callee_of, export_of}
 use Rattle.ct_switch.specs.Ready.{IsReady, IsOther, stack_begin, stack_end}
 use Rattle.ct_switch.specs.Calls.{registers_in, posture_in, entered_thread, after_frame_end, load_filter, thread_left, memory_left, filtered_frame, caller_registers, restored_row}
 

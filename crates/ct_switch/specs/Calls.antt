@@ -30,8 +30,8 @@ use Rattle.ct_switch.specs.declared.calls.Called.TheVariants as called
 use Rattle.ct_switch.specs.declared.deciding.Decision.{Decision}
 use Rattle.ct_switch.specs.declared.deciding.Decision.TheVariants as decision
 use Rattle.ct_areas.specs.declared.frames.Saved.{Saved}
-use Rattle.ct_exports.specs.declared.exports.Export.{Export}
-use Rattle.ct_exports.specs.Exports.{IsCallable, callee_of, export_of, table_of}
+use Rattle.ct_switch.specs.declared.exports.Export.{Export}
+use Rattle.ct_switch.specs.Exports.{IsCallable, callee_of, export_of, table_of}
 
 -- ---- a call
 

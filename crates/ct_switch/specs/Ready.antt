@@ -10,7 +10,7 @@ use Rattle.ct_areas.specs.declared.thread.Area.{Area}
 use Rattle.ct_areas.specs.declared.thread.Thread as row
 use Rattle.ct_areas.specs.Threads.{HasArea, IsApart, area_begin, area_end, frames_most}
 use Rattle.ct_areas.specs.Parts.{register_in}
-use Rattle.ct_exports.specs.Exports.{AreSorted, IsCallable}
+use Rattle.ct_switch.specs.Exports.{AreSorted, IsCallable}
 
 -- the stack lies in RAM of so many bytes, in multiples of 16, and doesn't meet the area
 pub record HasStack (size : ℕ) (a : Area) : Type 0 where

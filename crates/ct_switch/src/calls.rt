@@ -5,16 +5,16 @@ ghost use Rattle.def_memory.specs.Ranges.{zeroed_from};
 ghost use Rattle.ct_areas.specs.declared.thread.Thread as row;
 ghost use Rattle.ct_areas.specs.Threads.{frames_most, thread_of};
 ghost use Rattle.ct_areas.specs.Parts.{register_in, with_frame};
-ghost use Rattle.ct_exports.specs.Exports.{IsCallable, callee_of};
+ghost use Rattle.ct_switch.specs.Exports.{IsCallable, callee_of};
 ghost use Rattle.ct_switch.specs.Ready.{IsReady, IsOther, MayCall};
 ghost use Rattle.ct_switch.specs.Calls.{head_of, switch_in, call_outcome, memory_after, thread_after, row_after, registers_in, posture_in, entered_row, entered_thread};
 
 use crate::deciding::{Decision, decide, entry_of, register};
 use crate::given::{Start, given, posture, registers};
+use crate::{Export, table_at};
 use ct_areas::{Thread, clear, push};
 use ct_cap::Trap;
 use ct_entry::Entries;
-use ct_exports::{Export, table_at};
 use ct_mem::Memory;
 
 /// What a switch came to: the callee was entered, by the entry whose capability stood in c6, through the export with

@@ -6,10 +6,10 @@ ghost use Rattle.ct_areas.specs.Threads.{frames_most};
 ghost use Rattle.ct_switch.specs.Ready.{MayCall};
 ghost use Rattle.ct_switch.specs.Calls.{failed_in, switch_in, decided, MayEnter, TopFits, roomed};
 
+use crate::{Export, called, export_of, first_trap, top_below};
 use ct_areas::{Area, Thread};
 use ct_cap::{Live, Trap};
 use ct_entry::Entries;
-use ct_exports::{Export, called, export_of, first_trap, top_below};
 use ct_mem::Memory;
 use def_profile::layout::{AREA_HEAD, FRAME_SIZE};
 

@@ -9,16 +9,16 @@ ghost use Rattle.def_reach.specs.Roots.{root_of};
 ghost use Rattle.ct_areas.specs.declared.thread.Thread as row;
 ghost use Rattle.ct_areas.specs.Threads.{thread_of};
 ghost use Rattle.ct_areas.specs.Parts.{inner_frame, saved_in};
-ghost use Rattle.ct_exports.specs.Exports.{AreSorted};
+ghost use Rattle.ct_switch.specs.Exports.{AreSorted};
 ghost use Rattle.ct_switch.specs.Ready.{IsReady, IsOther};
 ghost use Rattle.ct_switch.specs.Calls.{returned_by, thread_left, memory_left, row_left, no_registers, ended_row, restored_row, filtered_frame, caller_registers};
 
 use crate::deciding::register;
+use crate::export_of;
 use crate::given::handed;
 use ct_areas::{Saved, Thread, clear, innermost, pop};
 use ct_cap::{Live, Posture, open};
 use ct_entry::Entries;
-use ct_exports::export_of;
 use ct_flow::posture_through;
 use ct_loadstore::filter;
 use ct_mem::Memory;

@@ -8,12 +8,12 @@ ghost use Rattle.def_machine.specs.Image.{Image};
 ghost use Rattle.def_machine.specs.Frames.{callee_start};
 ghost use Rattle.ct_areas.specs.declared.thread.Thread as row;
 ghost use Rattle.ct_areas.specs.Threads.{thread_of};
-ghost use Rattle.ct_exports.specs.Exports.{callee_of};
+ghost use Rattle.ct_switch.specs.Exports.{callee_of};
 ghost use Rattle.ct_switch.specs.Calls.{given_by, given_in, registers_in, argument_in, handed, posture_in, stack_cap, HoldsHeads};
 
+use crate::Export;
 use ct_areas::Thread;
 use ct_cap::{Live, Posture, Shadow, clear_tag, derive, expand, set_address};
-use ct_exports::Export;
 use ct_mem::Memory;
 use def_profile::native::{NATIVE_LENGTH, RETURN_ENTRY};
 use def_profile::rights::{EXECUTABLE_ROOT, MEMORY_ROOT, SERVICE_RIGHTS, STACK_RIGHTS};

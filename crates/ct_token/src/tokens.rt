@@ -1,6 +1,6 @@
 //! The table of keys and tokens.
 
-ghost use Rattle.std.specs.Prelude.{◌≡◌, ◌/◌, ◌<◌, ◌&&◌, [], IfOk, false, length};
+ghost use Rattle.std.specs.Prelude.{◌≡◌, ◌/◌, ◌<◌, ◌&&◌, [], IfOk, None, Some, false, length};
 ghost use Rattle.std.specs.List.{list_any};
 ghost use Rattle.def_chunks.specs.declared.heads.TheConstants.{SLOT};
 ghost use Rattle.def_step.specs.Quotas.{without_row};
@@ -78,6 +78,26 @@ impl Tokens {
                 standing: Standing::Gone,
             };
         }
+    }
+
+    /// A key's row more. Condition: the number has none, and there is room for one.
+    pub fn add_key(&mut self, number: u32)
+        requires absent { has_row number self.old.rows ≡ false }
+        requires room { length self.old.rows < self.old.room }
+        ensures rows { self.new.rows ≡ row_among (row_for number None) self.old.rows }
+        ensures room { self.new.room ≡ self.old.room }
+    {
+        self.add(number, None);
+    }
+
+    /// A token's row more, which names its key. Condition: the number has none, and there is room for one.
+    pub fn add_token(&mut self, number: u32, key: u32)
+        requires absent { has_row number self.old.rows ≡ false }
+        requires room { length self.old.rows < self.old.room }
+        ensures rows { self.new.rows ≡ row_among (row_for number (Some key)) self.old.rows }
+        ensures room { self.new.room ≡ self.old.room }
+    {
+        self.add(number, Some(key));
     }
 
     /// A row more: a key's where no key is named, else that of a token of this key. Condition: the number has none,

@@ -9,17 +9,17 @@ use Rattle.def_image.specs.Parts.{PartsRow}
 use Rattle.def_memory.specs.declared.Granule.{Granule}
 use Rattle.def_memory.specs.Granules.{nothing}
 use Rattle.def_machine.specs.State.{State, fresh_device}
-use Rattle.def_machine.specs.Board.{MachineRow}
+use Rattle.def_machine.specs.Platform.{MachineRow}
 use Rattle.def_boot.specs.Boot.{boot_state, booted_machine}
-use Rattle.def_lines.specs.Report.{report_line}
-use Rattle.def_script.specs.Script.{Due, Reads}
+use Rattle.def_report.specs.Report.{report_line}
+use Rattle.def_script.specs.Script.{Due, ReadsAsScript}
 use Rattle.def_program.specs.Runs.{demo_text, run_lines, run_text, summary_after}
 use Rattle.def_program.specs.declared.TheConstants.{DEMO_STEPS}
 use Rattle.def_program.specs.Scripts.{IsPlayable}
 use Rattle.law_script.proofs.Fits.{few, named}
 use Rattle.law_image.proofs.Sounds.{sound}
-use Rattle.def_boot_words.specs.Booting.{empty_granules}
-use Rattle.def_counts.specs.Kinds.{IsUncounted}
+use Rattle.def_boot.specs.Booting.{empty_granules}
+use Rattle.def_events.specs.Kinds.{IsUncounted}
 
 pub whole_granules : (p : PartsRow) → IsFaultless p → p.size % 16 ≡ 0
 whole_granules p f = (sound p f).ram.size
@@ -56,7 +56,7 @@ unfolding boot_state
 devices_booted p = length-map p.devices (λ (d : DeviceRow). fresh_device d.kind)
 
 -- what a text says as a script may come to the image's machine
-pub playable : (p : PartsRow) (text : List ℕ) (script : List Due) (m : MachineRow) → length text ≤ MOST_FILE → Reads p.devices text script → m ≡ booted_machine p → IsPlayable script m.state
+pub playable : (p : PartsRow) (text : List ℕ) (script : List Due) (m : MachineRow) → length text ≤ MOST_FILE → ReadsAsScript p.devices text script → m ≡ booted_machine p → IsPlayable script m.state
 playable p text script m small is boots = record {
   few = omega (arith, small, few p.devices text script is);
   named = rw boots (subst (λ n. All (λ (d : Due). d.given.device < n) script) (sym (devices_booted p)) (named p.devices text script is));

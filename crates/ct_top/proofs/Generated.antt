@@ -1,9 +1,9 @@
 -- A generated firmware can be linked.
 use Rattle.std.proofs.Common.{◌≡◌, ℕ, zero, suc, ◌+◌, List, length, map, refl, sym, ap, ◌∙◌, subst, arith}
 use Rattle.std.specs.List.{range_with_len}
-use Rattle.def_description.specs.Reading.{description_of}
-use Rattle.def_description.specs.Rows.{DescRow}
-use Rattle.def_description.specs.WellFormed.{WellFormed}
+use Rattle.def_desc.specs.Reading.{description_of}
+use Rattle.def_desc.specs.Rows.{DescRow}
+use Rattle.def_desc.specs.WellFormed.{WellFormed}
 use Rattle.def_link.specs.Linked.{linked}
 use Rattle.def_link.specs.Owners.{compartment_unit, numbered, units_of}
 use Rattle.def_port.specs.Bytes.{SinkView}
@@ -14,13 +14,13 @@ use Rattle.def_gen.specs.Sources.{sources}
 use Rattle.def_program.specs.Commands.{Command}
 use Rattle.def_program.specs.Turns.{OfLinked, OfNumber}
 use Rattle.def_program.specs.declared.Status.{Status}
-use Rattle.law_description.proofs.Judging.{same_rows}
-use Rattle.law_wellformed.proofs.Lawfuls.{value_lawful}
+use Rattle.law_desc.proofs.Judging.{same_rows}
+use Rattle.law_desc.proofs.Lawfuls.{value_lawful}
 use Rattle.law_gen.proofs.Faultless.{faultless}
-use Rattle.law_gen_links.proofs.Linking.{Plan, plan, row_at, seed_units}
-use Rattle.law_gen_links.proofs.Short.{each, short}
-use Rattle.ct_objects.specs.Objects.{files_of, IsLinkable}
-use Rattle.ct_refusals.specs.Ended.{EndsBy}
+use Rattle.law_gen.proofs.Linking.{Plan, plan, row_at, seed_units}
+use Rattle.law_gen.proofs.Short.{each, short}
+use Rattle.ct_link_objects.specs.Objects.{files_of, IsLinkable}
+use Rattle.ct_commands.specs.Ended.{EndsBy}
 
 files_counted : (p : Plan) (a m : ℕ) → files_of (numbered compartment_unit a (map (row_at p) (range_with_len a m))) ≡ m
 files_counted p a zero = refl

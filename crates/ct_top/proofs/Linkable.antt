@@ -3,15 +3,15 @@ use Rattle.std.proofs.Common.{◌≡◌, ℕ, ◌+◌, ◌<◌, ◌≤◌, ◌^�
 use Rattle.std.specs.List.{AllByRecursion}
 use Rattle.std.proofs.lemmas.List.{append-nil}
 use Rattle.def_port.specs.Told.{Told, FolderView}
-use Rattle.def_description.specs.Rows.{CodeRow, CompartmentRow, LibraryRow, DescRow}
-use Rattle.def_description.specs.WellFormed.{WellFormed}
+use Rattle.def_desc.specs.Rows.{CodeRow, CompartmentRow, LibraryRow, DescRow}
+use Rattle.def_desc.specs.WellFormed.{WellFormed}
 use Rattle.def_link.specs.Owners.{Unit as OwnerUnit, compartment_unit, library_unit, numbered, units_of}
 use Rattle.def_program.specs.Answers.{Read, contents}
 use Rattle.def_program.specs.Calls.{IsFile, most}
 use Rattle.def_program.specs.Turns.{with_file, files_in, source_names}
-use Rattle.law_wellformed.proofs.Lawfuls.{bytes_lawful}
-use Rattle.ct_objects.specs.Objects.{file_of, files_of, IsLinkable}
-use Rattle.ct_reading.specs.Whole.{names_of, AllGiven}
+use Rattle.law_desc.proofs.Lawfuls.{bytes_lawful}
+use Rattle.ct_link_objects.specs.Objects.{file_of, files_of, IsLinkable}
+use Rattle.ct_commands.specs.Whole.{names_of, AllGiven}
 
 -- ---- as many names as codes that are files
 

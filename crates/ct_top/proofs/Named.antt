@@ -2,11 +2,11 @@
 use Rattle.std.proofs.Common.{◌≡◌, ℕ, List, Some, None, refl, subst}
 use Rattle.def_port.specs.Told.{FolderView}
 use Rattle.def_program.specs.Commands.{generated_by, file_of}
-use Rattle.ct_words.specs.declared.Task.{Task}
-use Rattle.ct_words.specs.declared.Task.TheVariants.{Audit, Image, Run, RunImage, Why, Upgrade, Check, Demo}
-use Rattle.ct_words.specs.Forms.{command_for}
-use Rattle.ct_reading.specs.declared.files.Stop.{Stop}
-use Rattle.ct_reading.specs.Whole.{WasGiven, NotGiven}
+use Rattle.ct_commands.specs.declared.words.Task.{Task}
+use Rattle.ct_commands.specs.declared.words.Task.TheVariants.{Audit, Image, Run, RunImage, Why, Upgrade, Check, Demo}
+use Rattle.ct_commands.specs.Forms.{command_for}
+use Rattle.ct_commands.specs.declared.files.Stop.{Stop}
+use Rattle.ct_commands.specs.Whole.{WasGiven, NotGiven}
 
 file_is : (name : List ℕ) (task : Task) → generated_by (command_for name task) ≡ None → name ≡ file_of (command_for name task)
 file_is name Audit none = refl

@@ -5,9 +5,9 @@ use Rattle.ct_entry.specs.declared.rows.Owner.{Owner}
 use Rattle.def_image.specs.Parts.{PartsRow}
 use Rattle.def_port.specs.Bytes.{SinkView}
 use Rattle.def_image.specs.Accepted.{IsImage}
-use Rattle.def_description.specs.Rows.{DescRow}
-use Rattle.def_description.specs.WellFormed.{fault}
-use Rattle.def_description.specs.Walk.{place}
+use Rattle.def_desc.specs.Rows.{DescRow}
+use Rattle.def_desc.specs.WellFormed.{fault}
+use Rattle.def_desc.specs.Walk.{place}
 use Rattle.def_link.specs.declared.LinkFault.{LinkFault}
 use Rattle.def_link.specs.declared.LinkFault.TheVariants as link
 use Rattle.def_program.specs.declared.Status.{Status}
@@ -17,7 +17,7 @@ use Rattle.def_policy.specs.declared.PolicyFault.{PolicyFault}
 use Rattle.def_policy.specs.declared.PolicyFault.TheVariants as policy
 use Rattle.def_policy.specs.Denials.{AllDenied}
 use Rattle.def_policy.specs.Rulings.{Ruling}
-use Rattle.def_policy.specs.Texts.{IsCause, Reads}
+use Rattle.def_policy.specs.Texts.{IsPolicyCause, ReadsAsPolicy}
 use Rattle.def_script.specs.declared.ScriptFault.{ScriptFault}
 use Rattle.def_script.specs.declared.ScriptFault.TheVariants as scripts
 use Rattle.def_script.specs.Script as script
@@ -25,17 +25,17 @@ use Rattle.def_script.specs.Script.{Due}
 use Rattle.def_program.specs.Runs.{run_text}
 use Rattle.def_program.specs.Lines.{allow_line, link_status, link_text, name_line}
 use Rattle.def_program.specs.Turns.{Turn, Ends, OfImage, OfParts, OfLinked, OfDescription, OfRun, OfScript, OfText, NamesFound}
-use Rattle.ct_description.specs.declared.DescFault.{DescFault}
-use Rattle.ct_description.specs.declared.DescFault.TheVariants as description
-use Rattle.ct_description.specs.Answers.{Refused}
+use Rattle.ct_desc.specs.declared.DescFault.{DescFault}
+use Rattle.ct_desc.specs.declared.DescFault.TheVariants as description
+use Rattle.ct_desc.specs.Answers.{Refused}
 use Rattle.ct_image.specs.declared.fault.ImageFault.{ImageFault}
 use Rattle.ct_image.specs.declared.fault.ImageFault.TheVariants as image
 use Rattle.ct_image.specs.Answers.{RefusesBytes}
-use Rattle.ct_objects.specs.Objects as object
-use Rattle.ct_refusals.specs.Closing.{Closes}
-use Rattle.ct_refusals.specs.Settled.{IsLast, Settles}
-use Rattle.ct_refusals.proofs.Endings.{ends_with}
-use Rattle.ct_why.specs.Found.{IsFound}
+use Rattle.ct_link_objects.specs.Objects as object
+use Rattle.ct_commands.specs.Closing.{Closes}
+use Rattle.ct_commands.specs.Settled.{IsLast, Settles}
+use Rattle.ct_commands.proofs.Endings.{ends_with}
+use Rattle.ct_commands.specs.Found.{IsFound}
 use Rattle.ct_top.specs.Done.{IsDone, IsRefusal, Judges, description_turn, image_turn, link_turn, policy_turn, script_turn, wants_memory}
 
 -- ---- done
@@ -116,11 +116,11 @@ link_last link.NoMemory some = absurd (let clash : true ≡ false = some in cc)
 
 -- ---- policies
 
-pub text_fault : (p : PartsRow) (text : List ℕ) (e : PolicyFault) (t : Turn) → IsCause p text e → IsRefusal (policy_turn e) t → OfText p text t
+pub text_fault : (p : PartsRow) (text : List ℕ) (e : PolicyFault) (t : Turn) → IsPolicyCause p text e → IsRefusal (policy_turn e) t → OfText p text t
 text_fault p text (policy.At number line) t fault due = inl (record { fault = record { number = number; place = line }; is = fault; due = due })
 text_fault p text policy.NoMemory t fault due = elim due [ ]
 
-pub text_judged : (p : PartsRow) (text : List ℕ) (rulings : List Ruling) (lines : List ℕ) (t : Turn) → Reads p text rulings → AllDenied p 1 rulings lines → Judges lines t → OfText p text t
+pub text_judged : (p : PartsRow) (text : List ℕ) (rulings : List Ruling) (lines : List ℕ) (t : Turn) → ReadsAsPolicy p text rulings → AllDenied p 1 rulings lines → Judges lines t → OfText p text t
 text_judged p text rulings lines t reads denied due = inr (record { rulings = rulings; reads = reads; text = lines; denied = denied; due = due })
 
 pub allowed : (lines : List ℕ) (before after : SinkView) (result : Status)
@@ -135,12 +135,12 @@ denied (c ∷ cs) before after result some closes = ends_with (Judges (c ∷ cs)
 
 -- ---- scripts
 
-pub script_fault : (p : PartsRow) (limit : ℕ) (text : List ℕ) (e : ScriptFault) (t : Turn) → script.IsCause p.devices text e → IsRefusal (script_turn e) t → OfScript p limit text t
+pub script_fault : (p : PartsRow) (limit : ℕ) (text : List ℕ) (e : ScriptFault) (t : Turn) → script.IsScriptCause p.devices text e → IsRefusal (script_turn e) t → OfScript p limit text t
 script_fault p limit text (scripts.At number line) t cause due = inl (record { fault = record { number = number; place = line }; is = cause; due = due })
 script_fault p limit text scripts.NoMemory t cause due = elim due [ ]
 
 pub script_played : (p : PartsRow) (limit : ℕ) (text : List ℕ) (dues : List Due) (before after : SinkView) (result : Status)
-    → script.Reads p.devices text dues → Closes before after (run_text p dues limit) status.Done result → Settles (OfScript p limit text) before after result
+    → script.ReadsAsScript p.devices text dues → Closes before after (run_text p dues limit) status.Done result → Settles (OfScript p limit text) before after result
 script_played p limit text dues before after result reads closes =
     ends_with (OfScript p limit text) status.Done (run_text p dues limit) before after result tt (inr (record { dues = dues; reads = reads; due = refl })) closes
 

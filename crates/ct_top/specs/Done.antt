@@ -10,16 +10,16 @@ use Rattle.def_script.specs.declared.ScriptFault.TheVariants as script
 use Rattle.def_policy.specs.declared.PolicyFault.TheVariants as policy
 use Rattle.def_program.specs.Lines.{description_line, image_line, link_status, link_text, policy_line, script_line}
 use Rattle.def_program.specs.Turns.{Turn, Ends, verdict}
-use Rattle.def_description.specs.Rows.{DescRow}
-use Rattle.def_description.specs.Walk.{place}
-use Rattle.def_description.specs.WellFormed.{fault}
+use Rattle.def_desc.specs.Rows.{DescRow}
+use Rattle.def_desc.specs.Walk.{place}
+use Rattle.def_desc.specs.WellFormed.{fault}
 use Rattle.def_link.specs.declared.LinkFault.{LinkFault}
 use Rattle.def_link.specs.declared.LinkFault.TheVariants as link
-use Rattle.ct_description.specs.declared.DescFault.{DescFault}
-use Rattle.ct_description.specs.declared.DescFault.TheVariants as description
+use Rattle.ct_desc.specs.declared.DescFault.{DescFault}
+use Rattle.ct_desc.specs.declared.DescFault.TheVariants as description
 use Rattle.ct_image.specs.declared.fault.ImageFault.{ImageFault}
 use Rattle.ct_image.specs.declared.fault.ImageFault.TheVariants as image
-use Rattle.ct_refusals.specs.Closing.{Closes, WroteNothing}
+use Rattle.ct_commands.specs.Closing.{Closes, WroteNothing}
 
 -- the text was written and the call is done, or a write failed; or memory was wanted before
 abbrev pub IsDone : SinkView → SinkView → List ℕ → Status → Type 0

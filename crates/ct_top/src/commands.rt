@@ -3,24 +3,22 @@
 ghost use Rattle.std.specs.Prelude.{◌≡◌, ◌≤◌, [], ℕ, List, IfOk, option_map, string_bytes};
 ghost use Rattle.def_image.specs.Parts.{upgraded};
 ghost use Rattle.def_image.specs.Spelling.{image_bytes};
-ghost use Rattle.def_lines.specs.Report.{report_line};
+ghost use Rattle.def_report.specs.Report.{report_line};
 ghost use Rattle.def_program.specs.declared.Status.TheVariants as status;
 ghost use Rattle.def_program.specs.Paths.{compartment_named, owner_named};
 ghost use Rattle.def_program.specs.Turns.{NamesFound, OfParts, OfPolicy};
-ghost use Rattle.ct_refusals.specs.Ended.{EndsBy};
-ghost use Rattle.ct_refusals.specs.Settled.{Settles};
-ghost use Rattle.ct_words.specs.Forms.{IsShort, command_for};
-ghost use Rattle.ct_why.specs.Found.{IsFound};
+ghost use Rattle.ct_commands.specs.Ended.{EndsBy};
+ghost use Rattle.ct_commands.specs.Settled.{Settles};
+ghost use Rattle.ct_commands.specs.Forms.{IsShort, command_for};
+ghost use Rattle.ct_commands.specs.Found.{IsFound};
 ghost use Rattle.ct_top.specs.Done.{IsDone};
 
 use crate::policies::judge;
 use crate::runs::{demonstrate, run};
+use ct_commands::{Task, close, read_file, refuse_file, refuse_name};
 use ct_graph::Graph;
 use ct_image::Image;
 use ct_port::{Folder, NoMemory, Sink};
-use ct_reading::read_file;
-use ct_refusals::{close, refuse_file, refuse_name};
-use ct_words::Task;
 use def_program::Status;
 use std::alloc::Global;
 
@@ -30,7 +28,7 @@ pub(crate) fn report_of(alloc: Global, image: &Image) -> Result<String, NoMemory
 {
     let entries = ct_entries::entries(alloc, image)?;
     let graph = Graph::of(alloc, &entries)?;
-    ct_lines::text(alloc, image, &entries, &graph)
+    ct_report::text(alloc, image, &entries, &graph)
 }
 
 /// Writes the report line of an image.
@@ -79,7 +77,7 @@ fn why_line(
 {
     let entries = ct_entries::entries(alloc, image)?;
     let graph = Graph::of(alloc, &entries)?;
-    ct_why::line(alloc, image, &graph, owner, compartment)
+    ct_commands::line(alloc, image, &graph, owner, compartment)
 }
 
 /// Writes how an owner reaches a compartment, or refuses their names.
@@ -124,7 +122,7 @@ fn check<F: Folder, S: Sink>(
 }
 
 /// What is to be done with an image.
-pub fn finish<F: Folder, S: Sink>(
+pub(crate) fn finish<F: Folder, S: Sink>(
     alloc: Global,
     task: Task,
     image: &Image,

@@ -7,24 +7,22 @@ ghost use Rattle.def_program.specs.Answers.{Answers};
 ghost use Rattle.def_program.specs.Commands.{form_of, generated_by};
 ghost use Rattle.def_program.specs.Calls.{call_record};
 ghost use Rattle.def_program.specs.Turns.{OfImage, OfLinked, OfNumber};
-ghost use Rattle.ct_objects.specs.Objects.{IsLinkable};
-ghost use Rattle.ct_refusals.specs.Ended.{EndsBy};
-ghost use Rattle.ct_refusals.specs.Settled.{Settles};
-ghost use Rattle.ct_words.specs.Forms.{IsShort, command_for, command_of};
+ghost use Rattle.ct_link_objects.specs.Objects.{IsLinkable};
+ghost use Rattle.ct_commands.specs.Ended.{EndsBy};
+ghost use Rattle.ct_commands.specs.Settled.{Settles};
+ghost use Rattle.ct_commands.specs.Forms.{IsShort, command_for, command_of};
 ghost use Rattle.ct_top.specs.Done as done;
 ghost use Rattle.ct_top.specs.Done.{IsRefusal, description_turn, image_turn, link_turn};
 
 use crate::commands::finish;
-use ct_description::DescFault;
+use ct_commands::{Form, Task, read_file, read_sources, refuse_file};
+use ct_desc::DescFault;
+use ct_desc_rows::Desc;
 use ct_gen::generate;
 use ct_image::ImageFault;
 use ct_link::{LinkFault, Sources, link};
 use ct_port::{Folder, Sink};
-use ct_reading::{read_file, read_sources};
-use ct_refusals::refuse_file;
-use ct_rows::Desc;
-use ct_words::{Form, Task};
-use def_description::{Fault, Place};
+use def_desc::{Fault, Place};
 use def_program::Status;
 use std::alloc::{AllocError, Global};
 
@@ -41,7 +39,7 @@ fn refuse_description<S: Sink>(fault: DescFault, sink: &mut S) -> Status
             item,
         } => {
             let place = Place { part, index, item };
-            ct_refusals::refuse_description(Fault { number, place }, sink)
+            ct_commands::refuse_description(Fault { number, place }, sink)
         }
         DescFault::NoMemory => Status::NoMemory,
     }
@@ -53,7 +51,7 @@ fn refuse_image<S: Sink>(fault: ImageFault, sink: &mut S) -> Status
         (S.shows sink.old) (S.shows sink.new) result }
 {
     match fault {
-        ImageFault::At { number, place } => ct_refusals::refuse_image(number, place, sink),
+        ImageFault::At { number, place } => ct_commands::refuse_image(number, place, sink),
         ImageFault::NoMemory => Status::NoMemory,
     }
 }
@@ -76,7 +74,7 @@ fn refuse_link<S: Sink>(desc: &Desc, fault: LinkFault, sink: &mut S) -> Status
     if wants_memory(fault) {
         return Status::NoMemory;
     }
-    ct_refusals::refuse_link(desc, fault, sink)
+    ct_commands::refuse_link(desc, fault, sink)
 }
 
 /// What follows after an image's bytes.
@@ -149,7 +147,7 @@ fn of_number<F: Folder, S: Sink>(
         Ok(made) => made,
         Err(_) => return Status::NoMemory,
     };
-    let desc = match ct_description::read(alloc, made.description.as_bytes()) {
+    let desc = match ct_desc::read(alloc, made.description.as_bytes()) {
         Ok(desc) => desc,
         Err(_) => return Status::NoMemory,
     };
@@ -166,7 +164,7 @@ fn of_number<F: Folder, S: Sink>(
 }
 
 /// Does what a form says.
-pub fn perform<F: Folder, S: Sink>(
+pub(crate) fn perform<F: Folder, S: Sink>(
     alloc: Global,
     form: &Form,
     folder: &mut F,
@@ -198,7 +196,7 @@ fn of_files<F: Folder, S: Sink>(alloc: Global, form: &Form, folder: &mut F, sink
     if form.task.reads_image() {
         return of_image(alloc, form.task, bytes.as_slice(), folder, sink);
     }
-    let desc = match ct_description::read(alloc, bytes.as_slice()) {
+    let desc = match ct_desc::read(alloc, bytes.as_slice()) {
         Ok(desc) => desc,
         Err(fault) => return refuse_description(fault, sink),
     };

@@ -19,9 +19,8 @@ ghost use Rattle.def_program.specs.Completing.{Completes, CompletesDemo, Refuses
 ghost use Rattle.def_program.specs.Deciding.{IsDecided};
 ghost use Rattle.def_program.specs.Written.{IsRunWritten};
 
+use ct_commands::{form_of, refuse_usage};
 use ct_port::{Folder, Sink};
-use ct_refusals::refuse_usage;
-use ct_words::form_of;
 pub use def_program::Status;
 use dialogue::perform;
 pub use runs::ready;

@@ -3,14 +3,14 @@
 ghost use Rattle.std.specs.Prelude.{◌<◌, ◌^◌, IfOk, length, string_bytes};
 ghost use Rattle.def_policy.specs.Denials.{AllDenied};
 ghost use Rattle.def_program.specs.Turns.{OfText};
-ghost use Rattle.ct_refusals.specs.Settled.{Settles};
+ghost use Rattle.ct_commands.specs.Settled.{Settles};
 ghost use Rattle.ct_top.specs.Done.{IsRefusal, Judges, policy_turn};
 
+use ct_commands::close;
 use ct_graph::Graph;
 use ct_image::Image;
 use ct_policy::{PolicyFault, Rules, broken, read};
 use ct_port::{NoMemory, Sink};
-use ct_refusals::close;
 use def_program::Status;
 use std::alloc::Global;
 
@@ -20,7 +20,7 @@ fn refuse_policy<S: Sink>(fault: PolicyFault, sink: &mut S) -> Status
         (S.shows sink.old) (S.shows sink.new) result }
 {
     match fault {
-        PolicyFault::At { number, line } => ct_refusals::refuse_policy(number, line, sink),
+        PolicyFault::At { number, line } => ct_commands::refuse_policy(number, line, sink),
         PolicyFault::NoMemory => Status::NoMemory,
     }
 }
@@ -47,7 +47,7 @@ fn write_verdict<S: Sink>(lines: &[u8], sink: &mut S) -> Status
 }
 
 /// Judges an image by a policy's text.
-pub fn judge<S: Sink>(alloc: Global, image: &Image, text: &[u8], sink: &mut S) -> Status
+pub(crate) fn judge<S: Sink>(alloc: Global, image: &Image, text: &[u8], sink: &mut S) -> Status
     requires { length text.now < 2 ^ 32 }
     ensures { Settles (OfText image.now text.now)
         (S.shows sink.old) (S.shows sink.new) result }

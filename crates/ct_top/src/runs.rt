@@ -1,26 +1,26 @@
 //! Runs of an image: by a script or without one, and of a demonstration.
 
-ghost use Rattle.std.specs.Prelude.{◌≡◌, ◌≤◌, [], length, IfOk, Some};
+ghost use Rattle.std.specs.Prelude.{◌≡◌, ◌≤◌, ◌<◌, ◌^◌, [], length, IfOk, Some};
 ghost use Rattle.def_boot.specs.Boot.{booted_machine};
 ghost use Rattle.def_profile.specs.declared.limits.TheConstants.{MOST_FILE, MOST_STEPS};
-ghost use Rattle.def_lines.specs.Report.{report_line};
+ghost use Rattle.def_report.specs.Report.{report_line};
 ghost use Rattle.def_program.specs.declared.Status.TheVariants.{Done};
 ghost use Rattle.def_program.specs.Runs.{demo_text, run_text};
 ghost use Rattle.def_program.specs.Scripts.{IsPlayable};
 ghost use Rattle.def_program.specs.Turns.{OfRun, OfScript};
-ghost use Rattle.ct_refusals.specs.Closing.{Closes};
-ghost use Rattle.ct_refusals.specs.Ended.{EndsBy};
-ghost use Rattle.ct_refusals.specs.Settled.{Settles};
-ghost use Rattle.ct_words.specs.Forms.{script_named};
+ghost use Rattle.ct_commands.specs.Closing.{Closes};
+ghost use Rattle.ct_commands.specs.Ended.{EndsBy};
+ghost use Rattle.ct_commands.specs.Settled.{Settles};
+ghost use Rattle.ct_commands.specs.Forms.{script_named};
 ghost use Rattle.ct_top.specs.Done.{IsDone, IsRefusal, script_turn};
 
 use crate::commands::report_of;
+use ct_commands::{read_file, refuse_file};
+use ct_entry::Devices;
 use ct_image::Image;
 use ct_planes::Planes;
 use ct_port::{Folder, NoMemory, Sink};
-use ct_reading::read_file;
-use ct_refusals::refuse_file;
-use ct_running::{Machine, write_run, write_summary};
+use ct_run::{Machine, write_run, write_summary};
 use ct_script::{Script, ScriptFault, read};
 use def_program::{DEMO_STEPS, Status};
 use std::alloc::Global;
@@ -63,9 +63,17 @@ fn refuse_script<S: Sink>(fault: ScriptFault, sink: &mut S) -> Status
         (S.shows sink.old) (S.shows sink.new) result }
 {
     match fault {
-        ScriptFault::At { number, line } => ct_refusals::refuse_script(number, line, sink),
+        ScriptFault::At { number, line } => ct_commands::refuse_script(number, line, sink),
         ScriptFault::NoMemory => Status::NoMemory,
     }
+}
+
+/// The devices of an image.
+fn devices_of(image: &Image) -> &Devices
+    ensures devices { result.now ≡ image.now.devices }
+    ensures few { length result.now < 2 ^ 32 }
+{
+    &image.parts().devices
 }
 
 /// Runs a machine by a script's text, or refuses the text.
@@ -85,7 +93,7 @@ fn play_text<S: Sink>(
     ensures { Settles (OfScript image.now limit text.now)
         (S.shows sink.old) (S.shows sink.new) result }
 {
-    match read(alloc, text, image.parts().devices.as_slice()) {
+    match read(alloc, text, devices_of(image)) {
         Ok(script) => play(image, report, machine, &script, limit, sink),
         Err(fault) => refuse_script(fault, sink),
     }

@@ -6,5 +6,5 @@
 mod lines;
 mod numbers;
 
-pub use lines::{line_of, summary_of};
+pub use lines::{line, summary};
 pub use numbers::Line;

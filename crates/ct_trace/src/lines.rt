@@ -160,7 +160,7 @@ fn add_off(line: &mut Line, step: u32, off: &Option<Owned>)
 
 /// What a step did, counted from 1: no line, one or two.
 #[tactic(auto, unfolding(def_trace::specs::Trace::trace_line))]
-pub fn line_of(happened: &Happened, step: u32) -> Line
+pub fn line(happened: &Happened, step: u32) -> Line
     ensures { result.bytes ≡ spec.trace_line step happened.now }
 {
     let mut line = Line::new();
@@ -211,7 +211,7 @@ fn add_deeds(line: &mut Line, totals: &Totals)
 
 /// The summary of a run.
 #[tactic(auto, unfolding(def_trace::specs::Trace::summary_line))]
-pub fn summary_of(totals: &Totals) -> Line
+pub fn summary(totals: &Totals) -> Line
     ensures { result.bytes ≡ spec.summary_line totals.now }
 {
     let mut line = Line::new();

@@ -10,7 +10,7 @@ use itoa::Buffer;
 pub type Line = ArrayString<192>;
 
 /// A number in decimal digits.
-pub fn add_number(line: &mut Line, number: u32)
+pub(crate) fn add_number(line: &mut Line, number: u32)
     requires { length line.old.bytes + 10 ≤ 192 }
     ensures bytes { line.new.bytes ≡ line.old.bytes ++ decimal number }
     ensures size { length line.new.bytes ≤ length line.old.bytes + 10 }
@@ -20,7 +20,7 @@ pub fn add_number(line: &mut Line, number: u32)
 }
 
 /// A number after a word.
-pub fn add_after(line: &mut Line, word: &str, number: u32)
+pub(crate) fn add_after(line: &mut Line, word: &str, number: u32)
     requires { length line.old.bytes + length word.now + 10 ≤ 192 }
     ensures bytes { line.new.bytes ≡ line.old.bytes ++ spec.after word.now number }
     ensures size { length line.new.bytes ≤ length line.old.bytes + length word.now + 10 }
@@ -42,9 +42,9 @@ fn digit_of(digit: u64) -> char
     }
 }
 
-/// Space and so many digits of base 16, the greatest first.
+/// A space and so many digits of base 16, the greatest first.
 #[tactic(auto, using(crate::proofs::Digits::next_digit, crate::proofs::Digits::no_digit, crate::proofs::Digits::all_digits))]
-pub fn add_hexadecimal(line: &mut Line, digits: u32, value: u64)
+pub(crate) fn add_hexadecimal(line: &mut Line, digits: u32, value: u64)
     requires room { length line.old.bytes + 17 ≤ 192 }
     requires digits { digits ≤ 16 }
     ensures bytes { line.new.bytes ≡ line.old.bytes ++ spec.after_space digits value }
@@ -58,7 +58,7 @@ pub fn add_hexadecimal(line: &mut Line, digits: u32, value: u64)
 }
 
 /// How many digits a value of so many bytes has.
-pub fn value_digits(width: u32) -> u32
+pub(crate) fn value_digits(width: u32) -> u32
     ensures is { result ≡ spec.value_digits width }
     ensures few { result ≤ 16 }
 {

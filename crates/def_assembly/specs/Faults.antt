@@ -54,15 +54,15 @@ RowBreaks s ts n =
     ⊎ ((p : Part Name) × (form_in ts ≡ Some p) × PartBreaks s p n)
 
 -- what a line breaks
-abbrev pub Breaks : Section → List ℕ → ℕ → Type 0
-Breaks s line n =
+abbrev pub LineBreaks : Section → List ℕ → ℕ → Type 0
+LineBreaks s line n =
     ((n ≡ 1) × IsUnread line)
     ⊎ ((ts : Row) × (line_tokens line ≡ Some ts) × RowBreaks s (after_label ts) n)
 
 -- a line's fault: the least number that it breaks
 pub record IsLineFault (s : Section) (line : List ℕ) (n : ℕ) : Type 0 where
-  pub breaks : Breaks s line n
-  pub least : (m : ℕ) → Breaks s line m → n ≤ m
+  pub breaks : LineBreaks s line n
+  pub least : (m : ℕ) → LineBreaks s line m → n ≤ m
 
 -- the section behind a line that begins in one
 abbrev pub section_behind : Section → Result (Line Name) ℕ → Section
@@ -78,7 +78,7 @@ section_in s (l ∷ ls) (suc i) = section_in (section_behind s (line_of s l)) ls
 -- no line before one, counted from 0, breaks anything
 abbrev pub NoneBreaks : Section → List (List ℕ) → ℕ → Type 0
 NoneBreaks s ls at = (i : ℕ) (line : List ℕ) → i < at → slice_get ls i ≡ Some line
-    → (n : ℕ) → Breaks (section_in s ls i) line n → ⊥
+    → (n : ℕ) → LineBreaks (section_in s ls i) line n → ⊥
 
 -- the fault of lines, the first of which has a number and begins in a section: that of the first line that breaks anything
 pub record IsFirstFault (s : Section) (from : ℕ) (ls : List (List ℕ)) (number line : ℕ) : Type 0 where

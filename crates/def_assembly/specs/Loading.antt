@@ -11,14 +11,14 @@ use Rattle.def_instr.specs.declared.Instr.TheVariants.{AuiPcc, Clc}
 use Rattle.def_capstep.specs.Results.{upper_offset}
 use Rattle.def_machine.specs.State.{Thread, register}
 use Rattle.def_machine.specs.Threads.{jumped}
-use Rattle.def_step.specs.Accesses.{Space, access_of, access_address}
+use Rattle.def_step.specs.Accesses.{MemoryAndDevices, access_of, access_address}
 use Rattle.def_step.specs.Operands.{operands_of, class_of}
 use Rattle.def_step.specs.Instructions.{Effect, carried_out}
 use Rattle.def_object.specs.Object.{high_piece, low_piece, way}
 
 -- what an instruction does to the thread; one that traps leaves it. None jumps through a register, so that
 -- no export is named.
-abbrev pub effect : Space → Thread → Instr → Result Effect Trap
+abbrev pub effect : MemoryAndDevices → Thread → Instr → Result Effect Trap
 effect p w i =
     carried_out (class_of i) i (operands_of i).to (register w (operands_of i).first)
     (register w (operands_of i).second) 0
@@ -28,7 +28,7 @@ abbrev pub onward : Thread → Result Effect Trap → Thread
 onward w (Ok d) = jumped w d.pcc d.posture d.to d.value
 onward w (Err t) = w
 
-abbrev pub after : Space → Thread → List Instr → Thread
+abbrev pub after : MemoryAndDevices → Thread → List Instr → Thread
 after p w [] = w
 after p w (i ∷ is) = after p (onward w (effect p w i)) is
 
@@ -40,7 +40,7 @@ pub record MayWrite (w : Thread) (rd : ℕ) : Type 0 where
   pub there : rd < 16
 
 -- a register has that value, and all others are as they were
-pub record Gives (w new : Thread) (rd : ℕ) (value : Cap) : Type 0 where
+pub record GivesRegister (w new : Thread) (rd : ℕ) (value : Cap) : Type 0 where
   pub given : register new rd ≡ value
   pub others : (n : ℕ) → n ≢ rd → register new n ≡ register w n
 
@@ -69,8 +69,8 @@ abbrev pub IsWayOn : Cap → ℕ → ℕ → Cap → Type 0
 IsWayOn c at to d = cap_address d ≡ (cap_address c + way at to) % 2 ^ 32
 
 -- the register gets the capability that is so far on, derived by raising its address twice
-pub record Leads (w new : Thread) (rd : ℕ) (c : Cap) (at to : ℕ) : Type 0 where
-  pub gives : Gives w new rd (raised (raised c (upper_offset (high_piece at to))) (low_piece at to))
+pub record LeadsOver (w new : Thread) (rd : ℕ) (c : Cap) (at to : ℕ) : Type 0 where
+  pub gives : GivesRegister w new rd (raised (raised c (upper_offset (high_piece at to))) (low_piece at to))
   pub address : IsWayOn c at to (register new rd)
 
 -- the two instructions that load the capability of a slot
@@ -78,8 +78,8 @@ abbrev pub to_slot : ℕ → ℕ → ℕ → List Instr
 to_slot rd at to = AuiPcc rd (high_piece at to) ∷ Clc rd rd (low_piece at to) ∷ []
 
 -- the first raises the program counter capability's address, and the second loads from the slot's
-pub record LeadsToSlot (p : Space) (w : Thread) (rd : ℕ) (at to : ℕ) : Type 0 where
-  pub first : Gives w (onward w (effect p w (AuiPcc rd (high_piece at to)))) rd
+pub record LeadsToSlot (p : MemoryAndDevices) (w : Thread) (rd : ℕ) (at to : ℕ) : Type 0 where
+  pub first : GivesRegister w (onward w (effect p w (AuiPcc rd (high_piece at to)))) rd
       (raised w.pcc (upper_offset (high_piece at to)))
   pub address : access_address (access_of (Clc rd rd (low_piece at to)))
       (register (onward w (effect p w (AuiPcc rd (high_piece at to)))) rd)

@@ -23,13 +23,13 @@ pub data Operand : Type 0 where
   Address : Number → ℕ → Operand
 
 -- the tokens of an operand
-abbrev pub IsWritten : Operand → Row → Type 0
-IsWritten (Register r) ts = (n : Name) × ((ts ≡ token.Name n ∷ []) × (register_of n ≡ Some r))
-IsWritten (Numbered n) ts = ts ≡ token.Number n ∷ []
-IsWritten (Named n) ts = ts ≡ token.Name n ∷ []
-IsWritten (Towards (target.Label n)) ts = ts ≡ token.Name n ∷ []
-IsWritten (Towards (target.Offset n)) ts = ts ≡ token.Number n ∷ []
-IsWritten (Address n r) ts =
+abbrev pub IsOperandText : Operand → Row → Type 0
+IsOperandText (Register r) ts = (n : Name) × ((ts ≡ token.Name n ∷ []) × (register_of n ≡ Some r))
+IsOperandText (Numbered n) ts = ts ≡ token.Number n ∷ []
+IsOperandText (Named n) ts = ts ≡ token.Name n ∷ []
+IsOperandText (Towards (target.Label n)) ts = ts ≡ token.Name n ∷ []
+IsOperandText (Towards (target.Offset n)) ts = ts ≡ token.Number n ∷ []
+IsOperandText (Address n r) ts =
     (m : Name)
     × ((ts ≡ token.Number n ∷ token.Open ∷ token.Name m ∷ token.Close ∷ [])
     × (register_of m ≡ Some r))
@@ -37,11 +37,11 @@ IsWritten (Address n r) ts =
 -- operands in a row, a comma between each two
 abbrev pub AreWritten : List Operand → Row → Type 0
 AreWritten [] ts = ts ≡ []
-AreWritten (o ∷ []) ts = IsWritten o ts
+AreWritten (o ∷ []) ts = IsOperandText o ts
 AreWritten (o ∷ p ∷ os) ts =
     (front : Row)
     × ((rest : Row)
-    × ((ts ≡ front ++ token.Comma ∷ rest) × IsWritten o front × AreWritten (p ∷ os) rest))
+    × ((ts ≡ front ++ token.Comma ∷ rest) × IsOperandText o front × AreWritten (p ∷ os) rest))
 
 -- the operands of a statement, in the order in which they stand
 abbrev pub operands : Part Name → List Operand
@@ -108,8 +108,8 @@ directive_by (part.Align n) = Some directive.Align
 directive_by _ = None
 
 -- the statement begins with such a word, and the tokens after it are its operands
-abbrev pub Writes : Head → Row → Part Name → Type 0
-Writes h ts p = (head_by p ≡ Some h) × AreWritten (operands p) ts
+abbrev pub WritesStatement : Head → Row → Part Name → Type 0
+WritesStatement h ts p = (head_by p ≡ Some h) × AreWritten (operands p) ts
 
 abbrev pub WritesDirective : Directive → Row → Part Name → Type 0
 WritesDirective d ts p = (directive_by p ≡ Some d) × AreWritten (operands p) ts

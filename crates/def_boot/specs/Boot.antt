@@ -12,7 +12,7 @@ use Rattle.def_machine.specs.State.{State, Frame, interrupts_on, outermost, at_r
 use Rattle.def_profile.specs.declared.layout.TheConstants.{TRUSTED_HEAD}
 use Rattle.def_sched.specs.declared.Status.TheVariants.{Ready}
 use Rattle.def_sched.specs.Picks.{first_order}
-use Rattle.def_machine.specs.Board.{Board, MachineRow}
+use Rattle.def_machine.specs.Platform.{Platform, MachineRow}
 use Rattle.def_image.specs.Parts.{GateRow, ThreadRow, PartsRow}
 use Rattle.def_image.specs.Members.{compartment, text_base, code_number, globals_number, stack_number, gate_number, handler_number}
 use Rattle.def_boot.specs.Gates.{entries_of}
@@ -48,8 +48,8 @@ image_of p = record {
 abbrev pub bases_of : PartsRow → List ℕ
 bases_of p = map (λ (d : DeviceRow). d.base) p.devices
 
-abbrev pub board_of : PartsRow → Board
-board_of p = record { image = image_of p; bases = bases_of p }
+abbrev pub platform_of : PartsRow → Platform
+platform_of p = record { image = image_of p; bases = bases_of p }
 
 -- ---- a thread at its start
 
@@ -111,4 +111,4 @@ boot_state p =
     (map (λ (d : DeviceRow). fresh_device d.kind) p.devices) (first_order (length p.threads))
 
 abbrev pub booted_machine : PartsRow → MachineRow
-booted_machine p = record { board = board_of p; state = boot_state p }
+booted_machine p = record { board = platform_of p; state = boot_state p }

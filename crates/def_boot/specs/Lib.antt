@@ -3,3 +3,12 @@ pub mod Gates
 pub mod Made
 pub mod Contents
 pub mod Boot
+pub mod Booting
+pub mod Written
+pub mod Places
+pub mod Listed
+pub mod Fixed
+pub mod Fits
+pub mod Held
+pub mod Rows
+pub mod Upgrade

@@ -79,7 +79,7 @@ NoTagComes old new =
     (k : ℕ) → is_tagged new k ≡ true → (granule_at new k).cap ≡ (granule_at old k).cap
 
 -- heads and free chunks alone have changed, no mark has, and no capability came
-pub record Keeps (r : Range) (cs : List Chunk) (old new : List Granule) : Type 0 where
+pub record KeepsRest (r : Range) (cs : List Chunk) (old new : List Granule) : Type 0 where
   pub size : length new ≡ length old
   pub marks : (k : ℕ) → (granule_at new k).mark ≡ (granule_at old k).mark
   pub tags : NoTagComes old new

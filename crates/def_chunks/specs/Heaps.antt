@@ -11,7 +11,7 @@ use Rattle.def_chunks.specs.declared.heads.TheConstants.{LIVE, PAINTED, SLOT}
 use Rattle.def_chunks.specs.declared.rows.Range.{Range}
 use Rattle.def_chunks.specs.declared.rows.Account.{Account}
 use Rattle.def_chunks.specs.Chunks.{Chunk, is_free}
-use Rattle.def_chunks.specs.Tiles.{chunks, Settled}
+use Rattle.def_chunks.specs.Tiles.{chunks, TilesSettled}
 
 -- ---- the table of used chunks
 
@@ -103,7 +103,7 @@ waiting_in (r ∷ rs) = cond r.live 0 1 + waiting_in rs
 -- The chunk heads in memory tile the heap's range, no two free ones touch, and they agree with all that the heap keeps
 -- beside memory: the table, what each quota is charged with, the numbers, and how many objects are quarantined.
 pub record Laid (h : HeapRow) (gs : List Granule) : Type 0 where
-  pub settled : Settled h.range gs
+  pub settled : TilesSettled h.range gs
   pub slots : length h.names ≡ h.range.length / SLOT
   pub named : (o : ℕ) → o % 8 ≡ 0
       → is_named h.names o ≡ is_used_at (h.range.base + o) h.range.base (chunks h.range gs)

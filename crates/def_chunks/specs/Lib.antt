@@ -4,3 +4,6 @@ pub mod Tiles
 pub mod Changes
 pub mod Gaps
 pub mod Heaps
+pub mod Kept
+pub mod LiveObjects
+pub mod Hides

@@ -43,6 +43,6 @@ abbrev pub Tiled : Range → List Granule → Type 0
 Tiled r gs = TiledBy r gs (chunks r gs)
 
 -- and no two free ones touch
-pub record Settled (r : Range) (gs : List Granule) : Type 0 where
+pub record TilesSettled (r : Range) (gs : List Granule) : Type 0 where
   pub tiled : Tiled r gs
   pub apart : NoneTouch (chunks r gs)

@@ -10,3 +10,14 @@ pub mod Holding
 pub mod Settled
 pub mod Keeps
 pub mod Telling
+pub mod Facts
+pub mod Authorises
+pub mod Stale
+pub mod Returning
+pub mod Clock
+pub mod Filters
+pub mod Jumping
+pub mod Regranted
+pub mod Premises
+pub mod Saved
+pub mod Uses

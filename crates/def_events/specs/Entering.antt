@@ -2,7 +2,7 @@
 use Rattle.std.specs.Prelude.{ℕ, ◌≡◌, true, false, List, [], ◌∷◌, Option, Some}
 use Rattle.ct_entry.specs.declared.acts.Act.TheVariants.{Trap}
 use Rattle.ct_entry.specs.declared.acts.Deed.{Deed}
-use Rattle.def_machine.specs.Board.{Board}
+use Rattle.def_machine.specs.Platform.{Platform}
 use Rattle.def_machine.specs.State.{State, Frame, thread}
 use Rattle.def_step.specs.declared.Event.{Event}
 use Rattle.def_step.specs.Events.{happens}
@@ -11,11 +11,11 @@ use Rattle.def_safety.specs.Each.{ready}
 use Rattle.def_safety.specs.Marks.{MarksGo, OneMarked, marks}
 
 -- of every thread a frame that goes takes its mark along, and none is marked that was marked before
-abbrev pub MarksOnce : Board → State → Event → Type 0
+abbrev pub MarksOnce : Platform → State → Event → Type 0
 MarksOnce b s e = (t : ℕ) → MarksGo (marks s t) (marks (happens b s e).0 t)
 
 -- a trap of thread t is told, and enters the error handler of the compartment of its innermost frame
-pub record TrapEnters (b : Board) (s : State) (told : Option Deed) (t : ℕ) : Type 0 where
+pub record TrapEnters (b : Platform) (s : State) (told : Option Deed) (t : ℕ) : Type 0 where
   pub deed : Deed
   pub told_is : told ≡ Some deed
   pub thread_is : deed.thread ≡ t
@@ -29,13 +29,13 @@ pub record TrapEnters (b : Board) (s : State) (told : Option Deed) (t : ℕ) : T
   pub enters : enters_handler b s t frame ≡ true
 
 -- a frame is marked by nothing else
-abbrev pub MarkedByTraps : Board → State → Event → Type 0
+abbrev pub MarkedByTraps : Platform → State → Event → Type 0
 MarkedByTraps b s e =
     (t : ℕ) → OneMarked (marks s t) (marks (happens b s e).0 t)
     → TrapEnters b (ready b s) (happens b s e).1.deed t
 
 -- a trap that is told, and enters an error handler, finds its frame without a mark
-abbrev pub EntersUnmarked : Board → State → Event → Type 0
+abbrev pub EntersUnmarked : Platform → State → Event → Type 0
 EntersUnmarked b s e =
     (d : Deed) (cause code register : ℕ) (f : Frame) (fs : List Frame)
     → (happens b s e).1.deed ≡ Some d → d.act ≡ Trap cause code register
@@ -43,7 +43,7 @@ EntersUnmarked b s e =
     → enters_handler b (ready b s) d.thread f ≡ true → f.handling ≡ false
 
 -- a trap that is told of a thread's only frame, and enters no error handler, leaves the thread without a frame
-abbrev pub LastEnds : Board → State → Event → Type 0
+abbrev pub LastEnds : Platform → State → Event → Type 0
 LastEnds b s e =
     (d : Deed) (cause code register : ℕ) (f : Frame)
     → (happens b s e).1.deed ≡ Some d → d.act ≡ Trap cause code register

@@ -1,3 +1,11 @@
+pub mod Guarded
 pub mod Entering
 pub mod Tokens
 pub mod Upheld
+pub mod Opened
+pub mod Kinds
+pub mod Alike
+pub mod Causes
+pub mod Stands
+pub mod Passes
+pub mod Leaving

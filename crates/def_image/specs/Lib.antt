@@ -15,3 +15,5 @@ pub mod Accepted
 pub mod Laid
 pub mod Sound
 pub mod Reading
+pub mod Answers
+pub mod First

@@ -7,7 +7,7 @@ use Rattle.def_profile.specs.declared.layout.TheConstants.{REGION_UNIT, SLOT_SIZ
 use Rattle.def_profile.specs.declared.limits.TheConstants as most
 use Rattle.def_profile.specs.declared.limits.TheConstants.{LEAST_RAM, RAM_END, LEAST_STACK}
 use Rattle.def_profile.specs.declared.seals.TheConstants.{FIRST_KEY_TYPE, LAST_KEY_TYPE}
-use Rattle.def_names.specs.Names.{is_name, among}
+use Rattle.def_texts.specs.Names.{is_name, among}
 use Rattle.def_image.specs.declared.Check.{Check}
 use Rattle.def_image.specs.declared.RawEntry.{RawEntry}
 use Rattle.def_image.specs.declared.format.TheConstants.{ROW, ENTRY, DEVICE, SHARED, COMPARTMENT_HEAD, LIBRARY_HEAD, THREAD}

@@ -22,8 +22,8 @@ IsNumber n = n < 2 ^ 32
 abbrev pub IsCounted : List ℕ → Type 0
 IsCounted bytes = IsNumber (length bytes) × AllByRecursion (λ b. b < 256) bytes
 
-abbrev pub IsEntry : RawEntry → Type 0
-IsEntry e = IsField ROW e.row × IsField NAME e.name
+abbrev pub IsRawEntry : RawEntry → Type 0
+IsRawEntry e = IsField ROW e.row × IsField NAME e.name
 
 abbrev pub IsDevice : RawDevice → Type 0
 IsDevice d = IsField NAME d.name × IsNumber d.kind × IsNumber d.base
@@ -40,8 +40,8 @@ pub record IsCode (c : RawCode) : Type 0 where
   pub name : IsField NAME c.name
   pub base : IsNumber c.base
   pub size : IsNumber c.length
-  pub slots : IsNumber (length c.slots) × AllByRecursion IsEntry c.slots
-  pub exports : IsNumber (length c.exports) × AllByRecursion IsEntry c.exports
+  pub slots : IsNumber (length c.slots) × AllByRecursion IsRawEntry c.slots
+  pub exports : IsNumber (length c.exports) × AllByRecursion IsRawEntry c.exports
   pub text : IsCounted c.text
 
 pub record IsCompartment (c : RawCompartment) : Type 0 where

@@ -7,7 +7,7 @@ use Rattle.def_layout.specs.declared.Region.{Region}
 use Rattle.def_layout.specs.Placement.{region, placed, last_end, needed}
 use Rattle.def_image.specs.Sizes.{sum_of}
 use Rattle.def_image.specs.Parts.{SharedRow as SharedPart, SealedRow as SealedPart, CodeRow as CodePart, CompartmentRow as CompartmentPart, ThreadRow as ThreadPart, PartsRow}
-use Rattle.def_description.specs.Rows.{CompartmentRow, LibraryRow, SharedRow, SealedRow, ThreadRow, DescRow}
+use Rattle.def_desc.specs.Rows.{CompartmentRow, LibraryRow, SharedRow, SealedRow, ThreadRow, DescRow}
 use Rattle.def_link.specs.declared.LinkFault.{LinkFault}
 use Rattle.def_link.specs.declared.LinkFault.TheVariants as fault
 use Rattle.def_link.specs.Owners.{Built, units_of, all_built}

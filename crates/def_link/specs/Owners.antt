@@ -11,8 +11,8 @@ use Rattle.def_source.specs.Source.{Statements, program_of}
 use Rattle.def_object.specs.declared.Fault.{Fault}
 use Rattle.def_object.specs.declared.Label.{Label}
 use Rattle.def_object.specs.Object.{undeclared_in, fault_in, label_in, text_of, text_offset, initial_of, word_bytes}
-use Rattle.def_description.specs.Named.{slot_names, library_slot_names}
-use Rattle.def_description.specs.Rows.{CodeRow, AtRow, ExportRow, CompartmentRow, LexportRow, LibraryRow, DescRow}
+use Rattle.def_desc.specs.Named.{slot_names, library_slot_names}
+use Rattle.def_desc.specs.Rows.{CodeRow, AtRow, ExportRow, CompartmentRow, LexportRow, LibraryRow, DescRow}
 use Rattle.def_link.specs.declared.LinkFault.{LinkFault}
 use Rattle.def_link.specs.declared.LinkFault.TheVariants as fault
 

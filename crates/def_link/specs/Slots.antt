@@ -10,17 +10,17 @@ use Rattle.def_image.specs.declared.ExportRow.{ExportRow as GateExport}
 use Rattle.def_image.specs.declared.SlotKind.{SlotKind}
 use Rattle.def_image.specs.declared.SlotKind.TheVariants as kind
 use Rattle.def_image.specs.Parts.{SlotRow, GateRow}
-use Rattle.def_description.specs.declared.Rights.{Rights}
-use Rattle.def_description.specs.declared.tables.Form.{Form}
-use Rattle.def_description.specs.declared.tables.Form.TheVariants as form
-use Rattle.def_description.specs.declared.tables.Passes.{Passes}
-use Rattle.def_description.specs.declared.tables.Passes.TheVariants.{Capabilities, Data}
-use Rattle.def_description.specs.Tables.{service_of}
-use Rattle.def_description.specs.Names.{key_name}
-use Rattle.def_description.specs.Named.{device_names, shared_names, sealed_names, export_names, library_export_names}
-use Rattle.def_description.specs.Reading.{rights_of}
-use Rattle.def_description.specs.References.{target_of, export_name}
-use Rattle.def_description.specs.Rows.{Target, ImportRow, QuotaRow, ExportRow, CompartmentRow, LimportRow, LexportRow, LibraryRow, DescRow}
+use Rattle.def_desc.specs.declared.Rights.{Rights}
+use Rattle.def_desc.specs.declared.tables.Form.{Form}
+use Rattle.def_desc.specs.declared.tables.Form.TheVariants as form
+use Rattle.def_desc.specs.declared.tables.Passes.{Passes}
+use Rattle.def_desc.specs.declared.tables.Passes.TheVariants.{Capabilities, Data}
+use Rattle.def_desc.specs.Tables.{service_of}
+use Rattle.def_desc.specs.Names.{key_name}
+use Rattle.def_desc.specs.Named.{device_names, shared_names, sealed_names, export_names, library_export_names}
+use Rattle.def_desc.specs.Reading.{rights_of}
+use Rattle.def_desc.specs.References.{target_of, export_name}
+use Rattle.def_desc.specs.Rows.{Target, ImportRow, QuotaRow, ExportRow, CompartmentRow, LimportRow, LexportRow, LibraryRow, DescRow}
 use Rattle.def_link.specs.Owners.{Built, begin_of, numbered}
 
 -- ---- where a name stands

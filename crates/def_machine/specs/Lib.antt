@@ -7,5 +7,5 @@ pub mod Frames
 pub mod Objects
 pub mod Slices
 pub mod Heap
-pub mod Board
+pub mod Platform
 pub mod Rows

@@ -11,8 +11,8 @@ pub record IsRange (size from to : ℕ) : Type 0 where
   pub inside : to ≤ size
 
 -- granule k lies in the range from one offset to another
-abbrev pub Inside : ℕ → ℕ → ℕ → Type 0
-Inside from to k = (from ≤ 8 * k) × (8 * k < to)
+abbrev pub InsideRange : ℕ → ℕ → ℕ → Type 0
+InsideRange from to k = (from ≤ 8 * k) × (8 * k < to)
 
 abbrev pub Outside : ℕ → ℕ → ℕ → Type 0
 Outside from to k = (8 * k < from) ⊎ (to ≤ 8 * k)
@@ -20,13 +20,13 @@ Outside from to k = (8 * k < from) ⊎ (to ≤ 8 * k)
 -- the range reads as zero and holds no tag; marks, and all other granules, are as they were
 pub record IsZeroed (from to : ℕ) (old new : List Granule) : Type 0 where
   pub size : length new ≡ length old
-  pub zero : (k : ℕ) → Inside from to k → granule_at new k ≡ blank (granule_at old k)
+  pub zero : (k : ℕ) → InsideRange from to k → granule_at new k ≡ blank (granule_at old k)
   pub rest : (k : ℕ) → Outside from to k → granule_at new k ≡ granule_at old k
 
 -- the range is marked, or not; bytes, tags and shadows, and all other granules, are as they were
 pub record IsMarked (from to : ℕ) (on : Bool) (old new : List Granule) : Type 0 where
   pub size : length new ≡ length old
-  pub marks : (k : ℕ) → k < length old → Inside from to k
+  pub marks : (k : ℕ) → k < length old → InsideRange from to k
       → granule_at new k ≡ record (granule_at old k) { mark = on }
   pub rest : (k : ℕ) → Outside from to k → granule_at new k ≡ granule_at old k
 

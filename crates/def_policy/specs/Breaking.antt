@@ -7,7 +7,7 @@ use Rattle.ct_entry.specs.declared.rows.Owner.{Owner}
 use Rattle.ct_entry.specs.Kinds.{is_device, is_shared, is_call, is_service, is_quota, is_export}
 use Rattle.ct_entry.specs.Listed.{Listed}
 use Rattle.def_reach.specs.Roots.{gate_for, turns_interrupts_off}
-use Rattle.def_graph.specs.Reach.{Reached, same_owner}
+use Rattle.def_reach.specs.Reach.{Reached, same_owner}
 use Rattle.def_policy.specs.declared.Subject.{Subject}
 use Rattle.def_policy.specs.declared.Subject.TheVariants.{Device, Shared, Service, Call, Disabled, Data, Total, Quota, Apart}
 use Rattle.def_policy.specs.Rulings.{Ruling}
@@ -64,15 +64,15 @@ breaking e r = breaking_from e r 1 0 e.rows
 -- ---- rules
 
 -- no owner that is to be apart from a compartment reaches it
-abbrev pub IsApart : Listed → Subject → Type 0
-IsApart e (Apart o b) = Reached e o b → ⊥
-IsApart e _ = Unit {0}
+abbrev pub KeepsApart : Listed → Subject → Type 0
+KeepsApart e (Apart o b) = Reached e o b → ⊥
+KeepsApart e _ = Unit {0}
 
 -- no entry breaks the rule
-pub record Keeps (e : Listed) (r : Ruling) : Type 0 where
+pub record KeepsRule (e : Listed) (r : Ruling) : Type 0 where
   pub entries : breaking e r ≡ []
-  pub apart : IsApart e r.subject
+  pub apart : KeepsApart e r.subject
 
 -- a policy holds
 abbrev pub PolicyHolds : Listed → List Ruling → Type 0
-PolicyHolds e rulings = All (Keeps e) rulings
+PolicyHolds e rulings = All (KeepsRule e) rulings

@@ -3,8 +3,8 @@
 use Rattle.std.specs.Prelude.{ℕ, ◌≡◌, ◌+◌, ◌⊎◌, List, [], ◌∷◌, ◌++◌, codes, decimal, flat_map, map}
 use Rattle.ct_entry.specs.declared.rows.Owner.{Owner}
 use Rattle.def_boot.specs.Gates.{entries_of}
-use Rattle.def_graph.specs.Reach.{Reached}
-use Rattle.def_graph.specs.Route.{IsPath}
+use Rattle.def_reach.specs.Reach.{Reached}
+use Rattle.def_reach.specs.Route.{IsPath}
 use Rattle.def_image.specs.Parts.{PartsRow}
 use Rattle.def_policy.specs.declared.Subject.{Subject}
 use Rattle.def_policy.specs.declared.Subject.TheVariants.{Apart}

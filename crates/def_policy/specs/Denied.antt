@@ -10,21 +10,21 @@ use Rattle.def_policy.specs.declared.Subject.{Subject}
 use Rattle.def_reach.specs.Roots.{gate_for, turns_interrupts_off}
 use Rattle.def_policy.specs.Denials.{AllDenied}
 use Rattle.def_policy.specs.Rulings.{Ruling}
-use Rattle.def_policy.specs.Texts.{IsFault, Reads}
+use Rattle.def_policy.specs.Texts.{IsPolicyFault, ReadsAsPolicy}
 
 -- a text is a policy of an image
 pub record HasReading (p : PartsRow) (text : List ℕ) : Type 0 where
   pub rulings : List Ruling
-  pub reads : Reads p text rulings
+  pub reads : ReadsAsPolicy p text rulings
 
 -- or it has a fault
-pub record HasFault (p : PartsRow) (text : List ℕ) : Type 0 where
+pub record PolicyHasFault (p : PartsRow) (text : List ℕ) : Type 0 where
   pub number : ℕ
   pub line : ℕ
-  pub fault : IsFault p text number line
+  pub fault : IsPolicyFault p text number line
 
-abbrev pub IsTold : PartsRow → List ℕ → Type 0
-IsTold p text = HasReading p text ⊎ HasFault p text
+abbrev pub TellsDenial : PartsRow → List ℕ → Type 0
+TellsDenial p text = HasReading p text ⊎ PolicyHasFault p text
 
 -- a text denies these rules, from this line on
 pub record HasDenials (p : PartsRow) (line : ℕ) (rulings : List Ruling) : Type 0 where

@@ -2,7 +2,7 @@
 -- says, so no text is taken apart here.
 use Rattle.std.specs.Prelude.{ℕ, ◌≡◌, ◌≢◌, ◌<◌, ◌≤◌, ◌==◌, ◌&&◌, nat_lt, not, Bool, true, List, [], ◌∷◌, ◌++◌, length, codes, decimal}
 use Rattle.std.specs.List.{AllByRecursion, list_all}
-use Rattle.def_description.specs.References.{export_name}
+use Rattle.def_desc.specs.References.{export_name}
 use Rattle.def_policy.specs.declared.TheConstants.{MOST_TOTAL}
 
 -- what a line demands, by names

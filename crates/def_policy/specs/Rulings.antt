@@ -1,7 +1,7 @@
 -- What a rule means in an image: its names by what they stand for.
 use Rattle.std.specs.Prelude.{ℕ, List, [], Option, Some, None, option_map}
 use Rattle.ct_entry.specs.declared.rows.Owner.{Owner}
-use Rattle.def_description.specs.Tables.{service_of}
+use Rattle.def_desc.specs.Tables.{service_of}
 use Rattle.def_image.specs.Parts.{PartsRow}
 use Rattle.def_policy.specs.declared.Subject.{Subject}
 use Rattle.def_policy.specs.declared.Subject.TheVariants as subject

@@ -3,7 +3,7 @@ use Rattle.std.specs.Prelude.{◌≡◌, ℕ, ◌+◌, ◌≤◌, List, [], ◌�
 use Rattle.def_port.specs.declared.faults.ReadError.{ReadError}
 use Rattle.def_port.specs.declared.faults.ReadError.TheVariants.{Failed, NoMemory}
 use Rattle.def_port.specs.Bytes.{FaultsRose}
-use Rattle.def_port.specs.Told.{Told, Gives, Call, FolderView}
+use Rattle.def_port.specs.Told.{Told, FileGives, Call, FolderView}
 
 -- the list of calls after one more
 abbrev pub recorded : List Call → List ℕ → ℕ → Bool → List Call
@@ -14,7 +14,7 @@ recorded before name limit failed =
 pub record Reads (name : List ℕ) (limit : ℕ) (before after : FolderView) (bytes : List ℕ)
     : Type 0 where
   pub size : length bytes ≤ limit + 1
-  pub gives : Gives (before.file name) limit bytes
+  pub gives : FileGives (before.file name) limit bytes
   pub call : after.calls ≡ recorded before.calls name limit false
   pub same : after.faults ≡ before.faults
 

@@ -9,10 +9,10 @@ pub data Told : Type 0 where
 
 -- What a read with this limit gives: the whole file where it has at most that many bytes, else its
 -- first limit + 1. A name that is told to be absent gives nothing.
-abbrev pub Gives : Told → ℕ → List ℕ → Type 0
-Gives Silent limit bytes = Unit {0}
-Gives Absent limit bytes = ⊥
-Gives (File all) limit bytes = bytes ≡ take (limit + 1) all
+abbrev pub FileGives : Told → ℕ → List ℕ → Type 0
+FileGives Silent limit bytes = Unit {0}
+FileGives Absent limit bytes = ⊥
+FileGives (File all) limit bytes = bytes ≡ take (limit + 1) all
 
 -- a call: the name that was read, the limit that it was read with, and whether the read failed
 pub record Call : Type 0 where

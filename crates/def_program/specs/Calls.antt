@@ -2,7 +2,7 @@
 use Rattle.std.specs.Prelude.{◌≡◌, ℕ, ◌+◌, ◌<◌, ◌≤◌, List, length}
 use Rattle.def_profile.specs.declared.limits.TheConstants.{MOST_FILE}
 use Rattle.def_port.specs.Bytes.{SinkView}
-use Rattle.def_port.specs.Told.{Told, Silent, Absent, File, Gives, FolderView}
+use Rattle.def_port.specs.Told.{Told, Silent, Absent, File, FileGives, FolderView}
 
 -- a file has at most this many bytes
 abbrev pub most : ℕ
@@ -47,6 +47,6 @@ pub record IsFile (told : Told) (bytes : List ℕ) : Type 0 where
 -- a file gave one byte more than a file may have
 pub record Exceeds (told : Told) : Type 0 where
   pub bytes : List ℕ
-  pub gives : Gives told most bytes
+  pub gives : FileGives told most bytes
   pub size : length bytes ≡ most + 1
   pub large : IsLarge told

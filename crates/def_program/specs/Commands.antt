@@ -1,6 +1,6 @@
 -- The words of the command line.
 use Rattle.std.specs.Prelude.{ℕ, ◌==◌, List, [], ◌∷◌, Bool, true, false, Option, Some, None, option_map, bytes_eq, codes, if◌then◌else◌}
-use Rattle.def_digits.specs.Digits.{number_within}
+use Rattle.def_texts.specs.Digits.{number_within}
 use Rattle.def_profile.specs.declared.limits.TheConstants.{MOST_STEPS}
 use Rattle.def_program.specs.declared.TheConstants.{MOST_NUMBER}
 

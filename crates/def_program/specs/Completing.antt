@@ -7,7 +7,7 @@ use Rattle.def_port.specs.Told.{File}
 use Rattle.def_image.specs.Accepted.{IsImage}
 use Rattle.def_image.specs.Parts.{PartsRow}
 use Rattle.def_policy.specs.Rulings.{Ruling}
-use Rattle.def_policy.specs.Texts.{Reads}
+use Rattle.def_policy.specs.Texts.{ReadsAsPolicy}
 use Rattle.def_script.specs.Script.{Due}
 use Rattle.def_script.specs.Script as script
 use Rattle.def_program.specs.Commands.{Command, Audit, Image, Run, RunImage, Why, Upgrade, Check, Demo, form_of, generated_by, file_of, reads_image}
@@ -48,14 +48,14 @@ pub record IsRuled (e : CallRecord) (p : PartsRow) (name : List ℕ) : Type 0 wh
   pub bytes : List ℕ
   pub told : IsTold e name bytes
   pub rulings : List Ruling
-  pub reads : Reads p bytes rulings
+  pub reads : ReadsAsPolicy p bytes rulings
 
 -- the folder tells a script for these parts
 pub record IsPlanned (e : CallRecord) (p : PartsRow) (name : List ℕ) : Type 0 where
   pub bytes : List ℕ
   pub told : IsTold e name bytes
   pub dues : List Due
-  pub reads : script.Reads p.devices bytes dues
+  pub reads : script.ReadsAsScript p.devices bytes dues
 
 abbrev pub IsPlannedIfNamed : CallRecord → PartsRow → Option (List ℕ) → Type 0
 IsPlannedIfNamed e p None = Unit {0}
@@ -77,15 +77,15 @@ pub record AreGiven (e : CallRecord) (c : Command) (p : PartsRow) : Type 0 where
   pub also : AlsoStands e c p
 
 -- a generated firmware needs no file
-abbrev pub Given : CallRecord → Command → Option ℕ → PartsRow → Type 0
-Given e c None p = AreGiven e c p
-Given e c (Some number) p = NumberStandsFor number p
+abbrev pub GivenFiles : CallRecord → Command → Option ℕ → PartsRow → Type 0
+GivenFiles e c None p = AreGiven e c p
+GivenFiles e c (Some number) p = NumberStandsFor number p
 
 -- the words are a form, whose files, or whose number, stand for these parts
 pub record IsAsked (e : CallRecord) (p : PartsRow) : Type 0 where
   pub command : Command
   pub form : form_of e.words ≡ Some command
-  pub given : Given e command (generated_by command) p
+  pub given : GivenFiles e command (generated_by command) p
 
 -- ---- how it ends
 

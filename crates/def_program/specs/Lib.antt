@@ -15,3 +15,7 @@ pub mod Completing
 pub mod Deciding
 pub mod Beside
 pub mod Following
+pub mod Accesses
+pub mod AllowedLines
+pub mod Named
+pub mod AllowedRuns

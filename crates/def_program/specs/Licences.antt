@@ -3,14 +3,14 @@
 use Rattle.std.specs.Prelude.{ℕ, ◌≡◌, List, [], ◌∷◌, length, Bool, true, false, Option, Some, None, Ok}
 use Rattle.def_confined.specs.Telling.{AllLicensed}
 use Rattle.def_step.specs.Events.{happenings_of}
-use Rattle.def_machine.specs.Board.{MachineRow}
+use Rattle.def_machine.specs.Platform.{MachineRow}
 use Rattle.def_image.specs.Parts.{PartsRow}
 use Rattle.def_image.specs.Accepted.{IsImage}
 use Rattle.def_boot.specs.Boot.{booted_machine}
 use Rattle.def_boot.specs.Gates.{entries_of}
-use Rattle.def_description.specs.Rows.{DescRow}
-use Rattle.def_description.specs.WellFormed.{WellFormed}
-use Rattle.def_description.specs.Reading.{description_of}
+use Rattle.def_desc.specs.Rows.{DescRow}
+use Rattle.def_desc.specs.WellFormed.{WellFormed}
+use Rattle.def_desc.specs.Reading.{description_of}
 use Rattle.def_gen.specs.Description.{firmware}
 use Rattle.def_gen.specs.Sources as generated
 use Rattle.def_program.specs.declared.TheConstants.{DEMO_STEPS}

@@ -2,10 +2,10 @@
 use Rattle.std.specs.Prelude.{ℕ, List, [], ◌∷◌, ◌++◌, codes, decimal, option_map, slice_get, unwrap_or}
 use Rattle.ct_entry.specs.declared.rows.Owner.{Owner}
 use Rattle.ct_entry.specs.declared.rows.Owner.TheVariants.{Compartment, Library}
-use Rattle.def_description.specs.declared.faults.Fault.{Fault}
-use Rattle.def_description.specs.declared.faults.PartWord.{PartWord}
-use Rattle.def_description.specs.declared.faults.PartWord.TheVariants as part
-use Rattle.def_description.specs.Rows.{CompartmentRow, LibraryRow, DescRow}
+use Rattle.def_desc.specs.declared.faults.Fault.{Fault}
+use Rattle.def_desc.specs.declared.faults.PartWord.{PartWord}
+use Rattle.def_desc.specs.declared.faults.PartWord.TheVariants as part
+use Rattle.def_desc.specs.Rows.{CompartmentRow, LibraryRow, DescRow}
 use Rattle.def_link.specs.declared.LinkFault.{LinkFault}
 use Rattle.def_link.specs.declared.LinkFault.TheVariants as fault
 pub use Rattle.def_policy.specs.Rules.{ended}

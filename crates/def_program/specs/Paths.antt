@@ -1,8 +1,8 @@
 -- What `why` writes: how an owner reaches a compartment, by the names of both.
 use Rattle.std.specs.Prelude.{ℕ, ◌≡◌, ◌⊎◌, List, [], ◌∷◌, ◌++◌, codes, map}
 use Rattle.ct_entry.specs.declared.rows.Owner.{Owner}
-use Rattle.def_graph.specs.Reach.{Reached}
-use Rattle.def_graph.specs.Route.{IsPath}
+use Rattle.def_reach.specs.Reach.{Reached}
+use Rattle.def_reach.specs.Route.{IsPath}
 use Rattle.def_image.specs.Parts.{PartsRow}
 use Rattle.def_boot.specs.Gates.{entries_of}
 pub use Rattle.def_policy.specs.Names.{compartment_named, library_named, or_library, owner_named, name_of}

@@ -7,12 +7,12 @@ use Rattle.ct_entry.specs.declared.acts.End.TheVariants.{Limit}
 use Rattle.def_machine.specs.State.{State}
 use Rattle.def_step.specs.declared.Event.{Event}
 use Rattle.def_step.specs.declared.Event.TheVariants.{Step, Tick, Sweep, Input}
-use Rattle.def_machine.specs.Board.{Board, MachineRow}
+use Rattle.def_machine.specs.Platform.{Platform, MachineRow}
 use Rattle.def_step.specs.Events.{run, happenings_of, end_of, totals_of}
 use Rattle.def_trace.specs.Trace.{trace_line, summary_line}
 use Rattle.def_image.specs.Parts.{PartsRow}
 use Rattle.def_boot.specs.Boot.{booted_machine}
-use Rattle.def_lines.specs.Report.{report_line}
+use Rattle.def_report.specs.Report.{report_line}
 use Rattle.def_script.specs.declared.Given.{Given}
 use Rattle.def_script.specs.Script.{Due, given_at}
 use Rattle.def_program.specs.declared.TheConstants.{DEMO_STEPS}
@@ -41,7 +41,7 @@ unless_ended (Some e) events = []
 
 -- the events from step k on, of at most n steps: before each the run stops where the machine has
 -- come to its end
-unfoldable pub events_from : Board → State → List Due → ℕ → ℕ → ℕ → List Event
+unfoldable pub events_from : Platform → State → List Due → ℕ → ℕ → ℕ → List Event
 events_from b s script quantum k zero = []
 events_from b s script quantum k (suc n) =
     unless_ended (end_of s)
@@ -63,7 +63,7 @@ or_last None s lines = lines
 or_last (Some e) s lines = last_line s
 
 -- the lines from step k on, of at most n steps, and the summary
-unfoldable pub lines_from : Board → State → List Due → ℕ → ℕ → ℕ → List ℕ
+unfoldable pub lines_from : Platform → State → List Due → ℕ → ℕ → ℕ → List ℕ
 lines_from b s script quantum k zero = last_line s
 lines_from b s script quantum k (suc n) =
     or_last (end_of s) s

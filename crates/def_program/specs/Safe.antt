@@ -3,7 +3,7 @@
 use Rattle.std.specs.Prelude.{ℕ, ◌≡◌, ◌≤◌, ◌++◌, List, ◌∷◌, take, Some}
 use Rattle.ct_entry.specs.declared.acts.Act.TheVariants.{Allocate, Free}
 use Rattle.ct_entry.specs.declared.acts.Deed.{Deed}
-use Rattle.def_boot.specs.Boot.{board_of, boot_state, booted_machine, image_of}
+use Rattle.def_boot.specs.Boot.{platform_of, boot_state, booted_machine, image_of}
 use Rattle.def_image.specs.Parts.{PartsRow}
 use Rattle.def_machine.specs.Image.{root}
 use Rattle.def_machine.specs.Objects.{charges}
@@ -34,27 +34,27 @@ SweptBeforeReuseIn p events =
     (before between rest : List Event) (freed made : Deed)
     (number base bytes charged other from size total : ℕ)
     → events ≡ before ++ Step ∷ (between ++ Step ∷ rest)
-    → (happens (board_of p) (state_after p before) Step).1.deed ≡ Some freed
+    → (happens (platform_of p) (state_after p before) Step).1.deed ≡ Some freed
     → freed.act ≡ Free number base bytes charged
-    → (happens (board_of p)
-    (run (board_of p) (happens (board_of p) (state_after p before) Step).0 between)
+    → (happens (platform_of p)
+    (run (platform_of p) (happens (platform_of p) (state_after p before) Step).0 between)
     Step).1.deed ≡ Some made
     → made.act ≡ Allocate other from size total → ChunksMeet from size base bytes
-    → SweepsWhole (board_of p) (happens (board_of p) (state_after p before) Step).0 between
+    → SweepsWhole (platform_of p) (happens (platform_of p) (state_after p before) Step).0 between
 
 -- where one step tells a free, no event after it loads, stores, waits or wakes through a capability of the freed object
 abbrev pub UnusedAfterFreeIn : PartsRow → List Event → Type 0
 UnusedAfterFreeIn p events =
     (before between rest : List Event) (freed : Deed) (number base bytes charged : ℕ)
     → events ≡ before ++ Step ∷ (between ++ rest)
-    → (happens (board_of p) (state_after p before) Step).1.deed ≡ Some freed
+    → (happens (platform_of p) (state_after p before) Step).1.deed ≡ Some freed
     → freed.act ≡ Free number base bytes charged
-    → UsesOnly (board_of p)
-    (run (board_of p) (happens (board_of p) (state_after p before) Step).0 between)
-    (IsNotOf (board_of p).image number)
+    → UsesOnly (platform_of p)
+    (run (platform_of p) (happens (platform_of p) (state_after p before) Step).0 between)
+    (IsNotOf (platform_of p).image number)
 
 pub record IsSafeRun (p : PartsRow) (es : List Event) : Type 0 where
-  pub events : EachEvent (Upholds (board_of p)) (board_of p) (boot_state p) es
+  pub events : EachEvent (Upholds (platform_of p)) (platform_of p) (boot_state p) es
   pub unused : UnusedAfterFreeIn p es
   pub swept : SweptBeforeReuseIn p es
   pub quotas : WithinLimits p es

@@ -4,17 +4,17 @@ use Rattle.ct_entry.specs.declared.rows.Owner.{Owner}
 use Rattle.def_image.specs.Parts.{PartsRow, upgraded}
 use Rattle.def_image.specs.Accepted.{IsImage, FaultAt}
 use Rattle.def_image.specs.Spelling.{image_bytes}
-use Rattle.def_description.specs.Rows.{CodeRow, CompartmentRow, LibraryRow, DescRow}
-use Rattle.def_description.specs.WellFormed.{WellFormed, IsFaulty}
-use Rattle.def_description.specs.Reading.{description_of}
+use Rattle.def_desc.specs.Rows.{CodeRow, CompartmentRow, LibraryRow, DescRow}
+use Rattle.def_desc.specs.WellFormed.{WellFormed, IsFaulty}
+use Rattle.def_desc.specs.Reading.{description_of}
 use Rattle.def_gen.specs.Description.{firmware}
 use Rattle.def_gen.specs.Sources as generated
 use Rattle.def_link.specs.declared.LinkFault.{LinkFault}
 use Rattle.def_link.specs.Linked.{linked}
-use Rattle.def_lines.specs.Report.{report_line}
+use Rattle.def_report.specs.Report.{report_line}
 use Rattle.def_policy.specs.Denials.{AllDenied}
 use Rattle.def_policy.specs.Rulings.{Ruling}
-use Rattle.def_policy.specs.Texts.{IsFault, Reads}
+use Rattle.def_policy.specs.Texts.{IsPolicyFault, ReadsAsPolicy}
 use Rattle.def_script.specs.Script.{Due}
 use Rattle.def_script.specs.Script as script
 use Rattle.def_program.specs.declared.Status.{Status}
@@ -53,10 +53,10 @@ pub record NumberedFault : Type 0 where
   pub place : ℕ
 
 -- the turn is the refusal of a fault of this kind
-pub record Refuses {A : Type 0} (IsFault : A → Type 0) (refusal : A → Turn) (turn : Turn)
+pub record Refuses {A : Type 0} (IsPolicyFault : A → Type 0) (refusal : A → Turn) (turn : Turn)
     : Type 0 where
   pub fault : A
-  pub is : IsFault fault
+  pub is : IsPolicyFault fault
   pub due : turn ≡ refusal fault
 
 abbrev pub RefusesDescription : List ℕ → Turn → Type 0
@@ -70,12 +70,12 @@ RefusesImage bytes turn =
 
 abbrev pub RefusesScript : PartsRow → List ℕ → Turn → Type 0
 RefusesScript p bytes turn =
-    Refuses (λ (f : NumberedFault). script.IsFault p.devices bytes f.number f.place)
+    Refuses (λ (f : NumberedFault). script.IsScriptFault p.devices bytes f.number f.place)
     (λ f. Ends status.Script (script_line f.number f.place)) turn
 
 abbrev pub RefusesPolicy : PartsRow → List ℕ → Turn → Type 0
 RefusesPolicy p bytes turn =
-    Refuses (λ (f : NumberedFault). IsFault p bytes f.number f.place)
+    Refuses (λ (f : NumberedFault). IsPolicyFault p bytes f.number f.place)
     (λ f. Ends status.Policy (policy_line f.number f.place)) turn
 
 -- ---- what a command writes of an image's parts
@@ -96,7 +96,7 @@ verdict (c ∷ cs) = Ends status.Denied (c ∷ cs)
 -- the rules of a policy's text, and the lines that deny them
 pub record IsJudged (p : PartsRow) (bytes : List ℕ) (turn : Turn) : Type 0 where
   pub rulings : List Ruling
-  pub reads : Reads p bytes rulings
+  pub reads : ReadsAsPolicy p bytes rulings
   pub text : List ℕ
   pub denied : AllDenied p 1 rulings text
   pub due : turn ≡ verdict text
@@ -113,7 +113,7 @@ OfPolicy policy p (bytes ∷ more) turn = OfText p bytes turn
 -- what a script's text says, and the run with it
 pub record IsPlayed (p : PartsRow) (limit : ℕ) (bytes : List ℕ) (turn : Turn) : Type 0 where
   pub dues : List Due
-  pub reads : script.Reads p.devices bytes dues
+  pub reads : script.ReadsAsScript p.devices bytes dues
   pub due : turn ≡ Ends status.Done (run_text p dues limit)
 
 -- of a script's text

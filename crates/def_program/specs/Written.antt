@@ -2,13 +2,13 @@
 -- happening is licensed and each event safe.
 use Rattle.std.specs.Prelude.{ℕ, ◌≡◌, ◌+◌, List, [], ◌∷◌, ◌++◌, Option, Some, None}
 use Rattle.ct_entry.specs.declared.acts.Happened.{Happened}
-use Rattle.def_boot.specs.Boot.{board_of, boot_state, booted_machine}
+use Rattle.def_boot.specs.Boot.{platform_of, boot_state, booted_machine}
 use Rattle.def_boot.specs.Gates.{entries_of}
 use Rattle.def_confined.specs.Telling.{AllLicensed}
 use Rattle.def_image.specs.Parts.{PartsRow}
-use Rattle.def_lines.specs.Report.{report_line}
+use Rattle.def_report.specs.Report.{report_line}
 use Rattle.def_port.specs.Bytes.{Appends}
-use Rattle.def_script.specs.Script.{Due, Reads}
+use Rattle.def_script.specs.Script.{Due, ReadsAsScript}
 use Rattle.def_step.specs.Events.{happenings_of}
 use Rattle.def_step.specs.declared.Event.{Event}
 use Rattle.def_step.specs.declared.Event.TheVariants.{Step}
@@ -45,7 +45,7 @@ event_lines k (e ∷ es) (h ∷ hs) = trace_line k h ++ event_lines (number_afte
 pub record IsRun (p : PartsRow) (script : List Due) (limit : ℕ) (events : List Event)
     (happenings : List Happened) : Type 0 where
   pub events_are : events ≡ events_until (booted_machine p) script p.quantum limit
-  pub happenings_are : happenings ≡ happenings_of (board_of p) (boot_state p) events
+  pub happenings_are : happenings ≡ happenings_of (platform_of p) (boot_state p) events
   pub licensed : AllLicensed (entries_of p) happenings
   pub safe : IsSafeRun p events
 
@@ -55,10 +55,10 @@ run_report p events happenings =
     report_line p ++ (event_lines 1 events happenings ++ last_line (state_after p events))
 
 -- what a command's script says, where one is named: it is the next file
-abbrev pub IsScript : PartsRow → Option (List ℕ) → List (List ℕ) → List Due → Type 0
-IsScript p None files script = script ≡ []
-IsScript p (Some name) [] script = ⊥
-IsScript p (Some name) (bytes ∷ files) script = Reads p.devices bytes script
+abbrev pub IsScriptFile : PartsRow → Option (List ℕ) → List (List ℕ) → List Due → Type 0
+IsScriptFile p None files script = script ≡ []
+IsScriptFile p (Some name) [] script = ⊥
+IsScriptFile p (Some name) (bytes ∷ files) script = ReadsAsScript p.devices bytes script
 
 -- ---- calls
 
@@ -74,7 +74,7 @@ pub record WritesRun (e : CallRecord) (c : Command) (limit : ℕ) (named : Optio
   pub parts : PartsRow
   pub stand : StandFor c own parts
   pub script : List Due
-  pub script_is : IsScript parts named more script
+  pub script_is : IsScriptFile parts named more script
   pub events : List Event
   pub happenings : List Happened
   pub is_run : IsRun parts script limit events happenings

@@ -11,7 +11,7 @@ use Rattle.def_reach.specs.Sharing.{Reaches}
 use Rattle.def_machine.specs.Image.{Image, root, stack_entry}
 use Rattle.def_machine.specs.State.{State, Frame, Object, register, thread}
 use Rattle.def_machine.specs.Objects.{Any}
-use Rattle.def_machine.specs.Board.{Board}
+use Rattle.def_machine.specs.Platform.{Platform}
 use Rattle.def_confined.specs.Capabilities.{heap_cap, stack_cap}
 use Rattle.def_confined.specs.Confined.{IsPcc}
 use Rattle.def_confined.specs.Places.{LiveCovers}
@@ -72,7 +72,7 @@ RunsFor i n actor =
 -- that runs reaches it. Where the checks of a fetch pass, of a load or store, or of the word of a wait or wake, the
 -- bytes lie in the range of the root, or in a live object, and the root's rights hold what is used, for a capability that
 -- is moved too.
-pub record UsesReach (b : Board) (s : State) : Type 0 where
+pub record UsesReach (b : Platform) (s : State) : Type 0 where
   pub registers : (t n : ℕ) (f : Frame) (fs : List Frame) → (ready b s).running ≡ Some t
       → (thread (ready b s) t).frames ≡ f ∷ fs → (register (thread (ready b s) t) n).tag ≡ true
       → IsUse b.image (ready b s).objects t f.actor (register (thread (ready b s) t) n)

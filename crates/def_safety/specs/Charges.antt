@@ -7,7 +7,7 @@ use Rattle.def_machine.specs.State.{State, Object}
 use Rattle.def_machine.specs.Objects.{charges}
 use Rattle.def_step.specs.declared.Event.{Event}
 use Rattle.def_step.specs.Events.{happens}
-use Rattle.def_machine.specs.Board.{Board}
+use Rattle.def_machine.specs.Platform.{Platform}
 
 -- the live charges on a quota are more, by an object of this length with its head; on others they are as they were
 pub record ChargesMore (less more : List Object) (quota bytes : ℕ) : Type 0 where
@@ -16,7 +16,7 @@ pub record ChargesMore (less more : List Object) (quota bytes : ℕ) : Type 0 wh
 
 -- A free or an allocation that is told changes the live charges on its quota by the object's charge, and those on no
 -- other; what it tells of them is what they come to.
-pub record ChargesFollow (b : Board) (s : State) (e : Event) : Type 0 where
+pub record ChargesFollow (b : Platform) (s : State) (e : Event) : Type 0 where
   pub frees : (d : Deed) (number base bytes charged : ℕ)
       → (happens b s e).1.deed ≡ Some d → d.act ≡ Free number base bytes charged
       → ChargesMore (happens b s e).0.objects s.objects d.entry bytes

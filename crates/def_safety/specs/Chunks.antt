@@ -11,7 +11,7 @@ use Rattle.def_confined.specs.Capabilities.{heap_cap}
 use Rattle.def_step.specs.declared.Event.{Event}
 use Rattle.def_step.specs.declared.Event.TheVariants.{Step}
 use Rattle.def_step.specs.Events.{happens, run}
-use Rattle.def_machine.specs.Board.{Board}
+use Rattle.def_machine.specs.Platform.{Platform}
 use Rattle.def_safety.specs.Reuse.{SweepsWhole}
 use Rattle.def_safety.specs.Temporal.{UsesOnly}
 
@@ -33,7 +33,7 @@ chunk_at number base bytes = record {
 }
 
 -- the state in which a step leaves what these events left
-abbrev pub stepped_after : Board → State → List Event → State
+abbrev pub stepped_after : Platform → State → List Event → State
 stepped_after b s es = (happens b (run b s es) Step).0
 
 -- a capability of no object with this number
@@ -42,7 +42,7 @@ IsNotOf i n c = heap_cap i c ≡ true → c.shadow.source ≢ n
 
 -- Where a free is told after some events, then after any more no load or store whose checks pass, and no wait or wake,
 -- goes through a capability of the freed object.
-abbrev pub UnusedAfterFree : Board → State → Type 0
+abbrev pub UnusedAfterFree : Platform → State → Type 0
 UnusedAfterFree b s =
     (es fs : List Event) (d : Deed) (n base bytes charged : ℕ)
     → (happens b (run b s es) Step).1.deed ≡ Some d → d.act ≡ Free n base bytes charged
@@ -50,7 +50,7 @@ UnusedAfterFree b s =
 
 -- Where a free is told after some events, and after more an allocation whose chunk meets the chunk of the freed object,
 -- there was a whole sweep among these, which began after the free.
-abbrev pub SweptBeforeReuse : Board → State → Type 0
+abbrev pub SweptBeforeReuse : Platform → State → Type 0
 SweptBeforeReuse b s =
     (es fs : List Event) (d : Deed) (n base bytes charged : ℕ)
     (c : Deed) (number from size total : ℕ)

@@ -4,7 +4,7 @@ use Rattle.def_profile.specs.declared.native.TheConstants.{ALLOCATE, TOKEN_KEY, 
 use Rattle.def_words.specs.declared.Cap.{Cap}
 use Rattle.def_words.specs.Authority.{cap_base, cap_top}
 use Rattle.def_memory.specs.Granules.{plain}
-use Rattle.def_machine.specs.Board.{Board}
+use Rattle.def_machine.specs.Platform.{Platform}
 use Rattle.def_machine.specs.Heap.{IsPlaceFor, object_cap, with_object}
 use Rattle.def_machine.specs.Image.{Image, address_of}
 use Rattle.def_machine.specs.Objects.{Each}
@@ -52,7 +52,7 @@ AsToken s t after r =
     × (after ≡ answers (with_object (with_row s r (Some key.number)) r) t (sealed_token r)))
 
 -- allocate hands it out as it is, token_key as a key, and token_new as a token
-abbrev pub AsHanded : Board → State → ℕ → State → Object → Type 0
+abbrev pub AsHanded : Platform → State → ℕ → State → Object → Type 0
 AsHanded b s t after r =
     (RunsRoutine b s t ALLOCATE × AsMade s t after r)
     ⊎ (RunsRoutine b s t TOKEN_KEY × AsKey s t after r)

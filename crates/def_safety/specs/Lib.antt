@@ -1,3 +1,5 @@
+pub mod Wired
+pub mod Inside
 pub mod Each
 pub mod Used
 pub mod Routine
@@ -14,3 +16,10 @@ pub mod Charges
 pub mod Traps
 pub mod Within
 pub mod Safety
+pub mod Everywhere
+pub mod Tokened
+pub mod Opening
+pub mod Comes
+pub mod Results
+pub mod Calling
+pub mod HiddenSteps

@@ -25,7 +25,7 @@ use Rattle.def_step.specs.Jumps.{is_taken, target_at, target_checks, register_ju
 use Rattle.def_step.specs.Operands.{class_of}
 use Rattle.def_step.specs.Routines.{word_checks}
 use Rattle.def_step.specs.Switch.{return_checks, switch_checks, frame_top}
-use Rattle.def_machine.specs.Board.{Board}
+use Rattle.def_machine.specs.Platform.{Platform}
 use Rattle.def_safety.specs.Each.{ready}
 use Rattle.def_safety.specs.Used.{authority_of, value_of, access_start}
 
@@ -93,7 +93,7 @@ next_checks i s t (Native n) = routine_checks i s t n
 next_checks i s t Nothing = always (plain_trap ILLEGAL_INSTRUCTION)
 
 -- of a step of thread t: the fetch's, then those of what stands there
-abbrev pub step_checks : Board → State → ℕ → List Check
+abbrev pub step_checks : Platform → State → ℕ → List Check
 step_checks b s t =
     fetch_checks (thread s t).pcc
     ++ next_checks b.image s t (next_at (space_of b s) (cap_address (thread s t).pcc))
@@ -112,7 +112,7 @@ pub record FirstFails (cs : List Check) (why : Trap) : Type 0 where
   pub hold : AllHold before
 
 -- a trap that is told is that of the first check that fails
-abbrev pub TrapsFirst : Board → State → Event → Type 0
+abbrev pub TrapsFirst : Platform → State → Event → Type 0
 TrapsFirst b s e =
     (d : Deed) (cause code register : ℕ)
     → (happens b s e).1.deed ≡ Some d → d.act ≡ acts.Trap cause code register

@@ -5,7 +5,7 @@ use Rattle.def_words.specs.Permissions.{load_data, store_data}
 use Rattle.def_instr.specs.declared.Instr.{Instr}
 use Rattle.def_machine.specs.State.{State}
 use Rattle.def_step.specs.declared.Access.{Access}
-use Rattle.def_step.specs.Accesses.{Space, access_of, access_checks, access_address, accessed}
+use Rattle.def_step.specs.Accesses.{MemoryAndDevices, access_of, access_checks, access_address, accessed}
 use Rattle.def_step.specs.Checks.{first_failed}
 use Rattle.def_step.specs.Instructions.{operand}
 use Rattle.def_step.specs.Operands.{operands_of}
@@ -33,7 +33,7 @@ abbrev pub used_right : Access → ℕ
 used_right a = if a.loads then load_data else store_data
 
 -- a capability is moved: the load gives a tagged value, or the store is given one
-abbrev pub moves_capability : Access → Cap → Cap → ℕ → Space → Bool
+abbrev pub moves_capability : Access → Cap → Cap → ℕ → MemoryAndDevices → Bool
 moves_capability a x y at p =
     if a.loads then is_tagged (accessed a x y at p).value else a.whole && y.tag
   where

@@ -1,5 +1,5 @@
-//! What the scheduler goes by: the statuses of threads, and the order in which they were picked.
-//! Definitions alone, in specs/.
+//! What the scheduler goes by: the statuses of threads, the order in which they were picked, and the
+//! next pick. Definitions alone, in specs/.
 #![tactic(auto)]
 
 /// What a thread is doing, apart from whether it runs.

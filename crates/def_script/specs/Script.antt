@@ -23,7 +23,7 @@ abbrev pub is_inner : ℕ → Bool
 is_inner c = not (c == 32) && not (c == 10)
 
 -- steps count from 1, and a name is a run of bytes other than spaces and line feeds
-pub record IsRow (r : Row) : Type 0 where
+pub record IsScriptRow (r : Row) : Type 0 where
   pub counted : 1 ≤ r.step
   pub within : r.step ≤ MOST_STEPS
   pub some : 0 < length r.name
@@ -53,7 +53,7 @@ device_named devices name = position (is_named name) devices
 
 -- each line has its form, no step is less than one before, and each name is a device's
 pub record IsScript (devices : List DeviceRow) (rows : List Row) : Type 0 where
-  pub lines : All IsRow rows
+  pub lines : All IsScriptRow rows
   pub order : AllPairs (λ a b. a.step ≤ b.step) rows
   pub named : All (λ r. IsSome (device_named devices r.name)) rows
 
@@ -69,7 +69,7 @@ due devices r = record {
 }
 
 -- the text spells a script, and this comes of it
-pub record Reads (devices : List DeviceRow) (text : List ℕ) (dues : List Due) : Type 0 where
+pub record ReadsAsScript (devices : List DeviceRow) (text : List ℕ) (dues : List Due) : Type 0 where
   pub rows : List Row
   pub script : IsScript devices rows
   pub text_is : text ≡ flat_map spelled rows
@@ -82,14 +82,14 @@ given_at dues step = map (λ d. d.given) (filter (λ d. d.step == step) dues)
 -- ---- faults
 
 -- a text begins with a line, and this follows
-pub record Begins (text : List ℕ) (r : Row) (rest : List ℕ) : Type 0 where
-  pub row : IsRow r
+pub record BeginsWithRow (text : List ℕ) (r : Row) (rest : List ℕ) : Type 0 where
+  pub row : IsScriptRow r
   pub text_is : text ≡ spelled r ++ rest
 
 -- there is a text, but no line at its front
-pub record NoLine (text : List ℕ) : Type 0 where
+pub record NoScriptLine (text : List ℕ) : Type 0 where
   pub some : 0 < length text
-  pub none : (r : Row) (rest : List ℕ) → Begins text r rest → ⊥
+  pub none : (r : Row) (rest : List ℕ) → BeginsWithRow text r rest → ⊥
 
 -- the step of the last line, 0 before the first
 abbrev pub last_step : List Row → ℕ
@@ -100,33 +100,33 @@ last_step rows =
 pub record Falls (rows : List Row) (text : List ℕ) : Type 0 where
   pub next : Row
   pub rest : List ℕ
-  pub begins : Begins text next rest
+  pub begins : BeginsWithRow text next rest
   pub falls : next.step < last_step rows
 
 -- a line follows these whose step isn't, but whose name is no serial port's and no gpio's
-pub record Nameless (devices : List DeviceRow) (rows : List Row) (text : List ℕ) : Type 0 where
+pub record NamesNoDevice (devices : List DeviceRow) (rows : List Row) (text : List ℕ) : Type 0 where
   pub next : Row
   pub rest : List ℕ
-  pub begins : Begins text next rest
+  pub begins : BeginsWithRow text next rest
   pub order : last_step rows ≤ next.step
   pub unknown : device_named devices next.name ≡ None
 
 -- what is wrong with the line at a text's front, after these lines
-abbrev pub Breaks : List DeviceRow → List Row → List ℕ → ℕ → Type 0
-Breaks devices rows text number =
-    ((number ≡ 1) × NoLine text) ⊎ ((number ≡ 2) × Falls rows text)
-    ⊎ ((number ≡ 3) × Nameless devices rows text)
+abbrev pub BreaksScript : List DeviceRow → List Row → List ℕ → ℕ → Type 0
+BreaksScript devices rows text number =
+    ((number ≡ 1) × NoScriptLine text) ⊎ ((number ≡ 2) × Falls rows text)
+    ⊎ ((number ≡ 3) × NamesNoDevice devices rows text)
 
 -- the lines before this one are a script, and this one breaks a rule: the least line, on it the least number
-pub record IsFault (devices : List DeviceRow) (text : List ℕ) (number line : ℕ) : Type 0 where
+pub record IsScriptFault (devices : List DeviceRow) (text : List ℕ) (number line : ℕ) : Type 0 where
   pub rows : List Row
   pub left : List ℕ
   pub script : IsScript devices rows
   pub text_is : text ≡ flat_map spelled rows ++ left
   pub line_is : line ≡ length rows + 1
-  pub breaks : Breaks devices rows left number
+  pub breaks : BreaksScript devices rows left number
 
 -- want of memory has no cause in the text
-abbrev pub IsCause : List DeviceRow → List ℕ → ScriptFault → Type 0
-IsCause devices text (At number line) = IsFault devices text number line
-IsCause devices text NoMemory = Unit {0}
+abbrev pub IsScriptCause : List DeviceRow → List ℕ → ScriptFault → Type 0
+IsScriptCause devices text (At number line) = IsScriptFault devices text number line
+IsScriptCause devices text NoMemory = Unit {0}

@@ -19,7 +19,7 @@ use Rattle.def_step.specs.declared.Access.{Access}
 use Rattle.def_profile.specs.declared.traps.TheConstants.{BOUNDS_CODE, TAG_CODE, SEAL_CODE, LOAD_CODE, STORE_CODE, STORE_CAPABILITY_CODE, MISALIGNED_LOAD, MISALIGNED_STORE}
 use Rattle.def_words.specs.Traps.{capability_trap, plain_trap}
 use Rattle.def_step.specs.Checks.{Check, first_failed}
-use Rattle.def_step.specs.Devices.{Bank, found, bank_value, bank_read, bank_written}
+use Rattle.def_step.specs.Devices.{DeviceStates, found, bank_value, bank_read, bank_written}
 
 -- ---- the instructions
 
@@ -87,10 +87,10 @@ access_checks a x y at =
 -- ---- effects
 
 -- RAM from its base, the devices, and the time
-pub record Space : Type 0 where
+pub record MemoryAndDevices : Type 0 where
   pub ram : ℕ
   pub granules : List Granule
-  pub bank : Bank
+  pub bank : DeviceStates
   pub time : ℕ
 
 -- what an access gives, the deed that it is where it reaches a device, and what it leaves
@@ -98,10 +98,10 @@ pub record Accessed : Type 0 where
   pub value : Option Cap
   pub act : Option Act
   pub granules : List Granule
-  pub bank : Bank
+  pub bank : DeviceStates
 
 -- whether so many bytes lie in RAM
-abbrev pub is_ram : Space → ℕ → ℕ → Bool
+abbrev pub is_ram : MemoryAndDevices → ℕ → ℕ → Bool
 is_ram p at width = lies_in p.ram p.granules at width
 
 -- a loaded number as a 32-bit word
@@ -128,7 +128,7 @@ ram_stored a x y at ram gs =
     then stored_cap gs (at - ram) (stored_through x y)
     else stored gs (at - ram) a.width (cap_address y)
 
-abbrev pub in_ram : Access → Cap → Cap → ℕ → Space → Accessed
+abbrev pub in_ram : Access → Cap → Cap → ℕ → MemoryAndDevices → Accessed
 in_ram a x y at p =
     if a.loads
     then record {
@@ -146,10 +146,10 @@ in_ram a x y at p =
 
 -- An access that reaches a device is a deed. One that reached neither RAM nor a device would give 0 and
 -- leave all as it is: no capability of the machine has such an authority.
-abbrev pub deed_at : Space → ℕ → Act → Option Act
+abbrev pub deed_at : MemoryAndDevices → ℕ → Act → Option Act
 deed_at p at act = if is_some (found p.bank.bases at) then Some act else None
 
-abbrev pub on_device : Access → Cap → Cap → ℕ → Space → Accessed
+abbrev pub on_device : Access → Cap → Cap → ℕ → MemoryAndDevices → Accessed
 on_device a x y at p =
     if a.loads
     then record {
@@ -165,7 +165,7 @@ on_device a x y at p =
       bank = bank_written p.bank at a.width (stored_value a y);
     }
 
-abbrev pub accessed : Access → Cap → Cap → ℕ → Space → Accessed
+abbrev pub accessed : Access → Cap → Cap → ℕ → MemoryAndDevices → Accessed
 accessed a x y at p = if is_ram p at a.width then in_ram a x y at p else on_device a x y at p
 
 -- ---- whole
@@ -179,7 +179,7 @@ unless (Some t) a = Err t
 abbrev pub access_address : Access → Cap → ℕ
 access_address a x = (cap_address x + a.immediate) % 2 ^ 32
 
-unfoldable pub access_result : Instr → Cap → Cap → Space → Result Accessed Trap
+unfoldable pub access_result : Instr → Cap → Cap → MemoryAndDevices → Result Accessed Trap
 access_result i x y p =
     unless
     (first_failed (access_checks (access_of i) x y (access_address (access_of i) x)))

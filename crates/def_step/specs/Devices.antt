@@ -77,7 +77,7 @@ left_by_write d offset width value =
 -- ---- all devices, each at its base
 
 -- what the devices of a machine are: where each stands, and its state
-pub record Bank : Type 0 where
+pub record DeviceStates : Type 0 where
   pub bases : List ℕ
   pub states : List DeviceState
 
@@ -104,15 +104,15 @@ abbrev pub base_of : List ℕ → ℕ → ℕ
 base_of bases n = slice_index_or bases n 0
 
 -- a load and what it leaves; where no device has the address, 0 and nothing
-abbrev pub bank_value_at : Bank → Option ℕ → ℕ → ℕ → ℕ → ℕ
+abbrev pub bank_value_at : DeviceStates → Option ℕ → ℕ → ℕ → ℕ → ℕ
 bank_value_at k None address width time = 0
 bank_value_at k (Some n) address width time =
     value_read (device k.states n) (address - base_of k.bases n) width time
 
-abbrev pub bank_value : Bank → ℕ → ℕ → ℕ → ℕ
+abbrev pub bank_value : DeviceStates → ℕ → ℕ → ℕ → ℕ
 bank_value k address width time = bank_value_at k (found k.bases address) address width time
 
-abbrev pub bank_read_at : Bank → Option ℕ → ℕ → ℕ → Bank
+abbrev pub bank_read_at : DeviceStates → Option ℕ → ℕ → ℕ → DeviceStates
 bank_read_at k None address width = k
 bank_read_at k (Some n) address width =
     record k {
@@ -120,10 +120,10 @@ bank_read_at k (Some n) address width =
           slice_set k.states n (left_by_read (device k.states n) (address - base_of k.bases n) width);
     }
 
-abbrev pub bank_read : Bank → ℕ → ℕ → Bank
+abbrev pub bank_read : DeviceStates → ℕ → ℕ → DeviceStates
 bank_read k address width = bank_read_at k (found k.bases address) address width
 
-abbrev pub bank_written_at : Bank → Option ℕ → ℕ → ℕ → ℕ → Bank
+abbrev pub bank_written_at : DeviceStates → Option ℕ → ℕ → ℕ → ℕ → DeviceStates
 bank_written_at k None address width value = k
 bank_written_at k (Some n) address width value =
     record k {
@@ -132,9 +132,9 @@ bank_written_at k (Some n) address width value =
           (left_by_write (device k.states n) (address - base_of k.bases n) width value);
     }
 
-abbrev pub bank_written : Bank → ℕ → ℕ → ℕ → Bank
+abbrev pub bank_written : DeviceStates → ℕ → ℕ → ℕ → DeviceStates
 bank_written k address width value = bank_written_at k (found k.bases address) address width value
 
-abbrev pub bank_input : Bank → ℕ → ℕ → Bank
+abbrev pub bank_input : DeviceStates → ℕ → ℕ → DeviceStates
 bank_input k n byte =
     record k { states = slice_set k.states n (after_input (device k.states n) byte) }

@@ -18,7 +18,7 @@ use Rattle.def_step.specs.declared.Event.TheVariants.{Step, Tick, Sweep, Input}
 use Rattle.def_machine.specs.Heap.{swept}
 use Rattle.def_step.specs.Devices.{device, after_input}
 use Rattle.def_step.specs.Instructions.{executed, actor_of}
-use Rattle.def_machine.specs.Board.{Board}
+use Rattle.def_machine.specs.Platform.{Platform}
 
 -- ---- counts
 
@@ -51,7 +51,7 @@ preempted s = preempted_from s s.running
 
 -- Where none runs, the scheduler picks: a ready thread of greatest priority, of those the one picked least
 -- recently. Its registers and pcc pass the load filter, and in the order of last picks it stands last.
-abbrev pub picked_as : Board → State → Option ℕ → State
+abbrev pub picked_as : Platform → State → Option ℕ → State
 picked_as b s None = s
 picked_as b s (Some t) =
     record s {
@@ -60,25 +60,25 @@ picked_as b s (Some t) =
       picks = moved_last t s.picks;
     }
 
-abbrev pub picked_from : Board → State → Option ℕ → State
+abbrev pub picked_from : Platform → State → Option ℕ → State
 picked_from b s (Some t) = s
 picked_from b s None = picked_as b s (pick b.image.priorities (statuses_of s.threads) s.picks)
 
-abbrev pub scheduled : Board → State → State
+abbrev pub scheduled : Platform → State → State
 scheduled b s = picked_from b s s.running
 
 -- the running thread carries on; without one, nothing else happens
-abbrev pub continued : Board → State → Option ℕ → State × Option Deed
+abbrev pub continued : Platform → State → Option ℕ → State × Option Deed
 continued b s None = (s, None)
 continued b s (Some t) = noted (executed b s t)
 
-abbrev pub run_on : Board → State → State × Option Deed
+abbrev pub run_on : Platform → State → State × Option Deed
 run_on b s = continued b s s.running
 
 abbrev pub one_more_step : State → State
 one_more_step s = record s { counts = record s.counts { steps = s.counts.steps + 1 } }
 
-abbrev pub stepped : Board → State → State × Option Deed
+abbrev pub stepped : Platform → State → State × Option Deed
 stepped b s = run_on b (scheduled b (preempted (one_more_step s)))
 
 -- ---- Tick
@@ -102,7 +102,7 @@ ticked s =
 
 -- ---- Sweep
 
-abbrev pub swept_on : Board → State → State
+abbrev pub swept_on : Platform → State → State
 swept_on b s =
     swept b.image (record s { counts = record s.counts { sweeps = s.counts.sweeps + 1 } })
 
@@ -143,7 +143,7 @@ begun before after = begun_since (holder before) after (holder after)
 abbrev pub told_of : State → State × Option Deed → State × Happened
 told_of before r = (r.0, record { deed = r.1; off = begun before r.0 })
 
-abbrev pub happens : Board → State → Event → State × Happened
+abbrev pub happens : Platform → State → Event → State × Happened
 happens b s Step = told_of s (stepped b s)
 happens b s Tick = told_of s (ticked s, None)
 happens b s Sweep = told_of s (swept_on b s, None)
@@ -151,11 +151,11 @@ happens b s (Input n byte) = told_of s (received s n byte, None)
 
 -- ---- runs
 
-unfoldable pub run : Board → State → List Event → State
+unfoldable pub run : Platform → State → List Event → State
 run b s [] = s
 run b s (e ∷ es) = run b (happens b s e).0 es
 
-unfoldable pub happenings_of : Board → State → List Event → List Happened
+unfoldable pub happenings_of : Platform → State → List Event → List Happened
 happenings_of b s [] = []
 happenings_of b s (e ∷ es) = (happens b s e).1 ∷ happenings_of b (happens b s e).0 es
 
@@ -167,7 +167,7 @@ is_lawful s Sweep = nat_lt s.counts.sweeps MOST_STEPS
 is_lawful s (Input n byte) = nat_lt s.counts.inputs MOST_STEPS && nat_lt n (length s.devices)
 
 -- each event of the list may come when it comes
-unfoldable pub AreLawful : Board → State → List Event → Type 0
+unfoldable pub AreLawful : Platform → State → List Event → Type 0
 AreLawful b s [] = Unit {0}
 AreLawful b s (e ∷ es) = (is_lawful s e ≡ true) × AreLawful b (happens b s e).0 es
 

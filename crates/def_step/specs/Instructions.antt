@@ -18,7 +18,7 @@ use Rattle.def_instr.specs.Reading.{instruction_in}
 use Rattle.def_instr.specs.Results.{integer_result}
 use Rattle.def_capstep.specs.Results.{capability_result}
 use Rattle.def_machine.specs.Image.{Image, root}
-use Rattle.def_machine.specs.Board.{Board}
+use Rattle.def_machine.specs.Platform.{Platform}
 use Rattle.def_machine.specs.State.{State, Frame, register, thread}
 use Rattle.def_machine.specs.Threads.{jumped}
 use Rattle.def_step.specs.declared.Class.{Class}
@@ -30,8 +30,8 @@ use Rattle.def_profile.specs.declared.native.TheConstants.{NATIVE_BASE, NATIVE_U
 use Rattle.def_profile.specs.declared.traps.TheConstants.{BOUNDS_CODE, TAG_CODE, SEAL_CODE, EXECUTE_CODE, SYSTEM_REGISTER_CODE, PCC_REGISTER, ILLEGAL_INSTRUCTION, BREAKPOINT, ENVIRONMENT_CALL}
 use Rattle.def_words.specs.Traps.{capability_trap, plain_trap}
 use Rattle.def_step.specs.Checks.{Check, first_failed}
-use Rattle.def_step.specs.Devices.{Bank}
-use Rattle.def_step.specs.Accesses.{is_ram, Space, Accessed, access_result}
+use Rattle.def_step.specs.Devices.{DeviceStates}
+use Rattle.def_step.specs.Accesses.{is_ram, MemoryAndDevices, Accessed, access_result}
 use Rattle.def_step.specs.Jumps.{Flowed, flow_result}
 use Rattle.def_step.specs.Operands.{operands_of, class_of}
 use Rattle.def_step.specs.Routines.{Ran, Traps, Leaves}
@@ -48,14 +48,14 @@ pub record Effect : Type 0 where
   pub pcc : Cap
   pub posture : Posture
   pub granules : List Granule
-  pub bank : Bank
+  pub bank : DeviceStates
   pub act : Option Act
 
 -- what an instruction works on beside its operands: pcc and posture, RAM, devices and time
 pub record Context : Type 0 where
   pub pcc : Cap
   pub posture : Posture
-  pub space : Space
+  pub space : MemoryAndDevices
 
 -- a register gets a value, and execution goes on after the instruction
 abbrev pub gives : Context → ℕ → Cap → Effect
@@ -123,7 +123,7 @@ fetch_checks pcc =
     ∷ []
 
 -- the word at an address; what isn't an aligned word of RAM is no instruction, and no pcc leads there
-abbrev pub fetched : Space → ℕ → ℕ
+abbrev pub fetched : MemoryAndDevices → ℕ → ℕ
 fetched p at =
     if is_ram p at 4 && (at % 4 == 0)
     then loaded p.granules (at - p.ram) 4
@@ -148,7 +148,7 @@ abbrev pub next_word : Option Instr → Next
 next_word None = Nothing
 next_word (Some i) = Instruction i
 
-abbrev pub next_at : Space → ℕ → Next
+abbrev pub next_at : MemoryAndDevices → ℕ → Next
 next_at p at =
     if at == RETURN_ENTRY then Returning
     else if is_native_entry at then next_native (native_number at)
@@ -156,10 +156,10 @@ next_at p at =
 
 -- ---- one instruction of thread t, on the whole state
 
-abbrev pub bank_of : Board → State → Bank
+abbrev pub bank_of : Platform → State → DeviceStates
 bank_of b s = record { bases = b.bases; states = s.devices }
 
-abbrev pub space_of : Board → State → Space
+abbrev pub space_of : Platform → State → MemoryAndDevices
 space_of b s = record {
   ram = b.image.ram;
   granules = s.granules;
@@ -167,7 +167,7 @@ space_of b s = record {
   time = s.time;
 }
 
-abbrev pub around : Board → State → ℕ → Context
+abbrev pub around : Platform → State → ℕ → Context
 around b s t = record {
   pcc = (thread s t).pcc;
   posture = (thread s t).posture;
@@ -188,7 +188,7 @@ deed s t entry act = record {
 }
 
 -- a trap enters an error handler, or unwinds, in the same step
-abbrev pub trapped : Board → State → ℕ → trap_words.Trap → State × Option Deed
+abbrev pub trapped : Platform → State → ℕ → trap_words.Trap → State × Option Deed
 trapped b s t why = (
   trap_taken b.image s t why (thread s t).frames,
   Some
@@ -203,7 +203,7 @@ put_done s t d = record s {
 }
 
 -- `x` is the capability that was used: a deed's entry is its root
-abbrev pub instruction_end : Board → State → ℕ → Cap → Result Effect trap_words.Trap → State × Option Deed
+abbrev pub instruction_end : Platform → State → ℕ → Cap → Result Effect trap_words.Trap → State × Option Deed
 instruction_end b s t x (Err why) = trapped b s t why
 instruction_end b s t x (Ok d) = (put_done s t d, option_map (deed s t x.shadow.root) d.act)
 
@@ -214,7 +214,7 @@ operand s t n = register (thread s t) n
 abbrev pub named_by : Image → Cap → ℕ
 named_by i x = (root i x.shadow.root).of
 
-abbrev pub instructed : Board → State → ℕ → Instr → State × Option Deed
+abbrev pub instructed : Platform → State → ℕ → Instr → State × Option Deed
 instructed b s t i =
     instruction_end b s t (operand s t (operands_of i).first)
     (carried_out (class_of i) i (operands_of i).to (operand s t (operands_of i).first)
@@ -225,24 +225,24 @@ instructed b s t i =
 abbrev pub deed_told : State → ℕ → ℕ × Act → Deed
 deed_told s t told = deed s t told.0 told.1
 
-abbrev pub ran : Board → State → ℕ → Ran → State × Option Deed
+abbrev pub ran : Platform → State → ℕ → Ran → State × Option Deed
 ran b s t (Traps why) = trapped b s t why
 ran b s t (Leaves after told) = (after, option_map (deed_told s t) told)
 
 -- a number of no routine is no instruction
-abbrev pub served : Board → State → ℕ → Option Ran → State × Option Deed
+abbrev pub served : Platform → State → ℕ → Option Ran → State × Option Deed
 served b s t None = trapped b s t (plain_trap ILLEGAL_INSTRUCTION)
 served b s t (Some r) = ran b s t r
 
-abbrev pub goes_on : Board → State → ℕ → Next → State × Option Deed
+abbrev pub goes_on : Platform → State → ℕ → Next → State × Option Deed
 goes_on b s t Returning = (return_taken b.image s t (thread s t).frames, None)
 goes_on b s t (Instruction i) = instructed b s t i
 goes_on b s t (Native number) = served b s t (native b.image s t number)
 goes_on b s t Nothing = trapped b s t (plain_trap ILLEGAL_INSTRUCTION)
 
-abbrev pub after_fetch : Board → State → ℕ → Option trap_words.Trap → State × Option Deed
+abbrev pub after_fetch : Platform → State → ℕ → Option trap_words.Trap → State × Option Deed
 after_fetch b s t (Some why) = trapped b s t why
 after_fetch b s t None = goes_on b s t (next_at (space_of b s) (cap_address (thread s t).pcc))
 
-unfoldable pub executed : Board → State → ℕ → State × Option Deed
+unfoldable pub executed : Platform → State → ℕ → State × Option Deed
 executed b s t = after_fetch b s t (first_failed (fetch_checks (thread s t).pcc))

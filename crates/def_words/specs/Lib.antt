@@ -9,3 +9,4 @@ pub mod Loaded
 pub mod Jumped
 pub mod Derive
 pub mod Narrows
+pub mod Facts

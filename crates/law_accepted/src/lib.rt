@@ -1,14 +1,17 @@
-//! The machine of every accepted image, whatever its code bytes, and so of every image that lawful rows
-//! and sources are linked to. Functions with empty bodies whose contracts are the laws.
+//! The machine of every accepted image, whatever its code bytes, and so of every image that lawful rows and sources are
+//! linked to; and what a policy that holds says of its runs. Functions with empty bodies whose contracts are the laws.
 #![tactic(auto)]
 
+mod allowed;
+mod within;
+
 ghost use Rattle.std.specs.Prelude.{◌≤◌, List, [], ℕ};
-ghost use Rattle.def_boot.specs.Boot.{board_of, boot_state, image_of};
+ghost use Rattle.def_boot.specs.Boot.{platform_of, boot_state, image_of};
 ghost use Rattle.def_confined.specs.Confined.{Confined};
 ghost use Rattle.def_confined.specs.Keeps.{Keeps};
 ghost use Rattle.def_confined.specs.Partitioned.{Partitioned};
 ghost use Rattle.def_confined.specs.Telling.{AllLicensed};
-ghost use Rattle.def_description.specs.Rows.{DescRow};
+ghost use Rattle.def_desc.specs.Rows.{DescRow};
 ghost use Rattle.def_image.specs.Accepted.{IsFaultless, IsImage};
 ghost use Rattle.def_image.specs.Parts.{PartsRow};
 ghost use Rattle.def_image.specs.Sound.{Sound};
@@ -19,19 +22,21 @@ ghost use Rattle.def_step.specs.declared.Event.{Event};
 ghost use Rattle.def_events.specs.Upheld.{Upholds};
 ghost use Rattle.def_safety.specs.Chunks.{SweptBeforeReuse, UnusedAfterFree};
 ghost use Rattle.def_safety.specs.Each.{EachEvent};
-ghost use Rattle.law_images.specs.Tiny.{tiny};
-ghost use Rattle.law_link.specs.Links.{Links};
-ghost use Rattle.law_linked.specs.Samples.{board_rows, board_sources, tiny_rows};
+ghost use Rattle.law_image_samples.specs.Tiny.{tiny};
+ghost use Rattle.def_link.specs.Links.{LinksTo};
+ghost use Rattle.law_link_samples.specs.Samples.{board_rows, board_sources, tiny_rows};
 
+pub use allowed::{allowed_devices_are_held, policies_hold_over_runs, rules_name_devices};
 use law_link_samples::samples_link;
+pub use within::machines_stay_within;
 
 /// After any list of events from its boot the machine of every sound image is confined, with what
 /// stands beside, and each deed and each span with interrupts off that it tells is licensed.
 pub fn lawful_runs()
     ensures keeps { (p : PartsRow) (es : List Event) → Sound p
-        → Keeps (image_of p) (run (board_of p) (boot_state p) es) }
+        → Keeps (image_of p) (run (platform_of p) (boot_state p) es) }
     ensures licensed { (p : PartsRow) (es : List Event) → Sound p
-        → AllLicensed (image_of p).entries (happenings_of (board_of p) (boot_state p) es) }
+        → AllLicensed (image_of p).entries (happenings_of (platform_of p) (boot_state p) es) }
 {}
 
 /// Of any bytes that are an image: the machine's image of its parts is partitioned; the machine is confined
@@ -41,9 +46,9 @@ pub fn accepted_images_run()
     ensures partitioned { (bytes : List ℕ) (p : PartsRow) → IsImage bytes p
         → Partitioned (image_of p) }
     ensures confined { (bytes : List ℕ) (p : PartsRow) (es : List Event) → IsImage bytes p
-        → Confined (image_of p) (run (board_of p) (boot_state p) es) }
+        → Confined (image_of p) (run (platform_of p) (boot_state p) es) }
     ensures licensed { (bytes : List ℕ) (p : PartsRow) (es : List Event) → IsImage bytes p
-        → AllLicensed (image_of p).entries (happenings_of (board_of p) (boot_state p) es) }
+        → AllLicensed (image_of p).entries (happenings_of (platform_of p) (boot_state p) es) }
 {}
 
 /// Whatever events come from its boot: calls are clean; each access is licensed; nothing is loaded, stored,
@@ -53,32 +58,32 @@ pub fn accepted_images_run()
 /// each quota are at most its limit.
 pub fn accepted_images_are_safe()
     ensures safe { (bytes : List ℕ) (p : PartsRow) (es : List Event) → IsImage bytes p
-        → EachEvent (Upholds (board_of p)) (board_of p) (boot_state p) es }
+        → EachEvent (Upholds (platform_of p)) (platform_of p) (boot_state p) es }
     ensures unused { (bytes : List ℕ) (p : PartsRow) → IsImage bytes p
-        → UnusedAfterFree (board_of p) (boot_state p) }
+        → UnusedAfterFree (platform_of p) (boot_state p) }
     ensures swept { (bytes : List ℕ) (p : PartsRow) → IsImage bytes p
-        → SweptBeforeReuse (board_of p) (boot_state p) }
+        → SweptBeforeReuse (platform_of p) (boot_state p) }
     ensures quotas { (bytes : List ℕ) (p : PartsRow) (es : List Event) (q : ℕ) → IsImage bytes p
-        → charges q (run (board_of p) (boot_state p) es).objects ≤ (root (image_of p) q).limit }
+        → charges q (run (platform_of p) (boot_state p) es).objects ≤ (root (image_of p) q).limit }
 {}
 
 /// The same of the parts that lawful rows and their sources are linked to.
 pub fn linked_images_run()
     ensures partitioned { (d : DescRow) (sources : List (List ℕ)) (p : PartsRow)
-        → Links d sources p → Partitioned (image_of p) }
+        → LinksTo d sources p → Partitioned (image_of p) }
     ensures confined { (d : DescRow) (sources : List (List ℕ)) (p : PartsRow) (es : List Event)
-        → Links d sources p
-        → Confined (image_of p) (run (board_of p) (boot_state p) es) }
+        → LinksTo d sources p
+        → Confined (image_of p) (run (platform_of p) (boot_state p) es) }
     ensures licensed { (d : DescRow) (sources : List (List ℕ)) (p : PartsRow) (es : List Event)
-        → Links d sources p
-        → AllLicensed (image_of p).entries (happenings_of (board_of p) (boot_state p) es) }
+        → LinksTo d sources p
+        → AllLicensed (image_of p).entries (happenings_of (platform_of p) (boot_state p) es) }
 {}
 
 /// The premises are met, by what the rows and sources of two samples are linked to: the smallest
 /// one's parts, and those of the board with two compartments, a library and two threads.
 pub fn samples_are_accepted()
-    ensures tiny { Links tiny_rows [] tiny × IsFaultless tiny }
-    ensures board { (p : PartsRow) × Links board_rows board_sources p × IsFaultless p }
+    ensures tiny { LinksTo tiny_rows [] tiny × IsFaultless tiny }
+    ensures board { (p : PartsRow) × LinksTo board_rows board_sources p × IsFaultless p }
 {
     samples_link();
 }

@@ -11,7 +11,7 @@ use Rattle.def_image.specs.Spelling.{magic, raw_of, spelled, image_bytes}
 use Rattle.def_image.specs.Shapes.{IsShaped}
 use Rattle.def_image.specs.Accepted.{is_begun, Spells, FaultAt}
 use Rattle.law_image.proofs.OneCut.{ends_whole}
-use Rattle.law_images.specs.Tiny.{tiny}
+use Rattle.law_image_samples.specs.Tiny.{tiny}
 use Rattle.law_answers.specs.Altered.{bytes_of_tiny, altered}
 use Rattle.law_answers.proofs.Facts.{plain_by}
 

@@ -7,7 +7,7 @@ use Rattle.def_image.specs.declared.RawEntry.{RawEntry}
 use Rattle.def_image.specs.Raw.{RawDevice, RawCode, RawCompartment, RawThread, RawImage}
 use Rattle.def_image.specs.Parts.{SlotRow, GateRow, SharedRow, SealedRow, CodeRow, CompartmentRow, ThreadRow, PartsRow}
 use Rattle.def_image.specs.Spelling.{padding_after, raw_of}
-use Rattle.def_image.specs.Shapes.{IsField, IsNumber, IsCounted, IsEntry, IsDevice, IsShared, IsSealed, IsCode, IsCompartment, IsThread, IsShaped, Clean, SpellableSlot, SpellableGate, SpellableCode, IsSpellable}
+use Rattle.def_image.specs.Shapes.{IsField, IsNumber, IsCounted, IsRawEntry, IsDevice, IsShared, IsSealed, IsCode, IsCompartment, IsThread, IsShaped, Clean, SpellableSlot, SpellableGate, SpellableCode, IsSpellable}
 use Rattle.law_image.proofs.Tells.{lt_is, eq_is}
 use Rattle.law_answers.specs.Tests.{are_bytes, is_field, is_number, is_counted, is_entry, is_device, is_code, is_compartment, is_thread, is_plain, is_clean, is_clean_slot, is_clean_gate, is_clean_code, is_plainly_spelled}
 
@@ -38,7 +38,7 @@ counted_by bs h = (number_by (length bs) (both_left (is_number (length bs)) (are
 list_by : {A : Type 0} (test : A → Bool) (P : A → Type 0) → ((x : A) → test x ≡ true → P x) → (xs : List A) → (is_number (length xs) && list_all test xs) ≡ true → IsNumber (length xs) × AllByRecursion P xs
 list_by test P one xs h = (number_by (length xs) (both_left (is_number (length xs)) (list_all test xs) h), all_by test P one xs (both_right (is_number (length xs)) (list_all test xs) h))
 
-entry_by : (e : RawEntry) → is_entry e ≡ true → IsEntry e
+entry_by : (e : RawEntry) → is_entry e ≡ true → IsRawEntry e
 entry_by e h = (field_by 16 e.row (both_left (is_field 16 e.row) (is_field 32 e.name) h), field_by 32 e.name (both_right (is_field 16 e.row) (is_field 32 e.name) h))
 
 device_by : (d : RawDevice) → is_device d ≡ true → IsDevice d
@@ -58,8 +58,8 @@ code_by c h =
       name = field_by 32 c.name (h1);
       base = number_by c.base (both_right (is_field 32 c.name) (is_number c.base) h2);
       size = number_by c.length (both_right (is_field 32 c.name && is_number c.base) (is_number c.length) h3);
-      slots = list_by is_entry IsEntry entry_by c.slots (both_right (is_field 32 c.name && is_number c.base && is_number c.length) ((is_number (length c.slots) && list_all is_entry c.slots)) h4);
-      exports = list_by is_entry IsEntry entry_by c.exports (both_right (is_field 32 c.name && is_number c.base && is_number c.length && (is_number (length c.slots) && list_all is_entry c.slots)) ((is_number (length c.exports) && list_all is_entry c.exports)) h5);
+      slots = list_by is_entry IsRawEntry entry_by c.slots (both_right (is_field 32 c.name && is_number c.base && is_number c.length) ((is_number (length c.slots) && list_all is_entry c.slots)) h4);
+      exports = list_by is_entry IsRawEntry entry_by c.exports (both_right (is_field 32 c.name && is_number c.base && is_number c.length && (is_number (length c.slots) && list_all is_entry c.slots)) ((is_number (length c.exports) && list_all is_entry c.exports)) h5);
       text = counted_by c.text (both_right (is_field 32 c.name && is_number c.base && is_number c.length && (is_number (length c.slots) && list_all is_entry c.slots) && (is_number (length c.exports) && list_all is_entry c.exports)) (is_counted c.text) h);
     }
 

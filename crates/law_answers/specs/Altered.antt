@@ -2,7 +2,7 @@
 use Rattle.std.specs.Prelude.{ℕ, List, ◌+◌, ◌++◌, length, take, drop}
 use Rattle.def_image.specs.Spelling.{number, image_bytes}
 use Rattle.def_image.specs.Parts.{upgraded}
-use Rattle.law_images.specs.Tiny.{tiny}
+use Rattle.law_image_samples.specs.Tiny.{tiny}
 
 abbrev pub bytes_of_tiny : List ℕ
 bytes_of_tiny = image_bytes tiny

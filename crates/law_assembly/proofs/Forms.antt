@@ -10,30 +10,30 @@ use Rattle.def_source.specs.declared.parts.Number.{Number}
 use Rattle.def_source.specs.declared.parts.Target.{Target}
 use Rattle.def_source.specs.declared.parts.Part.{Part}
 use Rattle.def_source.specs.declared.parts.Part.TheVariants as part
-use Rattle.def_assembly.specs.Written.{AreWritten, operands, head_by, directive_by, Writes, WritesDirective}
+use Rattle.def_assembly.specs.Written.{AreWritten, operands, head_by, directive_by, WritesStatement, WritesDirective}
 use Rattle.law_assembly.proofs.Operands.{two_registers_says, three_registers_says, two_registers_number_says, two_registers_target_says, register_number_says, register_target_says, register_name_says, register_address_says, one_register_says, one_number_says, one_target_says, two_registers_reads, three_registers_reads, two_registers_number_reads, two_registers_target_reads, register_number_reads, register_target_reads, register_name_reads, register_address_reads, two_registers_no_address, one_register_reads, one_number_reads, one_target_reads}
 
 -- ---- read, so written
 
 -- a form by what it is made of: what is read of the tokens says how they are written
 by_form : {A : Type 0} (h : Head) (ts : Row) (make : A → Part Name) (read : Option A) (p : Part Name)
-    → ((o : A) → read ≡ Some o → Writes h ts (make o)) → option_map make read ≡ Some p → Writes h ts p
+    → ((o : A) → read ≡ Some o → WritesStatement h ts (make o)) → option_map make read ≡ Some p → WritesStatement h ts p
 by_form h ts make None p says e = absurd (cc e)
-by_form h ts make (Some o) p says e = let same : make o ≡ p = cc e in subst (Writes h ts) same (says o refl)
+by_form h ts make (Some o) p says e = let same : make o ≡ p = cc e in subst (WritesStatement h ts) same (says o refl)
 
-by_end : (h : Head) (ts : Row) (q p : Part Name) → head_by q ≡ Some h → operands q ≡ [] → ended ts q ≡ Some p → Writes h ts p
-by_end h [] q p begins none e = let same : q ≡ p = cc e in subst (Writes h []) same (begins, subst (λ os. AreWritten os []) (sym none) refl)
+by_end : (h : Head) (ts : Row) (q p : Part Name) → head_by q ≡ Some h → operands q ≡ [] → ended ts q ≡ Some p → WritesStatement h ts p
+by_end h [] q p begins none e = let same : q ≡ p = cc e in subst (WritesStatement h []) same (begins, subst (λ os. AreWritten os []) (sym none) refl)
 by_end h (t ∷ ts) q p begins none e = absurd (cc e)
 
 jump_says : (ts : Row) (a : Option (ℕ × Number × ℕ)) (b : Option (ℕ × ℕ)) (p : Part Name)
-    → ((o : ℕ × Number × ℕ) → a ≡ Some o → Writes head.RegisterJump ts (part.RegisterJump o.0 o.1 o.2))
-    → ((o : ℕ × ℕ) → b ≡ Some o → Writes head.RegisterJump ts (part.JumpCapability o.0 o.1))
+    → ((o : ℕ × Number × ℕ) → a ≡ Some o → WritesStatement head.RegisterJump ts (part.RegisterJump o.0 o.1 o.2))
+    → ((o : ℕ × ℕ) → b ≡ Some o → WritesStatement head.RegisterJump ts (part.JumpCapability o.0 o.1))
     → or_else (option_map (λ o. part.RegisterJump o.0 o.1 o.2) a) (option_map (λ o. part.JumpCapability o.0 o.1) b) ≡ Some p
-    → Writes head.RegisterJump ts p
+    → WritesStatement head.RegisterJump ts p
 jump_says ts (Some o) b p first second e = by_form head.RegisterJump ts (λ o. part.RegisterJump o.0 o.1 o.2) (Some o) p first e
 jump_says ts None b p first second e = by_form head.RegisterJump ts (λ o. part.JumpCapability o.0 o.1) b p second e
 
-read_written : (h : Head) (ts : Row) (p : Part Name) → form_of h ts ≡ Some p → Writes h ts p
+read_written : (h : Head) (ts : Row) (p : Part Name) → form_of h ts ≡ Some p → WritesStatement h ts p
 read_written (head.Registers k) ts p e = by_form (head.Registers k) ts _ (three_registers ts) p (λ o is. (refl, three_registers_says ts o is)) e
 read_written (head.Immediate k) ts p e = by_form (head.Immediate k) ts _ (two_registers_number ts) p (λ o is. (refl, two_registers_number_says ts o is)) e
 read_written (head.Upper k) ts p e = by_form (head.Upper k) ts _ (register_number ts) p (λ o is. (refl, register_number_says ts o is)) e
@@ -114,7 +114,7 @@ written_read (part.GlobalAddress a n) h ts e w = let same : head.GlobalAddress �
     subst (λ (z : Head). form_of z ts ≡ Some (part.GlobalAddress a n)) same (ap (option_map (λ (o : ℕ × Name). part.GlobalAddress o.0 o.1)) (register_name_reads ts a n w))
 written_read p h ts e w = absurd (cc e)
 
-pub forms : (h : Head) (ts : Row) (p : Part Name) → (form_of h ts ≡ Some p) ↔ Writes h ts p
+pub forms : (h : Head) (ts : Row) (p : Part Name) → (form_of h ts ≡ Some p) ↔ WritesStatement h ts p
 forms h ts p = (read_written h ts p, λ w. written_read p h ts w.0 w.1)
 
 -- ---- directives

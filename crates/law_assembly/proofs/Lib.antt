@@ -1,3 +1,6 @@
+pub mod Faults
+pub mod Lengths
+pub mod Labelled
 mod Forms
 mod Loading
 mod Operands

@@ -1,6 +1,8 @@
-//! How statements are written, and what an assembled text says: each word of an instruction's
-//! statement decodes to that instruction. Functions with empty bodies, whose contracts are the laws.
+//! Laws of sources: how a line is cut and which fault is its least, how statements are written, and that each word of
+//! an assembled text decodes to its statement's instruction. Functions with empty bodies, whose contracts are the laws.
 #![tactic(auto)]
+
+mod source;
 
 ghost use Rattle.std.specs.Prelude.{◌≡◌, ◌↔◌, ℕ, ◌+◌, ◌*◌, ◌<◌, ◌^◌, None, Some, List, length};
 ghost use Rattle.def_source.specs.Source.{Name, Row, Statements, IsLawful, form_of, directive_form};
@@ -10,15 +12,17 @@ ghost use Rattle.def_source.specs.declared.parts.Part.{Part};
 ghost use Rattle.def_object.specs.Object.{fault_in, label_in, start, number_instructions, text_instructions, global_instructions, import_instructions, slot_number, slot_of};
 ghost use Rattle.def_words.specs.Capability.{integer};
 ghost use Rattle.def_machine.specs.State.{Thread, register};
-ghost use Rattle.def_step.specs.Accesses.{Space};
+ghost use Rattle.def_step.specs.Accesses.{MemoryAndDevices};
 ghost use Rattle.def_assembly.specs.Decoding.{AllSay};
-ghost use Rattle.def_assembly.specs.Loading.{after, MayWrite, Gives, AreApart, LeadsTo, Leads, LeadsToSlot, to_slot};
-ghost use Rattle.def_assembly.specs.Written.{Writes, WritesDirective};
+ghost use Rattle.def_assembly.specs.Loading.{after, MayWrite, GivesRegister, AreApart, LeadsTo, LeadsOver, LeadsToSlot, to_slot};
+ghost use Rattle.def_assembly.specs.Written.{WritesStatement, WritesDirective};
+
+pub use source::{faults_are_least, labels_are_sums, sections_are_sums};
 
 /// The tokens after a first word are read as a statement just where the word begins that statement
 /// and the tokens are its operands, each written as its kind, with a comma between each two.
 pub fn forms_are_written()
-    ensures { (h : Head) (ts : Row) (p : Part Name) → (form_of h ts ≡ Some p) ↔ Writes h ts p }
+    ensures { (h : Head) (ts : Row) (p : Part Name) → (form_of h ts ≡ Some p) ↔ WritesStatement h ts p }
 {}
 
 /// The same of directives.
@@ -37,8 +41,8 @@ pub fn words_decode()
 /// The pseudo `li` loads its number: after its instructions the register holds the 32-bit word, and
 /// every other register is as it was.
 pub fn numbers_are_loaded()
-    ensures { (p : Space) (w : Thread) (rd word : ℕ) → MayWrite w rd → word < 2 ^ 32
-        → Gives w (after p w (number_instructions rd word)) rd (integer word) }
+    ensures { (p : MemoryAndDevices) (w : Thread) (rd word : ℕ) → MayWrite w rd → word < 2 ^ 32
+        → GivesRegister w (after p w (number_instructions rd word)) rd (integer word) }
 {}
 
 /// The two instructions of `cla`, `clg` and `cimport` lead to the place that is meant: from the
@@ -46,11 +50,13 @@ pub fn numbers_are_loaded()
 /// counts. The first word's address lies between the two places.
 pub fn ways_lead_there()
     ensures between { (at to : ℕ) → AreApart at to → LeadsTo at to }
-    ensures text { (p : Space) (w : Thread) (rd at to : ℕ) → MayWrite w rd → AreApart at to
-        → Leads w (after p w (text_instructions at rd to)) rd w.pcc at to }
-    ensures global { (p : Space) (w : Thread) (rd to : ℕ) → MayWrite w rd → AreApart 0 to
-        → Leads w (after p w (global_instructions rd to)) rd (register w 3) 0 to }
-    ensures slot { (p : Space) (w : Thread) (rd at to : ℕ) → MayWrite w rd → AreApart at to
+    ensures text { (p : MemoryAndDevices) (w : Thread) (rd at to : ℕ)
+        → MayWrite w rd → AreApart at to
+        → LeadsOver w (after p w (text_instructions at rd to)) rd w.pcc at to }
+    ensures global { (p : MemoryAndDevices) (w : Thread) (rd to : ℕ) → MayWrite w rd → AreApart 0 to
+        → LeadsOver w (after p w (global_instructions rd to)) rd (register w 3) 0 to }
+    ensures slot { (p : MemoryAndDevices) (w : Thread) (rd at to : ℕ)
+        → MayWrite w rd → AreApart at to
         → LeadsToSlot p w rd at to }
     ensures import { (slots : List Name) (at rd : ℕ) (name : Name)
         → import_instructions slots at rd name

@@ -13,9 +13,9 @@ use Rattle.def_machine.specs.Image as image
 use Rattle.def_machine.specs.State.{State, granule}
 use Rattle.def_confined.specs.Confined.{Confined}
 use Rattle.def_confined.specs.Places.{InRegion}
-use Rattle.def_boot_words.specs.Booting.{Puts}
-use Rattle.law_booted.proofs.Contents.{booted_in}
-use Rattle.law_laid.proofs.Granules.{in_ram}
+use Rattle.def_boot.specs.Booting.{BootPuts}
+use Rattle.law_boot.proofs.Contents.{booted_in}
+use Rattle.law_boot.proofs.Granules.{in_ram}
 use Rattle.law_started.proofs.Granules.{same_granule}
 use Rattle.law_started.proofs.Tags.{tagged_fixed}
 use Rattle.ct_engine.specs.Seen.{region_hides, region_of}
@@ -28,7 +28,7 @@ record PutsIn (p : PartsRow) (k x : ℕ) (d : Cap) : Type 0 where
   place : address_of (image_of p) k ≡ x
   is : (booted (image_of p) k).cap ≡ d
 
-puts_in : (p : PartsRow) (x : ℕ) (d : Cap) → Sound p → Puts p x d → PutsIn p ((x - p.ram) / 8) x d
+puts_in : (p : PartsRow) (x : ℕ) (d : Cap) → Sound p → BootPuts p x d → PutsIn p ((x - p.ram) / 8) x d
 puts_in p x d s puts =
     let k : ℕ = (x - p.ram) / 8 in
     let low = puts.low in
@@ -41,7 +41,7 @@ puts_in p x d s puts =
     let place : address_of (image_of p) k ≡ x = ap (λ n. n + 8 * k) (sym (ram_is p)) ∙ here in
     record { few = few; place = place; is = booted_in p k few ∙ ap (λ n. boot_cap p n) place ∙ sym puts.is }
 
-module _ (p : PartsRow) (x : ℕ) (d : Cap) (s : Sound p) (puts : Puts p x d) (tagged : d.tag ≡ true) where
+module _ (p : PartsRow) (x : ℕ) (d : Cap) (s : Sound p) (puts : BootPuts p x d) (tagged : d.tag ≡ true) where
   -- what is tagged isn't hidden
   pub open_at : region_hides (region_of (image_of p)) ((x - p.ram) / 8) ≡ false
   open_at = elim (bool_tells (region_hides (region_of (image_of p)) ((x - p.ram) / 8))) [

@@ -17,14 +17,14 @@ use Rattle.def_boot.specs.Made.{boot_cap_of, caps_at_boot, return_sentry}
 use Rattle.def_machine.specs.Image.{made_cap, code_entry, globals_entry}
 use Rattle.def_machine.specs.State.{State}
 use Rattle.def_confined.specs.Confined.{Confined}
-use Rattle.law_listed.proofs.Blocks.{present}
-use Rattle.law_listed.proofs.Standing as standing
-use Rattle.law_boot_words.proofs.Putting.{puts_code, puts_globals}
-use Rattle.law_grants.specs.Fits.{ExportAt}
-use Rattle.law_grants.proofs.Lying.{own_there}
-use Rattle.law_grants.proofs.Making.{length_above}
-use Rattle.law_grants.proofs.Own.{code_stands, globals_stand, code_entry_is, globals_entry_is}
-use Rattle.ct_exports.specs.Exports.{IsCallable, callee_of, table_of}
+use Rattle.law_boot.proofs.Blocks.{present}
+use Rattle.law_boot.proofs.Standing as standing
+use Rattle.law_boot.proofs.Putting.{puts_code, puts_globals}
+use Rattle.def_boot.specs.Fits.{ExportAt}
+use Rattle.law_boot.proofs.Lying.{own_there}
+use Rattle.law_boot.proofs.Making.{length_above}
+use Rattle.law_boot.proofs.Own.{code_stands, globals_stand, code_entry_is, globals_entry_is}
+use Rattle.ct_switch.specs.Exports.{IsCallable, callee_of, table_of}
 use Rattle.ct_engine.specs.declared.rows.Region.{Region}
 use Rattle.ct_engine.specs.Seen.{Seen, region_hides, hides, region_of, area_at}
 use Rattle.ct_engine.specs.Calls.{IsEnterable, HeadStands, head_at}

@@ -7,7 +7,7 @@ use Rattle.def_image.specs.Sizes.{sum_of}
 use Rattle.def_image.specs.Members.{compartment_entries, library_entries, first_library}
 use Rattle.def_boot.specs.Boot.{image_of}
 use Rattle.def_boot.specs.Gates.{gates_in, compartment_gates, library_gates, gates_of, entries_of}
-use Rattle.ct_exports.specs.Exports.{AreSorted}
+use Rattle.ct_switch.specs.Exports.{AreSorted}
 
 -- from a number on
 abbrev pub Rises : ℕ → List Gate → Type 0
@@ -69,6 +69,7 @@ sorted_entries : (p : PartsRow) → AreSorted (entries_of p).gates
 unfolding entries_of
 sorted_entries p = sorted_gates p
 
+-- the gates of an image stand by the numbers of their exports
 pub image_sorted : (p : PartsRow) → AreSorted (image_of p).entries.gates
 unfolding image_of
 image_sorted p = sorted_entries p

@@ -22,16 +22,16 @@ use Rattle.def_boot.specs.Boot.{image_of}
 use Rattle.def_boot.specs.Entries.{slot_row, export_row, entry_rows}
 use Rattle.def_boot.specs.Gates.{gate, gates_of, entries_of}
 use Rattle.def_machine.specs.Image.{root}
-use Rattle.law_listed.specs.Rows.{HasRow, HasCompartment, EntryIs, is_nothing, is_trusted, is_code, is_globals, is_slot, is_export, is_library, is_library_slot, is_library_export, is_stack}
-use Rattle.law_listed.proofs.Blocks.{present}
-use Rattle.law_listed.proofs.Listing.{entry_of}
-use Rattle.law_listed.proofs.Standing as standing
-use Rattle.law_grants.specs.Fits.{Lies, ExportAt}
-use Rattle.law_grants.proofs.Imports.{named}
-use Rattle.law_grants.proofs.Lying.{own_there}
-use Rattle.law_grants.proofs.Making.{length_above}
+use Rattle.def_boot.specs.Rows.{HasRow, HasCompartment, EntryIs, is_nothing, is_trusted, is_code, is_globals, is_slot, is_export, is_library, is_library_slot, is_library_export, is_stack}
+use Rattle.law_boot.proofs.Blocks.{present}
+use Rattle.law_boot.proofs.Listing.{entry_of}
+use Rattle.law_boot.proofs.Standing as standing
+use Rattle.def_boot.specs.Fits.{Lies, ExportAt}
+use Rattle.law_boot.proofs.Imports.{named}
+use Rattle.law_boot.proofs.Lying.{own_there}
+use Rattle.law_boot.proofs.Making.{length_above}
 use Rattle.ct_entry.specs.Kinds.{is_export as is_export_kind}
-use Rattle.ct_exports.specs.Exports.{IsExport, AreTogether, HeadLies, IsCallable, no_row, row_at, is_compartment, is_export_of, table_of, callee_of}
+use Rattle.ct_switch.specs.Exports.{IsExport, AreTogether, HeadLies, IsCallable, no_row, row_at, is_compartment, is_export_of, table_of, callee_of}
 
 -- ---- rows as roots
 
@@ -211,7 +211,3 @@ callable p n s x =
     by_home p n x.index (ap (λ (r : Root). compartment_of r.owner) x.row.root_is) some
     (stands p x.index x.compartment x.which x.export (n - 1) has x.there (at ∙ x.number))
     (head_lies p x.index x.compartment s lies (table_is p x.index x.compartment one.0 has one.1))
-
-pub named_callable : (p : PartsRow) → Sound p → (n : ℕ) → (root (image_of p) n).origin ≡ Listing kind.Call
-    → IsCallable (entries_of p) p.ram p.size (root (image_of p) n).of
-named_callable p s n is = callable p (root (image_of p) n).of s ((named p s n).call is)

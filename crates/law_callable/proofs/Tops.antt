@@ -21,6 +21,7 @@ lies_by i objects s t (f ∷ fs) same some holds base high =
       high = subst (λ n. n ≤ (area_at s t).stack + (area_at s t).stack_length) (sym top) (subst (λ n. f.top ≤ n) (sym high) first.high);
     }
 
+-- where a state is confined, the top of an innermost frame lies in the stack of its thread
 pub top_lies : (i : Image) (m : State) (s : Seen) (size t : ℕ) → Confined i m → IsPlaced i size t (area_at s t)
     → (thread s t).frames ≡ (state.thread m t).frames → 0 < length (thread s t).frames → TopLies s t
 top_lies i m s size t held placed same some =

@@ -15,10 +15,10 @@ use Rattle.def_hidden.specs.Hidden.{is_live_at, is_hidden_at}
 use Rattle.def_chunks.specs.declared.heads.TheConstants.{NO_CHUNK}
 use Rattle.def_chunks.specs.declared.rows.Range.{Range}
 use Rattle.def_chunks.specs.Chunks.{Chunk, is_free, total, head_at, Lays, Starts, IsChunk, AreChunks, NoneTouch}
-use Rattle.def_chunks.specs.Tiles.{chunks, TiledBy, Tiled, Settled}
+use Rattle.def_chunks.specs.Tiles.{chunks, TiledBy, Tiled, TilesSettled}
 use Rattle.def_chunks.specs.Changes.{InUse, Spared}
 use Rattle.def_chunks.specs.Heaps.{HeapRow, objects_in, object_at, objects_of, quota_named, is_named, is_used_at, account, Distinct, waiting_in, Laid, IsHeapOf}
-use Rattle.law_chunks.specs.Kept.{Misses, KeepsHeap, KeepsUntagged}
+use Rattle.def_chunks.specs.Kept.{MissesHeads, KeepsHeap, KeepsUntagged}
 use Rattle.law_chunks.proofs.Lays.{lays_same, starts_low, starts_high, starts_even}
 use Rattle.law_chunks.proofs.Reading.{chunks_are}
 use Rattle.law_chunks.proofs.Spares.{head_unused}
@@ -26,10 +26,10 @@ use Rattle.law_chunks.proofs.Spares.{head_unused}
 -- ---- heads that stay
 
 pub record SameChunks (r : Range) (gs hs : List Granule) : Type 0 where
-  pub settled : Settled r hs
+  pub settled : TilesSettled r hs
   pub chunks_are : chunks r hs ≡ chunks r gs
 
-pub settled_same : (r : Range) (gs hs : List Granule) → Settled r gs → length hs ≡ length gs → ((p : ℕ) → Starts p r.base (chunks r gs) → head_at hs r.ram p ≡ head_at gs r.ram p) → SameChunks r gs hs
+pub settled_same : (r : Range) (gs hs : List Granule) → TilesSettled r gs → length hs ≡ length gs → ((p : ℕ) → Starts p r.base (chunks r gs) → head_at hs r.ram p ≡ head_at gs r.ram p) → SameChunks r gs hs
 settled_same r gs hs h size same =
     let t = h.tiled in
     let inside = t.inside in
@@ -96,7 +96,7 @@ head_there r gs p h s =
 
 -- ---- each change of memory
 
-pub store_keeps : (h : HeapRow) (gs : List Granule) (at width value : ℕ) → Laid h gs → IsAccess (8 * length gs) at width → Misses h.range gs at (at + width) → KeepsHeap h gs (stored gs at width value)
+pub store_keeps : (h : HeapRow) (gs : List Granule) (at width value : ℕ) → Laid h gs → IsAccess (8 * length gs) at width → MissesHeads h.range gs at (at + width) → KeepsHeap h gs (stored gs at width value)
 store_keeps h gs at width value l is misses =
     heads_kept h gs (stored gs at width value) l (length-set gs (at / 8) (record { cap = plain (with_part (granule_at gs (at / 8)).cap.word (at % 8) width value); mark = (granule_at gs (at / 8)).mark }))
     (λ p s. let k = head_there h.range gs p l.settled.tiled s in
@@ -105,7 +105,7 @@ store_keeps h gs at width value l is misses =
     let some : 0 < width = elim is.known [ inl e ↦ omega (arith, e) | inr r ↦ elim r [ inl e ↦ omega (arith, e) | inr e ↦ omega (arith, e) ] ] in
     ap (λ (g : Granule). g.cap) (store_rest gs at width value ((p - h.range.ram) / 8) (λ e. elim (misses p s) [ inl a ↦ omega (arith, a, e, over, even) | inr b ↦ omega (arith, b, e, over, even, some) ])))
 
-pub cap_keeps : (h : HeapRow) (gs : List Granule) (at : ℕ) (c : Cap) → Laid h gs → IsPlace (8 * length gs) at → Misses h.range gs at (at + 8) → KeepsHeap h gs (stored_cap gs at c)
+pub cap_keeps : (h : HeapRow) (gs : List Granule) (at : ℕ) (c : Cap) → Laid h gs → IsPlace (8 * length gs) at → MissesHeads h.range gs at (at + 8) → KeepsHeap h gs (stored_cap gs at c)
 cap_keeps h gs at c l is misses =
     heads_kept h gs (stored_cap gs at c) l (length-set gs (at / 8) (record { cap = c; mark = (granule_at gs (at / 8)).mark }))
     (λ p s. let k = head_there h.range gs p l.settled.tiled s in
@@ -114,7 +114,7 @@ cap_keeps h gs at c l is misses =
     let eight = is.aligned in
     ap (λ (g : Granule). g.cap) (cap_rest gs at c ((p - h.range.ram) / 8) (λ e. elim (misses p s) [ inl a ↦ omega (arith, a, e, over, even, eight) | inr b ↦ omega (arith, b, e, over, even, eight) ])))
 
-pub zero_keeps : (h : HeapRow) (gs hs : List Granule) (from to : ℕ) → Laid h gs → IsZeroed from to gs hs → Misses h.range gs from to → KeepsHeap h gs hs
+pub zero_keeps : (h : HeapRow) (gs hs : List Granule) (from to : ℕ) → Laid h gs → IsZeroed from to gs hs → MissesHeads h.range gs from to → KeepsHeap h gs hs
 zero_keeps h gs hs from to l is misses =
     heads_kept h gs hs l is.size
     (λ p s. let k = head_there h.range gs p l.settled.tiled s in

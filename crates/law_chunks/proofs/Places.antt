@@ -10,7 +10,7 @@ use Rattle.def_machine.specs.Heap.{Fits, IsPlaceFor}
 use Rattle.def_chunks.specs.declared.rows.Range.{Range}
 use Rattle.def_chunks.specs.declared.rows.Gap.{Gap}
 use Rattle.def_chunks.specs.Chunks.{Chunk, is_free, total, IsChunk, AreChunks, NoneTouch, BeginsUsed}
-use Rattle.def_chunks.specs.Tiles.{chunks, Settled}
+use Rattle.def_chunks.specs.Tiles.{chunks, TilesSettled}
 use Rattle.def_chunks.specs.Gaps.{HasRoomAt, IsGap, NoGap}
 use Rattle.def_chunks.specs.Heaps.{objects_in, object_at, quota_named, IsHeapOf, IsUnit}
 use Rattle.law_chunks.proofs.Lays.{total_both}
@@ -97,7 +97,7 @@ room_second base length at (x ∷ xs) ys h =
 
 -- ---- the place of the machine's definition
 
-held : (i : Image) (r : Range) (gs : List Granule) (names : List ℕ) (length b : ℕ) → IsHeapOf i r → Settled r gs → Fits i (objects_in names r.base r.base (chunks r gs)) length b → HasRoomAt b length r.base (chunks r gs)
+held : (i : Image) (r : Range) (gs : List Granule) (names : List ℕ) (length b : ℕ) → IsHeapOf i r → TilesSettled r gs → Fits i (objects_in names r.base r.base (chunks r gs)) length b → HasRoomAt b length r.base (chunks r gs)
 held i r gs names length b of h f =
     let low = f.low in
     let high = f.high in
@@ -106,7 +106,7 @@ held i r gs names length b of h f =
     let size = h.tiled.size in
     in_one names r.base b length r.base (chunks r gs) h.tiled.are h.apart (omega (arith, low, base_is)) (omega (arith, high, end_is, size)) f.apart
 
-pub gap_place : (i : Image) (r : Range) (gs : List Granule) (names : List ℕ) (unit length : ℕ) (g : Gap) → IsHeapOf i r → Settled r gs → IsUnit unit (alignment_of length) → IsGap r gs unit length g → IsPlaceFor i (objects_in names r.base r.base (chunks r gs)) length g.base
+pub gap_place : (i : Image) (r : Range) (gs : List Granule) (names : List ℕ) (unit length : ℕ) (g : Gap) → IsHeapOf i r → TilesSettled r gs → IsUnit unit (alignment_of length) → IsGap r gs unit length g → IsPlaceFor i (objects_in names r.base r.base (chunks r gs)) length g.base
 gap_place i r gs names unit length g of h u gap =
     let s = gap.linked.free_stands.stands in
     let size_is = gap.linked.free_stands.size_is in
@@ -131,5 +131,5 @@ gap_place i r gs names unit length g of h u gap =
       least = λ b lt f. gap.least b lt (u.both b f.eight f.aligned) (held i r gs names length b of h f);
     }
 
-pub no_gap_place : (i : Image) (r : Range) (gs : List Granule) (names : List ℕ) (unit length b : ℕ) → IsHeapOf i r → Settled r gs → IsUnit unit (alignment_of length) → NoGap r gs unit length → Fits i (objects_in names r.base r.base (chunks r gs)) length b → ⊥
+pub no_gap_place : (i : Image) (r : Range) (gs : List Granule) (names : List ℕ) (unit length b : ℕ) → IsHeapOf i r → TilesSettled r gs → IsUnit unit (alignment_of length) → NoGap r gs unit length → Fits i (objects_in names r.base r.base (chunks r gs)) length b → ⊥
 no_gap_place i r gs names unit length b of h u none f = none b (u.both b f.eight f.aligned) (held i r gs names length b of h f)

@@ -12,7 +12,7 @@ use Rattle.law_granules.proofs.Lists.{cap_rest, cap_marks}
 use Rattle.def_chunks.specs.declared.rows.Range.{Range}
 use Rattle.def_chunks.specs.Chunks.{Chunk, is_free, total, Starts, IsChunk, AreChunks}
 use Rattle.def_chunks.specs.Tiles.{TiledBy}
-use Rattle.def_chunks.specs.Changes.{InUse, Spared, Keeps, NoTagComes, OnlyHeads}
+use Rattle.def_chunks.specs.Changes.{InUse, Spared, KeepsRest, NoTagComes, OnlyHeads}
 use Rattle.law_chunks.proofs.Lays.{are_split, total_both, starts_low, starts_high}
 use Rattle.law_chunks.proofs.Carves.{store_length}
 
@@ -107,10 +107,10 @@ plain_stored gs at c untagged = λ k.
     let P : ℕ → Granule → Type 0 = λ n g. g.cap.tag ≡ true → g.cap ≡ (granule_at gs n).cap in
     after_set_at P gs (at / 8) k (record { cap = c; mark = (granule_at gs (at / 8)).mark }) nothing (λ tagged. absurd (let clash : true ≡ false = sym tagged ∙ untagged in cc)) (λ tagged. refl)
 
-pub keeps_same : (r : Range) (cs : List Chunk) (gs hs : List Granule) → hs ≡ gs → Keeps r cs gs hs
+pub keeps_same : (r : Range) (cs : List Chunk) (gs hs : List Granule) → hs ≡ gs → KeepsRest r cs gs hs
 keeps_same r cs gs hs same = record { size = ap length same; marks = λ k. ap (λ l. (granule_at l k).mark) same; tags = λ k tagged. ap (λ l. (granule_at l k).cap) same; rest = λ k spared. ap (λ l. granule_at l k) same }
 
-pub keeps_then : (r : Range) (cs ds : List Chunk) (gs ms hs : List Granule) → ((p : ℕ) → Spared r cs p → Spared r ds p) → Keeps r cs gs ms → Keeps r ds ms hs → Keeps r cs gs hs
+pub keeps_then : (r : Range) (cs ds : List Chunk) (gs ms hs : List Granule) → ((p : ℕ) → Spared r cs p → Spared r ds p) → KeepsRest r cs gs ms → KeepsRest r ds ms hs → KeepsRest r cs gs hs
 keeps_then r cs ds gs ms hs spared a b = record {
   size = b.size ∙ a.size;
   marks = λ k. b.marks k ∙ a.marks k;
@@ -119,7 +119,7 @@ keeps_then r cs ds gs ms hs spared a b = record {
 }
 
 -- a plain word is written in a granule that isn't spared
-pub keeps_store : (r : Range) (cs : List Chunk) (gs hs : List Granule) (at : ℕ) (c : Cap) → c.tag ≡ false → r.ram ≤ at → (at - r.ram) % 8 ≡ 0 → (Spared r cs at → ⊥) → hs ≡ stored_cap gs (at - r.ram) c → Keeps r cs gs hs
+pub keeps_store : (r : Range) (cs : List Chunk) (gs hs : List Granule) (at : ℕ) (c : Cap) → c.tag ≡ false → r.ram ≤ at → (at - r.ram) % 8 ≡ 0 → (Spared r cs at → ⊥) → hs ≡ stored_cap gs (at - r.ram) c → KeepsRest r cs gs hs
 keeps_store r cs gs hs at c untagged over even loose is = record {
   size = ap length is ∙ store_length gs (at - r.ram) c;
   marks = λ k. ap (λ l. (granule_at l k).mark) is ∙ cap_marks gs (at - r.ram) c k;

@@ -8,7 +8,7 @@ use Rattle.def_chunks.specs.declared.rows.Range.{Range}
 use Rattle.def_chunks.specs.Chunks.{Chunk, is_free, total, AreChunks}
 use Rattle.def_chunks.specs.Tiles.{chunks}
 use Rattle.def_chunks.specs.Heaps.{HeapRow, objects_in, objects_of, Laid}
-use Rattle.law_chunks.specs.Kept.{StandsIn, InOrder}
+use Rattle.def_chunks.specs.Kept.{StandsIn, InOrder}
 use Rattle.law_chunks.proofs.Rows.{each_more, rows_low, rows_high}
 
 rows_even : (names : List ℕ) (base at : ℕ) (cs : List Chunk) → at % 8 ≡ 0 → AreChunks cs → Each (λ q. q.base % 8 ≡ 0) (objects_in names base at cs)

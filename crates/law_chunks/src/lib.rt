@@ -13,20 +13,20 @@ ghost use Rattle.def_machine.specs.Objects.{Each};
 ghost use Rattle.def_hidden.specs.Hidden.{is_live_at, is_hidden_at};
 ghost use Rattle.def_chunks.specs.declared.heads.TheConstants.{SLOT};
 ghost use Rattle.def_chunks.specs.Heaps.{HeapRow, objects_of, Laid, IsHeapOf};
-ghost use Rattle.law_chunks.specs.Kept.{IsHead, Misses, KeepsHeap, KeepsUntagged, StandsIn, InOrder};
+ghost use Rattle.def_chunks.specs.Kept.{IsHead, MissesHeads, KeepsHeap, KeepsUntagged, StandsIn, InOrder};
 
 /// A store of bytes, a store of a capability and a clearing that meet no head keep the heap laid and its
 /// objects as they were, and so does every marking, and every change that leaves what is untagged as it
 /// was, as a sweep does.
 pub fn writes_keep()
     ensures stores { (h : HeapRow) (gs : List Granule) (at width value : ℕ) → Laid h gs
-        → IsAccess (8 * length gs) at width → Misses h.range gs at (at + width)
+        → IsAccess (8 * length gs) at width → MissesHeads h.range gs at (at + width)
         → KeepsHeap h gs (stored gs at width value) }
     ensures capabilities { (h : HeapRow) (gs : List Granule) (at : ℕ) (c : Cap) → Laid h gs
-        → IsPlace (8 * length gs) at → Misses h.range gs at (at + 8)
+        → IsPlace (8 * length gs) at → MissesHeads h.range gs at (at + 8)
         → KeepsHeap h gs (stored_cap gs at c) }
     ensures clears { (h : HeapRow) (gs hs : List Granule) (from to : ℕ) → Laid h gs
-        → IsZeroed from to gs hs → Misses h.range gs from to → KeepsHeap h gs hs }
+        → IsZeroed from to gs hs → MissesHeads h.range gs from to → KeepsHeap h gs hs }
     ensures marks { (h : HeapRow) (gs hs : List Granule) (from to : ℕ) (on : Bool) → Laid h gs
         → IsMarked from to on gs hs → KeepsHeap h gs hs }
     ensures untags { (h : HeapRow) (gs hs : List Granule) → Laid h gs → KeepsUntagged gs hs

@@ -15,11 +15,11 @@ use Rattle.def_confined.specs.Keeps.{Beside, Keeps}
 use Rattle.def_confined.specs.Made.{Derived}
 use Rattle.def_confined.specs.Partitioned.{Partitioned}
 use Rattle.def_confined.specs.Swept.{HasUnpainted}
-use Rattle.law_memory.specs.Authorises.{Authorises}
-use Rattle.law_memory.proofs.Loading.{load_stands}
-use Rattle.law_memory.proofs.Stores.{through_case, store_cap_confined, store_bytes_confined}
-use Rattle.law_sweeps.proofs.Slices.{live_unpainted}
-use Rattle.law_sweeps.proofs.Moves.{RamLeft, set_left}
+use Rattle.def_confined.specs.Authorises.{Authorises}
+use Rattle.law_moves.proofs.Loading.{load_stands}
+use Rattle.law_moves.proofs.Stores.{through_case, store_cap_confined, store_bytes_confined}
+use Rattle.law_moves.proofs.Slices.{live_unpainted}
+use Rattle.law_moves.proofs.SweepsMoves.{RamLeft, set_left}
 use Rattle.law_moves.proofs.Threads.{put_keeps}
 
 -- granules change, and nothing else

@@ -10,11 +10,11 @@ use Rattle.def_machine.specs.Threads.{Clockwork, changed, jumped, picked}
 use Rattle.def_confined.specs.Changes.{Jumps}
 use Rattle.def_confined.specs.Keeps.{Beside, Keeps}
 use Rattle.def_confined.specs.Partitioned.{Partitioned}
-use Rattle.law_places.proofs.Turns.{beside_confined}
-use Rattle.law_jumps.proofs.Moves.{jumps_confined}
-use Rattle.law_turns.specs.Clock.{with_clock}
-use Rattle.law_turns.proofs.Moves.{pick_confined, clock_confined}
-use Rattle.law_sweeps.proofs.Moves.{ThreadLeft, ram_same, running_left, moved_beside, clock_beside, stopped_beside}
+use Rattle.law_moves.proofs.Turns.{beside_confined}
+use Rattle.law_moves.proofs.JumpsMoves.{jumps_confined}
+use Rattle.def_confined.specs.Clock.{with_clock}
+use Rattle.law_moves.proofs.TurnsMoves.{pick_confined, clock_confined}
+use Rattle.law_moves.proofs.SweepsMoves.{ThreadLeft, ram_same, running_left, moved_beside, clock_beside, stopped_beside}
 use Rattle.law_moves.proofs.Threads.{written_length}
 
 pub jump_keeps : (i : Image) (s : State) (t to : ℕ) (pcc : Cap) (posture : Posture) (link : Cap) (w : Clockwork) → Keeps i s → s.running ≡ Some t → ((thread s t).frames ≡ [] → ⊥) → Jumps i s t pcc posture link

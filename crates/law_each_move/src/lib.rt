@@ -1,7 +1,7 @@
 //! Laws of the moves that instructions and picks are made of, each whole: a store, a load, a jump or an advance, a pick,
 //! a stop and the clockwork's course keep a state confined, what the running sweep has passed free of capabilities of
-//! painted objects, and all else that stands beside. law_moves has the moves that native routines are made of,
-//! law_sweeps that of a sweep.
+//! painted objects, and all else that stands beside. law_moves has those that native routines are made of,
+//! and that of a sweep.
 #![tactic(auto)]
 
 ghost use Rattle.std.specs.Prelude.{◌≡◌, ◌%◌, ℕ, List, [], Some, None, true};
@@ -17,8 +17,8 @@ ghost use Rattle.def_confined.specs.Changes.{Jumps};
 ghost use Rattle.def_confined.specs.Keeps.{Keeps};
 ghost use Rattle.def_confined.specs.Made.{Derived};
 ghost use Rattle.def_confined.specs.Partitioned.{Partitioned};
-ghost use Rattle.law_memory.specs.Authorises.{Authorises};
-ghost use Rattle.law_turns.specs.Clock.{with_clock};
+ghost use Rattle.def_confined.specs.Authorises.{Authorises};
+ghost use Rattle.def_confined.specs.Clock.{with_clock};
 
 /// A store of a capability, which keeps its tag only as the authorising register allows, and a store of plain bytes.
 pub fn store_moves()

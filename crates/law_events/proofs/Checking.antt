@@ -10,7 +10,7 @@ use Rattle.def_step.specs.declared.Access.{Access}
 use Rattle.def_profile.specs.declared.traps.TheConstants.{BOUNDS_CODE, TAG_CODE, SEAL_CODE, EXECUTE_CODE, LOAD_CODE, STORE_CODE, STORE_CAPABILITY_CODE}
 use Rattle.def_step.specs.Accesses.{access_checks, load_checks, store_checks}
 use Rattle.def_step.specs.Instructions.{fetch_checks}
-use Rattle.law_licensed.proofs.Checks.{AllTell, AllPass, register_tells, counter_tells, plain_tells}
+use Rattle.law_moves.proofs.Checks.{AllTell, AllPass, register_tells, counter_tells, plain_tells}
 
 -- ---- the traps of instructions
 

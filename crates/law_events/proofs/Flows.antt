@@ -16,12 +16,12 @@ use Rattle.def_step.specs.Accesses.{unless}
 use Rattle.def_step.specs.Jumps.{target_at, target_checks, jumped_to, passed_over, branched, is_taken, flow_result}
 use Rattle.def_step.specs.Operands.{operands_of}
 use Rattle.def_step.specs.Instructions.{operand, named_by}
-use Rattle.def_machine.specs.Board.{Board}
-use Rattle.def_board.specs.Wired.{Wired}
-use Rattle.law_made.proofs.Results.{address_derived, address_runs}
+use Rattle.def_machine.specs.Platform.{Platform}
+use Rattle.def_safety.specs.Wired.{Wired}
+use Rattle.law_moves.proofs.Results.{address_derived, address_runs}
 use Rattle.def_confined.specs.Changes.{Puts}
-use Rattle.law_registers.proofs.Moves.{untagged_puts}
-use Rattle.law_licensed.proofs.Checks.{by_checks, plain_tells}
+use Rattle.law_moves.proofs.Moves.{untagged_puts}
+use Rattle.law_moves.proofs.Checks.{by_checks, plain_tells}
 use Rattle.law_events.proofs.Goings.{FlowFits, Fetching, goes_to, goes_on, leaves_link}
 use Rattle.law_events.proofs.RegisterJumps.{jump_fits}
 
@@ -42,7 +42,7 @@ branch_fits i s t offset taken x = chosen (FlowFits i s t) taken (jumped_to (thr
     (λ not. passed_fits i s t x)
 
 -- the values are of its registers, and the first is below 16: so a trap may tell it
-pub flow_fits : (b : Board) (s : State) (t : ℕ) (k : Instr) → Wired b → Fetching b.image s t → (operands_of k).first < 16
+pub flow_fits : (b : Platform) (s : State) (t : ℕ) (k : Instr) → Wired b → Fetching b.image s t → (operands_of k).first < 16
     → FlowFits b.image s t (flow_result k (operand s t (operands_of k).first) (operand s t (operands_of k).second) (thread s t).pcc (thread s t).posture (named_by b.image (operand s t (operands_of k).first)))
 unfolding flow_result
 flow_fits b s t (Jal v0 v1) wired x small = target_fits b.image s t (target_at (thread s t).pcc v1) (Some (linked (thread s t).pcc (thread s t).posture)) (omega arith) x (leaves_link b.image s t x)

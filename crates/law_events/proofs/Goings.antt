@@ -12,13 +12,13 @@ use Rattle.def_machine.specs.State.{State, thread}
 use Rattle.def_step.specs.Jumps.{Flowed}
 use Rattle.def_confined.specs.Confined.{Confined}
 use Rattle.def_confined.specs.Partitioned.{Partitioned}
-use Rattle.def_facts.specs.Facts.{Facts}
+use Rattle.def_confined.specs.Facts.{Facts}
 use Rattle.def_confined.specs.Made.{Derived}
-use Rattle.law_jumps.specs.Jumping.{IsRunnable}
-use Rattle.law_jumps.proofs.Moves.{onward_jumps, link_puts}
-use Rattle.law_made.proofs.Results.{raised_derived, raised_runs, linked_links}
+use Rattle.def_confined.specs.Jumping.{IsRunnable}
+use Rattle.law_moves.proofs.JumpsMoves.{onward_jumps, link_puts}
+use Rattle.law_moves.proofs.Results.{raised_derived, raised_runs, linked_links}
 use Rattle.def_confined.specs.Changes.{Puts, Jumps}
-use Rattle.law_licensed.proofs.Checks.{MayTell}
+use Rattle.law_moves.proofs.Checks.{MayTell}
 use Rattle.law_events.proofs.Checking.{Fetched}
 
 -- what a jump leaves may stand, and a trap may be told

@@ -1,3 +1,19 @@
+pub mod Covering
+pub mod Switching
+pub mod Hiding
+pub mod Calling
+pub mod Cleans
+pub mod Handing
+pub mod Answering
+pub mod Serving
+pub mod Waiting
+pub mod Charging
+pub mod Freeing
+pub mod Sealing
+pub mod Written
+pub mod Entered
+pub mod Begins
+pub mod Whole
 pub mod Values
 pub mod Checking
 pub mod Smalls
@@ -9,3 +25,7 @@ pub mod Steps
 pub mod Events
 pub mod Accesses
 pub mod Running
+pub mod Seeing
+pub mod Rows
+pub mod Stores
+pub mod BlankEvents

@@ -23,20 +23,20 @@ use Rattle.def_profile.specs.declared.seals.TheConstants.{SENTRY_INHERIT, SENTRY
 use Rattle.def_step.specs.Accesses.{unless}
 use Rattle.def_step.specs.Jumps.{register_target, register_jump_checks, register_jumped}
 use Rattle.def_step.specs.Instructions.{is_native_entry, named_by}
-use Rattle.def_machine.specs.Board.{Board}
-use Rattle.def_board.specs.Wired.{Wired}
+use Rattle.def_machine.specs.Platform.{Platform}
+use Rattle.def_safety.specs.Wired.{Wired}
 use Rattle.def_confined.specs.Capabilities.{IsReturnType, Kept}
 use Rattle.def_confined.specs.Confined.{Confined, PostureFits}
 use Rattle.def_confined.specs.Partitioned.{Partitioned}
 use Rattle.def_confined.specs.Made.{Opens}
-use Rattle.law_registers.proofs.Moves.{not_native_bound}
-use Rattle.law_registers.proofs.Derives.{Bound, kept_bound}
-use Rattle.law_jumps.specs.Jumping.{IsForwardType, MayJump, Lands}
-use Rattle.law_jumps.proofs.Targets.{opened_opens}
-use Rattle.law_places.proofs.Turns.{fits_as}
-use Rattle.law_jumps.proofs.Moves.{return_fits, forward_fits, opened_lands, derived_lands, in_rooted}
-use Rattle.law_made.proofs.Results.{address_derived, address_runs}
-use Rattle.law_licensed.proofs.Checks.{by_checks, register_tells, plain_tells}
+use Rattle.law_moves.proofs.Moves.{not_native_bound}
+use Rattle.law_moves.proofs.Derives.{Bound, kept_bound}
+use Rattle.def_confined.specs.Jumping.{IsForwardType, MayJump, Lands}
+use Rattle.law_moves.proofs.Targets.{opened_opens}
+use Rattle.law_moves.proofs.Turns.{fits_as}
+use Rattle.law_moves.proofs.JumpsMoves.{return_fits, forward_fits, opened_lands, derived_lands, in_rooted}
+use Rattle.law_moves.proofs.Results.{address_derived, address_runs}
+use Rattle.law_moves.proofs.Checks.{by_checks, register_tells, plain_tells}
 use Rattle.law_events.proofs.Goings.{FlowFits, Fetching, leaves_link}
 
 -- ---- native entries
@@ -93,7 +93,7 @@ other_goes i objects t fs x a parts m small other =
     (address_derived (opened x) a small)
     (λ is. address_runs (opened x) a small (opened_executes x m.executes (addressed (opened x) a small is).tagged) is)
 
-goes_there : (b : Board) (objects : List Object) (t : ℕ) (fs : List Frame) (x : Cap) (n : ℕ) → Partitioned b.image → Wired b → MayJump b.image objects t fs x → (is_native (root b.image x.shadow.root).origin ≡ true → n ≡ 0)
+goes_there : (b : Platform) (objects : List Object) (t : ℕ) (fs : List Frame) (x : Cap) (n : ℕ) → Partitioned b.image → Wired b → MayJump b.image objects t fs x → (is_native (root b.image x.shadow.root).origin ≡ true → n ≡ 0)
     → Lands b.image objects t fs (with_address (opened x) (register_target x n))
 goes_there b objects t fs x n parts wired m still = elim (bool_tells (is_native (root b.image x.shadow.root).origin)) [
   | inl native ↦
@@ -165,7 +165,7 @@ posture_fits i s t m parts h tagged (inr (inr forward)) =
 
 -- ---- the jump
 
-pub jump_fits : (b : Board) (s : State) (t to at n : ℕ) → Wired b → Fetching b.image s t → at < 16
+pub jump_fits : (b : Platform) (s : State) (t to at n : ℕ) → Wired b → Fetching b.image s t → at < 16
     → FlowFits b.image s t (register_jumped to at (register (thread s t) at) n (thread s t).pcc (thread s t).posture (named_by b.image (register (thread s t) at)))
 jump_fits b s t to at n wired f small = by_checks
     (λ o. FlowFits b.image s t (unless o (record {

@@ -21,7 +21,7 @@ use Rattle.def_step.specs.declared.Class.TheVariants as class
 use Rattle.def_step.specs.declared.Next.{Next}
 use Rattle.def_step.specs.declared.Next.TheVariants.{Instruction, Native}
 use Rattle.def_profile.specs.declared.traps.TheConstants.{SYSTEM_REGISTER_CODE, ILLEGAL_INSTRUCTION, BREAKPOINT, ENVIRONMENT_CALL}
-use Rattle.def_step.specs.Accesses.{Space, Accessed, access_of, access_checks, access_address, access_result, accessed, unless}
+use Rattle.def_step.specs.Accesses.{MemoryAndDevices, Accessed, access_of, access_checks, access_address, access_result, accessed, unless}
 use Rattle.def_step.specs.Jumps.{Flowed, flow_result}
 use Rattle.def_step.specs.Operands.{operands_of, class_of}
 use Rattle.def_profile.specs.declared.native.TheConstants.{RETURN}
@@ -29,40 +29,40 @@ use Rattle.def_step.specs.declared.TheConstants.{LAST_ROUTINE}
 use Rattle.def_step.specs.Routines.{Ran, Traps, Leaves, switch, yield, sleep, wait, wake}
 use Rattle.def_step.specs.Quotas.{allocate, free, remaining}
 use Rattle.def_step.specs.Tokens.{token_key, token_new, token_open, token_free}
-use Rattle.def_facts.specs.Facts.{Facts}
+use Rattle.def_confined.specs.Facts.{Facts}
 use Rattle.def_confined.specs.Keeps.{Keeps}
 use Rattle.def_step.specs.Instructions.{Effect, Context, carried_out, named_by, flows, accesses, around, space_of, deed, put_done, instruction_end, operand, goes_on, after_fetch, executed, fetch_checks, fetched, next_at, is_native_entry, deed_told, ran, served}
-use Rattle.def_machine.specs.Board.{Board}
-use Rattle.def_board.specs.Wired.{Wired}
+use Rattle.def_machine.specs.Platform.{Platform}
+use Rattle.def_safety.specs.Wired.{Wired}
 use Rattle.def_confined.specs.Confined.{Confined}
 use Rattle.def_confined.specs.Partitioned.{Partitioned}
 use Rattle.def_confined.specs.Licensed.{Licensed}
-use Rattle.law_jumps.proofs.Moves.{in_rooted}
+use Rattle.law_moves.proofs.JumpsMoves.{in_rooted}
 use Rattle.law_events.proofs.Accesses.{access_laws}
 use Rattle.def_confined.specs.Changes.{Puts}
-use Rattle.law_registers.proofs.Moves.{untagged_puts}
+use Rattle.law_moves.proofs.Moves.{untagged_puts}
 use Rattle.law_events.proofs.Values.{result_puts}
-use Rattle.law_licensed.proofs.Checks.{MayTell, by_checks, counter_tells, plain_tells}
+use Rattle.law_moves.proofs.Checks.{MayTell, by_checks, counter_tells, plain_tells}
 use Rattle.law_events.proofs.Checking.{Fetched, access_tells, fetch_tells, fetch_passes}
 use Rattle.law_events.proofs.Smalls.{IsSmall, by_small, read_small}
 use Rattle.law_events.proofs.Goings.{FlowFits, Fetching}
 use Rattle.law_events.proofs.Goings as going
 use Rattle.law_routines.proofs.Cases.{by_next, by_routine}
-use Rattle.law_natives.specs.Stands.{RoutineKeeps, TellsLicensed}
-use Rattle.law_natives.proofs.Serving.{switch_stands, rests_stands}
-use Rattle.law_natives.proofs.Waiting.{wait_stands, wake_stands}
-use Rattle.law_natives.proofs.Charging.{allocate_stands, remaining_stands}
-use Rattle.law_natives.proofs.Freeing.{free_stands}
-use Rattle.law_natives.proofs.Sealing.{token_key_stands, token_new_stands, token_open_stands, token_free_stands}
+use Rattle.def_events.specs.Stands.{RoutineKeeps, EventTellsLicensed}
+use Rattle.law_events.proofs.Serving.{switch_stands, rests_stands}
+use Rattle.law_events.proofs.Waiting.{wait_stands, wake_stands}
+use Rattle.law_events.proofs.Charging.{allocate_stands, remaining_stands}
+use Rattle.law_events.proofs.Freeing.{free_stands}
+use Rattle.law_events.proofs.Sealing.{token_key_stands, token_new_stands, token_open_stands, token_free_stands}
 use Rattle.law_events.proofs.Flows.{flow_fits}
 use Rattle.law_events.proofs.Fairness.{Fair, some_same, none_licensed, trapped_fair, returned_fair, has_frames, put_beside, moved_on, jumps_fair}
 
 -- ---- by the kind of work
 
-gives_fair : (b : Board) (s : State) (t to : ℕ) (value : Cap) → s.running ≡ Some t → Fetching b.image s t → Puts b.image s t value → Fair b s (put_done s t (moved_on b s to value (raised (thread s t).pcc 4) (thread s t).posture), None)
+gives_fair : (b : Platform) (s : State) (t to : ℕ) (value : Cap) → s.running ≡ Some t → Fetching b.image s t → Puts b.image s t value → Fair b s (put_done s t (moved_on b s to value (raised (thread s t).pcc 4) (thread s t).posture), None)
 gives_fair b s t to value runs f puts = jumps_fair b s t to value (raised (thread s t).pcc 4) (thread s t).posture runs f.fetched.tagged (going.goes_on b.image s t value f puts)
 
-flow_fair : (b : Board) (s : State) (t to : ℕ) (x : Cap) (r : Result Flowed Trap) → s.running ≡ Some t → Fetching b.image s t → FlowFits b.image s t r → Fair b s (instruction_end b s t x (flows (around b s t) to r))
+flow_fair : (b : Platform) (s : State) (t to : ℕ) (x : Cap) (r : Result Flowed Trap) → s.running ≡ Some t → Fetching b.image s t → FlowFits b.image s t r → Fair b s (instruction_end b s t x (flows (around b s t) to r))
 flow_fair b s t to x (Err w) runs f fits = trapped_fair b s t w runs f.parts f.facts f.held fits
 flow_fair b s t to x (Ok j) runs f fits = jumps_fair b s t to (unwrap_or j.link (plain 0)) j.pcc j.posture runs f.fetched.tagged fits
 
@@ -72,7 +72,7 @@ abbrev pub ErrTells : {A : Type 0} → Result A Trap → Type 0
 ErrTells (Err w) = MayTell w
 ErrTells (Ok d) = Unit {0}
 
-result_tells : (k : Instr) (x y : Cap) (p : Space) → (access_of k).by < 16 → ErrTells (access_result k x y p)
+result_tells : (k : Instr) (x y : Cap) (p : MemoryAndDevices) → (access_of k).by < 16 → ErrTells (access_result k x y p)
 unfolding access_result
 result_tells k x y p small = by_checks (λ o. ErrTells (unless o (accessed (access_of k) x y (access_address (access_of k) x) p)))
     (access_checks (access_of k) x y (access_address (access_of k) x))
@@ -84,11 +84,11 @@ accesses_tell : (a : Context) (to : ℕ) (r : Result Accessed Trap) → ErrTells
 accesses_tell a to (Err w) h = h
 accesses_tell a to (Ok m) h = tt
 
-act_licensed : (b : Board) (s : State) (t entry : ℕ) (o : Option Act) → ((a : Act) → o ≡ Some a → Licensed b.image.entries (deed s t entry a)) → (d : Deed) → option_map (deed s t entry) o ≡ Some d → Licensed b.image.entries d
+act_licensed : (b : Platform) (s : State) (t entry : ℕ) (o : Option Act) → ((a : Act) → o ≡ Some a → Licensed b.image.entries (deed s t entry a)) → (d : Deed) → option_map (deed s t entry) o ≡ Some d → Licensed b.image.entries d
 act_licensed b s t entry None h d e = none_licensed b d e
 act_licensed b s t entry (Some a) h d e = some_same (Licensed b.image.entries) (deed s t entry a) d e (h a refl)
 
-access_fair : (b : Board) (s : State) (t : ℕ) (k : Instr) (r : Result Effect Trap) → Fetching b.image s t → Wired b → s.running ≡ Some t
+access_fair : (b : Platform) (s : State) (t : ℕ) (k : Instr) (r : Result Effect Trap) → Fetching b.image s t → Wired b → s.running ≡ Some t
     → carried_out class.Access k (operands_of k).to (operand s t (operands_of k).first) (operand s t (operands_of k).second) (named_by b.image (operand s t (operands_of k).first)) (around b s t) ≡ r → ErrTells r → Fair b s (instruction_end b s t (operand s t (operands_of k).first) r)
 access_fair b s t k (Err w) f wired runs e tells = trapped_fair b s t w runs f.parts f.facts f.held tells
 access_fair b s t k (Ok d) f wired runs e tells =
@@ -101,7 +101,7 @@ access_fair b s t k (Ok d) f wired runs e tells =
 
 -- ---- an instruction
 
-class_fair : (b : Board) (s : State) (t : ℕ) (k : Instr) (c : Class) → class_of k ≡ c → Wired b → s.running ≡ Some t → Fetching b.image s t → (operands_of k).first < 16
+class_fair : (b : Platform) (s : State) (t : ℕ) (k : Instr) (c : Class) → class_of k ≡ c → Wired b → s.running ≡ Some t → Fetching b.image s t → (operands_of k).first < 16
     → Fair b s (instruction_end b s t (operand s t (operands_of k).first) (carried_out c k (operands_of k).to (operand s t (operands_of k).first) (operand s t (operands_of k).second) (named_by b.image (operand s t (operands_of k).first)) (around b s t)))
 class_fair b s t k class.Integer e wired runs f small =
     gives_fair b s t (operands_of k).to (integer (integer_result k (cap_address (operand s t (operands_of k).first)) (cap_address (operand s t (operands_of k).second)))) runs f (untagged_puts b.image s t _ refl)
@@ -123,7 +123,7 @@ class_fair b s t k class.Break e wired runs f small = trapped_fair b s t _ runs 
 -- ---- what stands at the program counter
 
 -- no instruction is fetched through a capability of a native routine
-not_native : (b : Board) (s : State) (t : ℕ) → Wired b → Confined b.image s → (thread s t).pcc.tag ≡ true → is_native_entry (cap_address (thread s t).pcc) ≡ false → is_native (root b.image (thread s t).pcc.shadow.root).origin ≡ false
+not_native : (b : Platform) (s : State) (t : ℕ) → Wired b → Confined b.image s → (thread s t).pcc.tag ≡ true → is_native_entry (cap_address (thread s t).pcc) ≡ false → is_native (root b.image (thread s t).pcc.shadow.root).origin ≡ false
 not_native b s t wired h tagged away = elim (bool_tells (is_native (root b.image (thread s t).pcc.shadow.root).origin)) [
   | inl native ↦
       let at : cap_address (thread s t).pcc ≡ cap_address (made_cap b.image (thread s t).pcc.shadow.root) = (in_rooted b.image s.objects t (thread s t).frames (thread s t).pcc (h.pcc t) tagged).native native in
@@ -132,22 +132,22 @@ not_native b s t wired h tagged away = elim (bool_tells (is_native (root b.image
   | inr other ↦ other
 ]
 
-instruction_fair : (b : Board) (s : State) (t : ℕ) (k : Instr) → is_native_entry (cap_address (thread s t).pcc) ≡ false → instruction_in (fetched (space_of b s) (cap_address (thread s t).pcc)) ≡ Some k → Partitioned b.image → Facts b.image → Wired b → Confined b.image s → s.running ≡ Some t → Fetched (thread s t).pcc → Fair b s (goes_on b s t (Instruction k))
+instruction_fair : (b : Platform) (s : State) (t : ℕ) (k : Instr) → is_native_entry (cap_address (thread s t).pcc) ≡ false → instruction_in (fetched (space_of b s) (cap_address (thread s t).pcc)) ≡ Some k → Partitioned b.image → Facts b.image → Wired b → Confined b.image s → s.running ≡ Some t → Fetched (thread s t).pcc → Fair b s (goes_on b s t (Instruction k))
 instruction_fair b s t k away read parts facts wired h runs f =
     let other = not_native b s t wired h f.tagged away in
     let small : IsSmall (Some k) = subst IsSmall read (read_small (fetched (space_of b s) (cap_address (thread s t).pcc))) in
     class_fair b s t k (class_of k) refl wired runs (record { parts = parts; facts = facts; held = h; fetched = f; other = other }) small
 
 -- what a routine comes to that stands
-ran_fair : (b : Board) (s : State) (t : ℕ) (r : Ran) → Partitioned b.image → Facts b.image → Confined b.image s → s.running ≡ Some t → RoutineKeeps b.image s t r → Fair b s (ran b s t r)
+ran_fair : (b : Platform) (s : State) (t : ℕ) (r : Ran) → Partitioned b.image → Facts b.image → Confined b.image s → s.running ≡ Some t → RoutineKeeps b.image s t r → Fair b s (ran b s t r)
 ran_fair b s t (Traps why) parts facts h runs tells = trapped_fair b s t why runs parts facts h tells
 ran_fair b s t (Leaves after told) parts facts h runs stands = record { confined = stands.0.confined; licensed = told_licensed told stands.1; beside = λ e. stands.0.beside }
   where
-    told_licensed : (o : Option (ℕ × Act)) → TellsLicensed b.image s t o → (d : Deed) → option_map (deed_told s t) o ≡ Some d → Licensed b.image.entries d
+    told_licensed : (o : Option (ℕ × Act)) → EventTellsLicensed b.image s t o → (d : Deed) → option_map (deed_told s t) o ≡ Some d → Licensed b.image.entries d
     told_licensed None h d e = none_licensed b d e
     told_licensed (Some told) h d e = some_same (Licensed b.image.entries) (deed_told s t told) d e h
 
-routine_fair : (b : Board) (s : State) (t n : ℕ) → n ≤ LAST_ROUTINE → (n ≡ RETURN → ⊥) → Partitioned b.image → Facts b.image → Keeps b.image s → s.running ≡ Some t → Fair b s (goes_on b s t (Native n))
+routine_fair : (b : Platform) (s : State) (t n : ℕ) → n ≤ LAST_ROUTINE → (n ≡ RETURN → ⊥) → Partitioned b.image → Facts b.image → Keeps b.image s → s.running ≡ Some t → Fair b s (goes_on b s t (Native n))
 routine_fair b s t n few other parts facts k runs = by_routine (λ (o : Option Ran). Fair b s (served b s t o)) b.image s t n few other (record {
   switch = stands (switch b.image s t) (switch_stands b.image s t parts facts k runs);
   yield = stands (yield s t) (rests_stands b.image s t parts k runs).0;
@@ -166,14 +166,14 @@ routine_fair b s t n few other parts facts k runs = by_routine (λ (o : Option R
     stands : (r : Ran) → RoutineKeeps b.image s t r → Fair b s (ran b s t r)
     stands r h = ran_fair b s t r parts facts k.confined runs h
 
-next_fair : (b : Board) (s : State) (t : ℕ) → Partitioned b.image → Facts b.image → Wired b → Keeps b.image s → s.running ≡ Some t → Fetched (thread s t).pcc → Fair b s (goes_on b s t (next_at (space_of b s) (cap_address (thread s t).pcc)))
+next_fair : (b : Platform) (s : State) (t : ℕ) → Partitioned b.image → Facts b.image → Wired b → Keeps b.image s → s.running ≡ Some t → Fetched (thread s t).pcc → Fair b s (goes_on b s t (next_at (space_of b s) (cap_address (thread s t).pcc)))
 next_fair b s t parts facts wired k runs f = by_next (λ (n : Next). Fair b s (goes_on b s t n)) (space_of b s) (cap_address (thread s t).pcc)
     (returned_fair b s t runs parts k.confined)
     (λ i away read. instruction_fair b s t i away read parts facts wired k.confined runs f)
     (λ n few other. routine_fair b s t n few other parts facts k runs)
     (trapped_fair b s t _ runs parts facts k.confined (plain_tells ILLEGAL_INSTRUCTION (inr (inl refl))))
 
-pub executed_fair : (b : Board) (s : State) (t : ℕ) → Partitioned b.image → Facts b.image → Wired b → Keeps b.image s → s.running ≡ Some t → Fair b s (executed b s t)
+pub executed_fair : (b : Platform) (s : State) (t : ℕ) → Partitioned b.image → Facts b.image → Wired b → Keeps b.image s → s.running ≡ Some t → Fair b s (executed b s t)
 unfolding executed
 executed_fair b s t parts facts wired k runs = by_checks (λ o. Fair b s (after_fetch b s t o))
     (fetch_checks (thread s t).pcc)

@@ -11,9 +11,9 @@ use Rattle.def_machine.specs.State.{State, thread, register}
 use Rattle.def_confined.specs.Confined.{Confined}
 use Rattle.def_confined.specs.Partitioned.{Partitioned}
 use Rattle.def_confined.specs.Changes.{Puts}
-use Rattle.law_registers.proofs.Moves.{untagged_puts, same_puts, register_puts, pcc_puts}
-use Rattle.law_jumps.proofs.Moves.{in_rooted}
-use Rattle.law_made.proofs.Results.{address_derived, raised_derived, bounds_derived, exact_derived, masked_derived, sealed_derived, unsealed_derived}
+use Rattle.law_moves.proofs.Moves.{untagged_puts, same_puts, register_puts, pcc_puts}
+use Rattle.law_moves.proofs.JumpsMoves.{in_rooted}
+use Rattle.law_moves.proofs.Results.{address_derived, raised_derived, bounds_derived, exact_derived, masked_derived, sealed_derived, unsealed_derived}
 
 -- a result made of capabilities: derived from the first source or from the program counter, or untagged
 pub result_puts : (i : Image) (s : State) (t m n : ℕ) (k : Instr) → Partitioned i → Confined i s → s.running ≡ Some t → is_native (root i (thread s t).pcc.shadow.root).origin ≡ false

@@ -1,57 +1,61 @@
-//! Laws of events and of runs: whatever an event, or a list of them, does keeps a state confined, with what stands
-//! beside, and each deed and each span with interrupts off that it tells is licensed. They speak of the written machine
-//! alone.
+//! Laws of events and of runs: whatever an event, or a list of them, does, native routines and error handlers among it,
+//! keeps a state confined, with what stands beside, and each deed and each span with interrupts off that it tells is
+//! licensed. They speak of the written machine alone.
 #![tactic(auto)]
 
-ghost use Rattle.std.specs.Prelude.{◌≡◌, List, Option, Some};
+mod blank;
+mod fresh;
+mod handlers;
+mod natives;
+mod shut;
+
+ghost use Rattle.std.specs.Prelude.{◌≡◌, List, Some};
 ghost use Rattle.ct_entry.specs.declared.acts.Deed.{Deed};
 ghost use Rattle.ct_entry.specs.declared.acts.Owned.{Owned};
 ghost use Rattle.def_machine.specs.State.{State};
 ghost use Rattle.def_step.specs.declared.Event.{Event};
-ghost use Rattle.def_machine.specs.Board.{Board};
-ghost use Rattle.def_step.specs.Events.{happens, one_more_step, preempted, run, scheduled, happenings_of};
-ghost use Rattle.def_board.specs.Wired.{Wired};
-ghost use Rattle.def_facts.specs.Facts.{Facts};
+ghost use Rattle.def_machine.specs.Platform.{Platform};
+ghost use Rattle.def_step.specs.Events.{happens, run, happenings_of};
+ghost use Rattle.def_safety.specs.Wired.{Wired};
+ghost use Rattle.def_confined.specs.Facts.{Facts};
 ghost use Rattle.def_confined.specs.Keeps.{Keeps};
 ghost use Rattle.def_confined.specs.Partitioned.{Partitioned};
 ghost use Rattle.def_confined.specs.Licensed.{Licensed, OffLicensed};
 ghost use Rattle.def_confined.specs.Telling.{AllLicensed};
 
+pub use blank::{events_blank, heap_reads_zero};
+pub use fresh::fresh_objects;
+pub use handlers::{handler_move, handlers_begin};
+pub use natives::{entries_clean, objects_fresh, returns_clean, routines_stand};
+pub use shut::accesses_seen;
+
 /// Every event, lawful or not, keeps a state confined, and what stands beside.
 pub fn events_confined()
-    ensures { (b : Board) (s : State) (e : Event)
+    ensures { (b : Platform) (s : State) (e : Event)
         → Partitioned b.image → Facts b.image → Wired b → Keeps b.image s
         → Keeps b.image (happens b s e).0 }
 {}
 
-/// So is the state in which the thread of a step carries on: the running one may have stopped, and another been picked.
-/// What an instruction or a native routine takes of a confined state, it has there.
-pub fn steps_confined()
-    ensures { (b : Board) (s : State)
-        → Partitioned b.image → Keeps b.image s
-        → Keeps b.image (scheduled b (preempted (one_more_step s))) }
-{}
-
 /// The deed of an event, and the span with interrupts off that begins with it, are licensed.
 pub fn events_licensed()
-    ensures deeds { (b : Board) (s : State) (e : Event) (d : Deed)
+    ensures deeds { (b : Platform) (s : State) (e : Event) (d : Deed)
         → Partitioned b.image → Facts b.image → Wired b → Keeps b.image s
         → (happens b s e).1.deed ≡ Some d → Licensed b.image.entries d }
-    ensures spans { (b : Board) (s : State) (e : Event) (o : Owned)
+    ensures spans { (b : Platform) (s : State) (e : Event) (o : Owned)
         → Partitioned b.image → Facts b.image → Wired b → Keeps b.image s
         → (happens b s e).1.off ≡ Some o → OffLicensed b.image.entries o }
 {}
 
 /// Any list of events, lawful or not, keeps a state confined, and what stands beside.
 pub fn runs_confined()
-    ensures { (b : Board) (s : State) (es : List Event)
+    ensures { (b : Platform) (s : State) (es : List Event)
         → Partitioned b.image → Facts b.image → Wired b → Keeps b.image s
         → Keeps b.image (run b s es) }
 {}
 
 /// Each deed, and each span with interrupts off, that a list of events tells is licensed.
 pub fn runs_licensed()
-    ensures { (b : Board) (s : State) (es : List Event)
+    ensures { (b : Platform) (s : State) (es : List Event)
         → Partitioned b.image → Facts b.image → Wired b → Keeps b.image s
         → AllLicensed b.image.entries (happenings_of b s es) }
 {}

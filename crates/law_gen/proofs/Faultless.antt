@@ -8,17 +8,17 @@ use Rattle.std.specs.Int.{is_in_range}
 use Rattle.serde_json.specs.Data.{Data}
 use Rattle.serde_json.specs.View.{items_of}
 use Rattle.def_profile.specs.declared.limits.TheConstants.{MOST_BYTES}
-use Rattle.def_description.specs.declared.faults.PartWord.TheVariants as part
-use Rattle.def_description.specs.Members.{list_of}
-use Rattle.def_description.specs.Reading.{description_of}
-use Rattle.def_description.specs.Tables.{members_of, outer_lists, inner_lists, kind_of}
-use Rattle.def_description.specs.Walk.{Spot, spot, place, each_from, spots_of}
-use Rattle.def_description.specs.Kinds.{has_kinds, has_only}
-use Rattle.def_description.specs.Names.{is_well_named, no_names, first_twice}
-use Rattle.def_description.specs.Limits.{keeps_limits}
-use Rattle.def_description.specs.References.{refers_at, rights_fit_at, is_served_at}
-use Rattle.def_description.specs.Addresses.{address_fault}
-use Rattle.def_description.specs.WellFormed.{first_failing, first_fault, fault_of}
+use Rattle.def_desc.specs.declared.faults.PartWord.TheVariants as part
+use Rattle.def_desc.specs.Members.{list_of}
+use Rattle.def_desc.specs.Reading.{description_of}
+use Rattle.def_desc.specs.Tables.{members_of, outer_lists, inner_lists, kind_of}
+use Rattle.def_desc.specs.Walk.{Spot, spot, place, each_from, spots_of}
+use Rattle.def_desc.specs.Kinds.{has_kinds, has_only}
+use Rattle.def_desc.specs.Names.{is_well_named, no_names, first_twice}
+use Rattle.def_desc.specs.Limits.{keeps_limits}
+use Rattle.def_desc.specs.References.{refers_at, rights_fit_at, is_served_at}
+use Rattle.def_desc.specs.Addresses.{address_fault}
+use Rattle.def_desc.specs.WellFormed.{first_failing, first_fault, fault_of}
 use Rattle.def_gen.specs.Numbers.{count_of, chosen, globals_of, passes_data, is_last}
 use Rattle.def_gen.specs.Description.{compartment_name, firmware_over, list, ram, port, thread_json, compartments, firmware}
 use Rattle.law_gen.proofs.Lists.{list_items, both, none_fails, none_or, all_own}

@@ -3,3 +3,8 @@ pub mod Named
 pub mod Owned
 pub mod Twice
 pub mod Faultless
+pub mod Read
+pub mod Built
+pub mod Room
+pub mod Linking
+pub mod Short

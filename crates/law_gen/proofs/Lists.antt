@@ -6,13 +6,13 @@ use Rattle.std.proofs.lemmas.List.Folds.{list_all-append}
 use Rattle.law_lists.proofs.Tests.{both_left, both_right}
 use Rattle.serde_json.specs.Data.{Data}
 use Rattle.serde_json.specs.View.{items_of}
-use Rattle.def_description.specs.declared.faults.PartWord.TheVariants as part
-use Rattle.def_description.specs.declared.faults.Fault.{Fault}
-use Rattle.def_description.specs.declared.faults.Place.{Place}
-use Rattle.def_description.specs.Members.{list_of}
-use Rattle.def_description.specs.Tables.{inner_lists}
-use Rattle.def_description.specs.Walk.{Spot, spot, place, inside, each_from}
-use Rattle.def_description.specs.WellFormed.{first_failing, fault_or}
+use Rattle.def_desc.specs.declared.faults.PartWord.TheVariants as part
+use Rattle.def_desc.specs.declared.faults.Fault.{Fault}
+use Rattle.def_desc.specs.declared.faults.Place.{Place}
+use Rattle.def_desc.specs.Members.{list_of}
+use Rattle.def_desc.specs.Tables.{inner_lists}
+use Rattle.def_desc.specs.Walk.{Spot, spot, place, inside, each_from}
+use Rattle.def_desc.specs.WellFormed.{first_failing, fault_or}
 
 pub list_items : (ds : List Data) → list_of (items_of ds) ≡ ds
 list_items [] = refl

@@ -7,8 +7,8 @@ use Rattle.std.proofs.lemmas.Bool.{agree_below_at, false_from_ne_true, or_from}
 use Rattle.std.proofs.lemmas.Fmt.{decimal_injective}
 use Rattle.std.proofs.lemmas.List.Folds.{list_any-append}
 use Rattle.std.proofs.lemmas.Slice.Eq.{bytes_eq-Decides}
-use Rattle.def_names.specs.Names.{is_name, among, with_name}
-use Rattle.def_description.specs.Limits.{keeps_file}
+use Rattle.def_texts.specs.Names.{is_name, among, with_name}
+use Rattle.def_desc.specs.Limits.{keeps_file}
 use Rattle.def_gen.specs.Description.{compartment_name, file_name}
 
 pub names_formed : (i : ℕ) → i < 64 → is_name (compartment_name i) ≡ true

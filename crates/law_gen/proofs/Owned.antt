@@ -7,15 +7,15 @@ use Rattle.std.proofs.lemmas.Bool.{and_from, or_left, or_right, cases_eq}
 use Rattle.std.proofs.lemmas.Slice.Eq.{bytes_eq-Decides}
 use Rattle.std.specs.Int.{is_in_range}
 use Rattle.serde_json.specs.Data.{Data}
-use Rattle.def_names.specs.Names.{is_name, among}
+use Rattle.def_texts.specs.Names.{is_name, among}
 use Rattle.def_profile.specs.declared.limits.TheConstants.{MOST_BYTES}
-use Rattle.def_description.specs.declared.faults.PartWord.TheVariants as part
-use Rattle.def_description.specs.Tables.{members_of, inner_lists, kind_of, posture_of, passes_of, service_of, form_names, righted_names, code_names, device_rights, shared_rights}
-use Rattle.def_description.specs.Walk.{spot, place, inside}
-use Rattle.def_description.specs.Kinds.{has_kinds, has_only}
-use Rattle.def_description.specs.Names.{is_well_named}
-use Rattle.def_description.specs.Limits.{keeps_limits, keeps_file}
-use Rattle.def_description.specs.References.{refers_at, rights_fit_at, is_served_at, exports_in, exports_at}
+use Rattle.def_desc.specs.declared.faults.PartWord.TheVariants as part
+use Rattle.def_desc.specs.Tables.{members_of, inner_lists, kind_of, posture_of, passes_of, service_of, form_names, righted_names, code_names, device_rights, shared_rights}
+use Rattle.def_desc.specs.Walk.{spot, place, inside}
+use Rattle.def_desc.specs.Kinds.{has_kinds, has_only}
+use Rattle.def_desc.specs.Names.{is_well_named}
+use Rattle.def_desc.specs.Limits.{keeps_limits, keeps_file}
+use Rattle.def_desc.specs.References.{refers_at, rights_fit_at, is_served_at, exports_in, exports_at}
 use Rattle.def_gen.specs.Description.{compartment_with, compartment_name, file_name, entry_name, firmware_over, list}
 use Rattle.law_gen.proofs.Lists.{front, own_spots, list_items}
 

@@ -3,11 +3,11 @@ use Rattle.std.proofs.Common.{ℕ, zero, suc, ◌≡◌, ◌+◌, ◌≤◌, Boo
 use Rattle.std.specs.List.{range_with_len}
 use Rattle.std.proofs.lemmas.List.FromFn.{map-range_with_len_more}
 use Rattle.serde_json.specs.Data.{Data}
-use Rattle.def_names.specs.Names.{among}
-use Rattle.def_description.specs.declared.faults.PartWord.TheVariants as part
-use Rattle.def_description.specs.Tables.{inner_lists}
-use Rattle.def_description.specs.Names.{Spaces, name_of, space_of, joined, first_twice}
-use Rattle.def_description.specs.Walk.{Spot, spot, place, inside, each_from}
+use Rattle.def_texts.specs.Names.{among}
+use Rattle.def_desc.specs.declared.faults.PartWord.TheVariants as part
+use Rattle.def_desc.specs.Tables.{inner_lists}
+use Rattle.def_desc.specs.Names.{Spaces, name_of, space_of, joined, first_twice}
+use Rattle.def_desc.specs.Walk.{Spot, spot, place, inside, each_from}
 use Rattle.def_gen.specs.Description.{compartment_with, compartment_name, thread_json}
 use Rattle.law_gen.proofs.Lists.{own_spots}
 use Rattle.law_gen.proofs.Named.{new_name, not_first, not_second, not_after, added}

@@ -1,10 +1,14 @@
-//! That the generated firmware is well-formed, whatever number it is generated from. A function with an
-//! empty body whose contract is the law.
+//! Laws of the generated firmware: it is well-formed and can be linked, whatever number it is generated from. Functions
+//! with empty bodies whose contracts are the laws.
 #![tactic(auto)]
 
+mod gen_links;
+
 ghost use Rattle.std.specs.Prelude.{◌≡◌, None, ℕ};
-ghost use Rattle.def_description.specs.WellFormed.{fault_of};
+ghost use Rattle.def_desc.specs.WellFormed.{fault_of};
 ghost use Rattle.def_gen.specs.Description.{firmware};
+
+pub use gen_links::generated_links;
 
 /// The description of a generated firmware has no fault.
 pub fn generated_is_well_formed()

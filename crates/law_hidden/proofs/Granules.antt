@@ -13,7 +13,7 @@ use Rattle.def_machine.specs.Image.{Image}
 use Rattle.def_machine.specs.State.{State}
 use Rattle.def_hidden.specs.Hidden.{Blank, is_hidden}
 use Rattle.def_areas.specs.Touches.{Touches}
-use Rattle.law_hidden.specs.Hiding.{hide, with_hidden_from, with_hidden}
+use Rattle.def_hidden.specs.Hiding.{hide, with_hidden_from, with_hidden}
 
 from_at : (hides : ℕ → Bool) (p : ℕ) (gs : List Granule) (k : ℕ) → granule_at (with_hidden_from hides p gs) k ≡ hide (hides (p + k)) (granule_at gs k)
 from_at hides p [] k = elim (bool_tells (hides (p + k))) [ inl e ↦ rw e refl | inr e ↦ rw e refl ]

@@ -10,11 +10,11 @@ use Rattle.def_memory.specs.Ranges.{zeroed_from, marked_from}
 use Rattle.def_machine.specs.State.{Object}
 use Rattle.def_machine.specs.Objects.{placed_among}
 use Rattle.def_hidden.specs.Hidden.{is_live_at}
-use Rattle.law_hidden.specs.Hiding.{hide, with_hidden}
+use Rattle.def_hidden.specs.Hiding.{hide, with_hidden}
 pub use Rattle.law_hidden.proofs.Live.{covers, covers_tells, among_live}
 use Rattle.law_hidden.proofs.Granules.{with_hidden_length, with_hidden_at, with_hidden_is, appears}
-use Rattle.law_hidden.specs.Heaped.{hides_heap}
-use Rattle.law_hidden.specs.Objects.{SeenAt, Appears, Vanishes}
+use Rattle.def_chunks.specs.Hides.{hides_heap}
+use Rattle.def_chunks.specs.LiveObjects.{SeenAt, Appears, Vanishes}
 
 -- ---- what is live, with an object more
 

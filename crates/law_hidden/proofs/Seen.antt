@@ -4,7 +4,7 @@ use Rattle.def_words.specs.declared.Cap.{Cap}
 use Rattle.def_memory.specs.declared.Granule.{Granule}
 use Rattle.def_memory.specs.Granules.{granule_at}
 use Rattle.def_memory.specs.Granules.{holding, holding_all}
-use Rattle.law_hidden.specs.Hiding.{with_hidden}
+use Rattle.def_hidden.specs.Hiding.{with_hidden}
 use Rattle.law_hidden.proofs.Granules.{seen_at, set_seen}
 
 pub held_seen : (h : ℕ → Bool) (gs : List Granule) (k : ℕ) (cs : List Cap) → ((j : ℕ) → k ≤ j → j < k + length cs → h j ≡ false) → holding_all (with_hidden h gs) k cs ≡ with_hidden h (holding_all gs k cs)

@@ -8,9 +8,9 @@ use Rattle.def_hidden.specs.Hidden.{is_live_at}
 use Rattle.def_chunks.specs.Chunks.{Starts}
 use Rattle.def_chunks.specs.Tiles.{chunks}
 use Rattle.def_chunks.specs.Heaps.{HeapRow, objects_of, Laid}
-use Rattle.law_chunks.specs.Kept.{KeepsHeap}
+use Rattle.def_chunks.specs.Kept.{KeepsHeap}
 use Rattle.law_chunks.proofs.Kept.{head_there, heads_kept, head_not_live}
-use Rattle.law_hidden.specs.Heaped.{hides_heap, heap_hides}
+use Rattle.def_chunks.specs.Hides.{hides_heap, heap_hides}
 
 -- a head is hidden
 pub head_hidden : (h : HeapRow) (gs : List Granule) (p : ℕ) → Laid h gs → Starts p h.range.base (chunks h.range gs) → heap_hides h gs ((p - h.range.ram) / 8) ≡ true

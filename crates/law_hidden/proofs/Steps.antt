@@ -11,11 +11,11 @@ use Rattle.def_words.specs.Capability.{integer, untagged}
 use Rattle.def_instr.specs.declared.Instr.{Instr}
 use Rattle.def_machine.specs.Memory.{filtered_in, is_marked_in}
 use Rattle.def_step.specs.declared.Access.{Access}
-use Rattle.def_step.specs.Accesses.{Space, Accessed, access_of, access_address, access_result, access_checks, accessed, in_ram, on_device, is_ram, ram_value, ram_stored, widened, unless}
+use Rattle.def_step.specs.Accesses.{MemoryAndDevices, Accessed, access_of, access_address, access_result, access_checks, accessed, in_ram, on_device, is_ram, ram_value, ram_stored, widened, unless}
 use Rattle.def_step.specs.Checks.{first_failed}
 use Rattle.def_step.specs.Instructions.{next_at, fetched}
-use Rattle.law_hidden.specs.Hiding.{with_hidden}
-use Rattle.law_hidden.specs.Steps.{hide_space, hide_accessed, hide_result}
+use Rattle.def_hidden.specs.Hiding.{with_hidden}
+use Rattle.def_safety.specs.HiddenSteps.{hide_space, hide_accessed, hide_result}
 use Rattle.law_hidden.proofs.Granules.{with_hidden_length, mark_seen, load_cap_seen, load_seen, store_cap_seen, store_seen}
 
 pub marked_same : (h : ℕ → Bool) (ram : ℕ) (gs : List Granule) (x : ℕ) → is_marked_in ram (with_hidden h gs) x ≡ is_marked_in ram gs x
@@ -38,7 +38,7 @@ stored_same h a x y at ram gs open_ = by_whole a.whole
     by_whole true = store_cap_seen h gs (at - ram) (stored_through x y) open_
     by_whole false = store_seen h gs (at - ram) a.width (cap_address y) open_
 
-in_ram_same : (h : ℕ → Bool) (a : Access) (x y : Cap) (at : ℕ) (p : Space) → h ((at - p.ram) / 8) ≡ false → in_ram a x y at (hide_space h p) ≡ hide_accessed h (in_ram a x y at p)
+in_ram_same : (h : ℕ → Bool) (a : Access) (x y : Cap) (at : ℕ) (p : MemoryAndDevices) → h ((at - p.ram) / 8) ≡ false → in_ram a x y at (hide_space h p) ≡ hide_accessed h (in_ram a x y at p)
 in_ram_same h a x y at p open_ = by_loads a.loads
   where
     by_loads : (b : Bool) → (if b then (let m : Accessed = record { value = Some (ram_value a x at p.ram (with_hidden h p.granules)); act = None; granules = with_hidden h p.granules; bank = p.bank } in m) else record { value = None; act = None; granules = ram_stored a x y at p.ram (with_hidden h p.granules); bank = p.bank })
@@ -46,10 +46,10 @@ in_ram_same h a x y at p open_ = by_loads a.loads
     by_loads true = ap (λ v. let m : Accessed = record { value = Some v; act = None; granules = with_hidden h p.granules; bank = p.bank } in m) (value_same h a x at p.ram p.granules open_)
     by_loads false = ap (λ gs. let m : Accessed = record { value = None; act = None; granules = gs; bank = p.bank } in m) (stored_same h a x y at p.ram p.granules open_)
 
-on_device_same : (h : ℕ → Bool) (a : Access) (x y : Cap) (at : ℕ) (p : Space) → on_device a x y at (hide_space h p) ≡ hide_accessed h (on_device a x y at p)
+on_device_same : (h : ℕ → Bool) (a : Access) (x y : Cap) (at : ℕ) (p : MemoryAndDevices) → on_device a x y at (hide_space h p) ≡ hide_accessed h (on_device a x y at p)
 on_device_same h a x y at p = elim (bool_tells a.loads) [ inl e ↦ rw e refl | inr e ↦ rw e refl ]
 
-accessed_same : (h : ℕ → Bool) (a : Access) (x y : Cap) (at : ℕ) (p : Space) → (p.ram ≤ at → h ((at - p.ram) / 8) ≡ false) → accessed a x y at (hide_space h p) ≡ hide_accessed h (accessed a x y at p)
+accessed_same : (h : ℕ → Bool) (a : Access) (x y : Cap) (at : ℕ) (p : MemoryAndDevices) → (p.ram ≤ at → h ((at - p.ram) / 8) ≡ false) → accessed a x y at (hide_space h p) ≡ hide_accessed h (accessed a x y at p)
 accessed_same h a x y at p open_ =
     let size : is_ram (hide_space h p) at a.width ≡ is_ram p at a.width = rw (with_hidden_length h p.granules) refl in
     elim (bool_tells (is_ram p at a.width)) [
@@ -57,7 +57,7 @@ accessed_same h a x y at p open_ =
       | inr e ↦ rw (size, e) (on_device_same h a x y at p)
     ]
 
-pub access_same : (h : ℕ → Bool) (k : Instr) (x y : Cap) (p : Space) → (first_failed (access_checks (access_of k) x y (access_address (access_of k) x)) ≡ None → p.ram ≤ access_address (access_of k) x → h ((access_address (access_of k) x - p.ram) / 8) ≡ false)
+pub access_same : (h : ℕ → Bool) (k : Instr) (x y : Cap) (p : MemoryAndDevices) → (first_failed (access_checks (access_of k) x y (access_address (access_of k) x)) ≡ None → p.ram ≤ access_address (access_of k) x → h ((access_address (access_of k) x - p.ram) / 8) ≡ false)
     → access_result k x y (hide_space h p) ≡ hide_result h (access_result k x y p)
 unfolding access_result
 access_same h k x y p open_ = by_checks (first_failed (access_checks (access_of k) x y (access_address (access_of k) x))) open_
@@ -67,7 +67,7 @@ access_same h k x y p open_ = by_checks (first_failed (access_checks (access_of 
     by_checks None see = ap (λ m. Ok m) (accessed_same h (access_of k) x y (access_address (access_of k) x) p (see refl))
     by_checks (Some t) see = refl
 
-fetched_same : (h : ℕ → Bool) (p : Space) (at : ℕ) → (p.ram ≤ at → h ((at - p.ram) / 8) ≡ false) → fetched (hide_space h p) at ≡ fetched p at
+fetched_same : (h : ℕ → Bool) (p : MemoryAndDevices) (at : ℕ) → (p.ram ≤ at → h ((at - p.ram) / 8) ≡ false) → fetched (hide_space h p) at ≡ fetched p at
 fetched_same h p at open_ =
     let size = with_hidden_length h p.granules in
     rw size (elim (le_tells p.ram at) [
@@ -75,5 +75,5 @@ fetched_same h p at open_ =
       | inr e ↦ rw e.0 refl
     ])
 
-pub next_same : (h : ℕ → Bool) (p : Space) (at : ℕ) → (p.ram ≤ at → h ((at - p.ram) / 8) ≡ false) → next_at (hide_space h p) at ≡ next_at p at
+pub next_same : (h : ℕ → Bool) (p : MemoryAndDevices) (at : ℕ) → (p.ram ≤ at → h ((at - p.ram) / 8) ≡ false) → next_at (hide_space h p) at ≡ next_at p at
 next_same h p at open_ = rw (fetched_same h p at open_) refl

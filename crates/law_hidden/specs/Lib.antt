@@ -1,4 +1,0 @@
-pub mod Hiding
-pub mod Steps
-pub mod Heaped
-pub mod Objects

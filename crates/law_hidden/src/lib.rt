@@ -15,17 +15,17 @@ ghost use Rattle.def_instr.specs.declared.Instr.{Instr};
 ghost use Rattle.def_machine.specs.Image.{Image};
 ghost use Rattle.def_machine.specs.Memory.{filtered_in, is_marked_in};
 ghost use Rattle.def_machine.specs.State.{State, Object};
-ghost use Rattle.def_step.specs.Accesses.{Space, access_result};
+ghost use Rattle.def_step.specs.Accesses.{MemoryAndDevices, access_result};
 ghost use Rattle.def_step.specs.Instructions.{next_at};
 ghost use Rattle.def_hidden.specs.Hidden.{Blank, is_hidden};
 ghost use Rattle.def_areas.specs.Touches.{Touches};
-ghost use Rattle.law_hidden.specs.Hiding.{hide, with_hidden};
-ghost use Rattle.law_hidden.specs.Steps.{hide_space, hide_result, IsSeen, SeesAccess};
+ghost use Rattle.def_hidden.specs.Hiding.{hide, with_hidden};
+ghost use Rattle.def_safety.specs.HiddenSteps.{hide_space, hide_result, IsSeen, SeesAccess};
 ghost use Rattle.def_areas.specs.Areas.{frames_from};
 ghost use Rattle.def_chunks.specs.Heaps.{HeapRow, Laid};
-ghost use Rattle.law_chunks.specs.Kept.{KeepsHeap};
-ghost use Rattle.law_hidden.specs.Heaped.{hides_heap, heap_hides};
-ghost use Rattle.law_hidden.specs.Objects.{Appears, Vanishes};
+ghost use Rattle.def_chunks.specs.Kept.{KeepsHeap};
+ghost use Rattle.def_chunks.specs.Hides.{hides_heap, heap_hides};
+ghost use Rattle.def_chunks.specs.LiveObjects.{Appears, Vanishes};
 ghost use Rattle.def_machine.specs.Slices.{filtered_between, kept_granules, kept_frames, kept_registers};
 
 /// Hiding leaves how many granules there are, each granule that isn't hidden, and each mark; of one that is hidden
@@ -79,9 +79,10 @@ pub fn filter_with_hidden()
 /// A load, a store and a fetch of what isn't hidden are the same with hidden granules as without: the same trap, or the
 /// same value and deed, and what it leaves of memory has them hidden too.
 pub fn steps_with_hidden()
-    ensures access { (h : ℕ → Bool) (i : Instr) (x y : Cap) (p : Space) → SeesAccess h p.ram i x y
+    ensures access { (h : ℕ → Bool) (i : Instr) (x y : Cap) (p : MemoryAndDevices)
+        → SeesAccess h p.ram i x y
         → access_result i x y (hide_space h p) ≡ hide_result h (access_result i x y p) }
-    ensures fetch { (h : ℕ → Bool) (p : Space) (at : ℕ) → IsSeen h p.ram at
+    ensures fetch { (h : ℕ → Bool) (p : MemoryAndDevices) (at : ℕ) → IsSeen h p.ram at
         → next_at (hide_space h p) at ≡ next_at p at }
 {}
 

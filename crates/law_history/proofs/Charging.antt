@@ -10,7 +10,7 @@ use Rattle.def_machine.specs.Image.{Image}
 use Rattle.def_machine.specs.State.{State, Object}
 use Rattle.def_machine.specs.Heap.{with_object, object_cap}
 use Rattle.def_machine.specs.Objects.{charges}
-use Rattle.def_machine.specs.Board.{Board}
+use Rattle.def_machine.specs.Platform.{Platform}
 use Rattle.def_confined.specs.Confined.{Confined, ObjectFits}
 use Rattle.def_confined.specs.Keeps.{Keeps}
 use Rattle.def_confined.specs.Partitioned.{Partitioned}
@@ -20,12 +20,12 @@ use Rattle.def_step.specs.Events.{stepped}
 use Rattle.def_step.specs.Quotas.{Made, allocation, quota_in, let_go}
 use Rattle.def_step.specs.Routines.{answers}
 use Rattle.def_step.specs.Tokens.{with_row, sealed_token}
-use Rattle.law_places.proofs.Rows.{each_take}
+use Rattle.law_moves.proofs.Rows.{each_take}
 use Rattle.law_routines.proofs.Leaving.{allocate_told, free_told, allocate_left, free_left, token_key_left, token_new_left, token_free_left}
 use Rattle.law_routines.proofs.Objects.{Found, made_says}
 use Rattle.law_events.proofs.Events.{ready_keeps}
-use Rattle.law_reuse.proofs.Charging.{gives_less, hands_more}
-use Rattle.law_reuse.proofs.Same.{ready_same}
+use Rattle.law_history.proofs.ReuseCharging.{gives_less, hands_more}
+use Rattle.law_history.proofs.Same.{ready_same}
 use Rattle.def_safety.specs.Charges.{ChargesMore, ChargesFollow}
 use Rattle.def_safety.specs.Each.{ready}
 use Rattle.law_history.proofs.Steps.{none_told}
@@ -109,19 +109,19 @@ module _ (i : Image) (s : State) (t : ℕ) (h : Confined i s) where
 
 -- ---- an event
 
-step_falls : (b : Board) (s : State) (d : Deed) (number base long live : ℕ) → Partitioned b.image → Keeps b.image s → d.act ≡ acts.Free number base long live → (stepped b s).1 ≡ Some d → Falls s (stepped b s).0 d.entry long live
+step_falls : (b : Platform) (s : State) (d : Deed) (number base long live : ℕ) → Partitioned b.image → Keeps b.image s → d.act ≡ acts.Free number base long live → (stepped b s).1 ≡ Some d → Falls s (stepped b s).0 d.entry long live
 step_falls b s d number base long live parts k act = free_told_case (λ (z : State). Falls s z d.entry long live) (FreeFalls (ready b s)) b s d number base long live
     (λ t. frees_fall b.image (ready b s) t (ready_keeps b s parts k).confined)
     act
     (λ z c so. (let falls = so d.entry number base long live refl in (subst (λ rs. ChargesMore z.objects rs d.entry long) (ready_same b s).objects falls.0, falls.1)))
 
-step_rises : (b : Board) (s : State) (d : Deed) (number base long live : ℕ) → Partitioned b.image → Keeps b.image s → d.act ≡ acts.Allocate number base long live → (stepped b s).1 ≡ Some d → Rises s (stepped b s).0 d.entry long live
+step_rises : (b : Platform) (s : State) (d : Deed) (number base long live : ℕ) → Partitioned b.image → Keeps b.image s → d.act ≡ acts.Allocate number base long live → (stepped b s).1 ≡ Some d → Rises s (stepped b s).0 d.entry long live
 step_rises b s d number base long live parts k act = allocate_told_case (λ (z : State). Rises s z d.entry long live) (AllocateRises (ready b s)) b s d number base long live
     (λ t. allocations_rise b.image (ready b s) t (ready_keeps b s parts k).confined)
     act
     (λ z c so. (let rises = so d.entry number base long live refl in (subst (λ rs. ChargesMore rs z.objects d.entry long) (ready_same b s).objects rises.0, rises.1)))
 
-pub charges_follow : (b : Board) (s : State) (e : Event) → Partitioned b.image → Keeps b.image s → ChargesFollow b s e
+pub charges_follow : (b : Platform) (s : State) (e : Event) → Partitioned b.image → Keeps b.image s → ChargesFollow b s e
 charges_follow b s Step parts k = record {
   frees = λ d number base long live is act. step_falls b s d number base long live parts k act is;
   allocates = λ d number base long live is act. step_rises b s d number base long live parts k act is;

@@ -8,19 +8,19 @@ use Rattle.def_machine.specs.Image.{Image, root, stack_base}
 use Rattle.def_words.specs.declared.Trap.{Trap}
 use Rattle.def_step.specs.Handlers.{is_handled, handler_entered, trap_taken}
 use Rattle.def_safety.specs.Handlers.{HandlerBegins}
-use Rattle.law_handlers.proofs.Whole.{handler_begins}
+use Rattle.law_events.proofs.Whole.{handler_begins}
 use Rattle.def_machine.specs.State.{State, Thread, Frame, Counts, thread, nobody}
 use Rattle.def_machine.specs.Frames.{unwound}
 use Rattle.def_confined.specs.Keeps.{Keeps}
 use Rattle.def_confined.specs.Partitioned.{Partitioned}
-use Rattle.def_facts.specs.Facts.{Facts}
+use Rattle.def_confined.specs.Facts.{Facts}
 use Rattle.def_step.specs.declared.Event.{Event}
 use Rattle.def_step.specs.declared.Event.TheVariants.{Step, Tick, Sweep, Input}
 use Rattle.def_step.specs.Events.{noted, with_deed, stepped}
 use Rattle.def_step.specs.Instructions.{executed}
-use Rattle.def_machine.specs.Board.{Board}
+use Rattle.def_machine.specs.Platform.{Platform}
 use Rattle.def_safety.specs.Clean.{CleanEntry, CleanReturn}
-use Rattle.law_natives.proofs.Cleans.{enters_clean, unwind_clean, switched_thread}
+use Rattle.law_events.proofs.Cleans.{enters_clean, unwind_clean, switched_thread}
 use Rattle.law_events.proofs.Events.{ready_keeps}
 use Rattle.def_safety.specs.Each.{ready}
 use Rattle.def_safety.specs.Calls.{CleanEvent, HandsPlain, enters_handler}
@@ -38,7 +38,7 @@ counted_return i s t f z c h = record { results = h.results; pcc = h.pcc; regist
 
 -- ---- a step
 
-step_enters : (b : Board) (s : State) (d : Deed) (export : ℕ) → Partitioned b.image → Facts b.image → Keeps b.image s → d.act ≡ acts.Call export → (root b.image export).passes ≡ false → (stepped b s).1 ≡ Some d → CleanEntry b.image (ready b s) d.thread export (stepped b s).0
+step_enters : (b : Platform) (s : State) (d : Deed) (export : ℕ) → Partitioned b.image → Facts b.image → Keeps b.image s → d.act ≡ acts.Call export → (root b.image export).passes ≡ false → (stepped b s).1 ≡ Some d → CleanEntry b.image (ready b s) d.thread export (stepped b s).0
 step_enters b s d export parts facts k act plain_one = step_case (λ (r : State × Option Deed). r.1 ≡ Some d → CleanEntry b.image (ready b s) d.thread export r.0) b s
     (λ idle e. none_told d e)
     (λ t runs e. at t runs (executed_tells b (ready b s) t d e))
@@ -50,7 +50,7 @@ step_enters b s d export parts facts k act plain_one = step_case (λ (r : State 
         counted_entry b.image (ready b s) d.thread export (executed b (ready b s) t).0 (with_deed (executed b (ready b s) t).0.counts (executed b (ready b s) t).1)
         (subst (λ u. CleanEntry b.image (ready b s) u export (executed b (ready b s) t).0) (sym told.thread) clean)
 
-step_leaves : (b : Board) (s : State) (t : ℕ) (f g : Frame) (gs : List Frame) → (ready b s).running ≡ Some t → (thread (ready b s) t).frames ≡ f ∷ g ∷ gs → HandsPlain b f → (thread (stepped b s).0 t).frames ≡ g ∷ gs → CleanReturn b.image (ready b s) t f (stepped b s).0
+step_leaves : (b : Platform) (s : State) (t : ℕ) (f g : Frame) (gs : List Frame) → (ready b s).running ≡ Some t → (thread (ready b s) t).frames ≡ f ∷ g ∷ gs → HandsPlain b f → (thread (stepped b s).0 t).frames ≡ g ∷ gs → CleanReturn b.image (ready b s) t f (stepped b s).0
 step_leaves b s t f g gs runs before plain_one = step_case (λ (r : State × Option Deed). (thread r.0 t).frames ≡ g ∷ gs → CleanReturn b.image (ready b s) t f r.0) b s
     (λ idle after. absurd (let clash : None ≡ Some t = sym idle ∙ runs in cc))
     (λ u is. (let both : Some t ≡ Some u = sym runs ∙ is in let same : t ≡ u = cc in subst (λ n. (thread (noted (executed b (ready b s) n)).0 t).frames ≡ g ∷ gs → CleanReturn b.image (ready b s) t f (noted (executed b (ready b s) n)).0) same own))
@@ -71,7 +71,7 @@ counted_begin : (i : Image) (s : State) (t : ℕ) (f : Frame) (fs : List Frame) 
 counted_begin i s t f fs z c h = record { pcc = h.pcc; tagged = h.tagged; registers = h.registers; posture = h.posture; frames = h.frames; untagged = h.untagged; marks = h.marks; rest = h.rest }
 
 -- what is so of the state that a trap led to is so of what the step left
-step_trap : (P : State → Type 0) (b : Board) (s : State) (d : Deed) (cause code register : ℕ) → d.act ≡ acts.Trap cause code register → (stepped b s).1 ≡ Some d
+step_trap : (P : State → Type 0) (b : Platform) (s : State) (d : Deed) (cause code register : ℕ) → d.act ≡ acts.Trap cause code register → (stepped b s).1 ≡ Some d
     → ((z : State) (c : Counts) → P z → P (record z { counts = c }))
     → P (trap_taken b.image (ready b s) d.thread (record { cause = cause; code = code; register = register }) (thread (ready b s) d.thread).frames) → P (stepped b s).0
 step_trap P b s d cause code register act told counted h = step_case (λ (r : State × Option Deed). r.1 ≡ Some d → P r.0) b s
@@ -85,14 +85,14 @@ step_trap P b s d cause code register act told counted h = step_case (λ (r : St
         let here : P (trap_taken b.image (ready b s) t (record { cause = cause; code = code; register = register }) (thread (ready b s) t).frames) = subst (λ u. P (trap_taken b.image (ready b s) u (record { cause = cause; code = code; register = register }) (thread (ready b s) u).frames)) tells.thread h in
         counted (executed b (ready b s) t).0 (with_deed (executed b (ready b s) t).0.counts (executed b (ready b s) t).1) (subst (λ (z : State). P z) (sym by) here)
 
-step_unwinds : (b : Board) (s : State) (d : Deed) (cause code register : ℕ) (f g : Frame) (gs : List Frame) → d.act ≡ acts.Trap cause code register → (thread (ready b s) d.thread).frames ≡ f ∷ g ∷ gs → enters_handler b (ready b s) d.thread f ≡ false → (stepped b s).1 ≡ Some d → CleanReturn b.image (ready b s) d.thread f (stepped b s).0
+step_unwinds : (b : Platform) (s : State) (d : Deed) (cause code register : ℕ) (f g : Frame) (gs : List Frame) → d.act ≡ acts.Trap cause code register → (thread (ready b s) d.thread).frames ≡ f ∷ g ∷ gs → enters_handler b (ready b s) d.thread f ≡ false → (stepped b s).1 ≡ Some d → CleanReturn b.image (ready b s) d.thread f (stepped b s).0
 step_unwinds b s d cause code register f g gs act frames not told = step_trap (CleanReturn b.image (ready b s) d.thread f) b s d cause code register act told (counted_return b.image (ready b s) d.thread f)
     (let why : Trap = record { cause = cause; code = code; register = register } in
     subst (λ (fs : List Frame). CleanReturn b.image (ready b s) d.thread f (trap_taken b.image (ready b s) d.thread (record { cause = cause; code = code; register = register }) fs)) (sym frames)
     (subst (λ (z : State). CleanReturn b.image (ready b s) d.thread f z) (sym (unwound_case b.image (ready b s) d.thread (record { cause = cause; code = code; register = register }) f (g ∷ gs) not))
     (unwind_clean b.image (ready b s) d.thread f g gs frames)))
 
-step_handles : (b : Board) (s : State) (d : Deed) (cause code register : ℕ) (f : Frame) (fs : List Frame) → Partitioned b.image → Facts b.image → Keeps b.image s → d.act ≡ acts.Trap cause code register → (thread (ready b s) d.thread).frames ≡ f ∷ fs → enters_handler b (ready b s) d.thread f ≡ true → (stepped b s).1 ≡ Some d → HandlerBegins b.image (ready b s) d.thread f fs (stepped b s).0
+step_handles : (b : Platform) (s : State) (d : Deed) (cause code register : ℕ) (f : Frame) (fs : List Frame) → Partitioned b.image → Facts b.image → Keeps b.image s → d.act ≡ acts.Trap cause code register → (thread (ready b s) d.thread).frames ≡ f ∷ fs → enters_handler b (ready b s) d.thread f ≡ true → (stepped b s).1 ≡ Some d → HandlerBegins b.image (ready b s) d.thread f fs (stepped b s).0
 step_handles b s d cause code register f fs parts facts k act frames is told = step_trap (HandlerBegins b.image (ready b s) d.thread f fs) b s d cause code register act told (counted_begin b.image (ready b s) d.thread f fs)
     (subst (λ (gs : List Frame). HandlerBegins b.image (ready b s) d.thread f fs (trap_taken b.image (ready b s) d.thread (record { cause = cause; code = code; register = register }) gs)) (sym frames)
     (subst (λ (z : State). HandlerBegins b.image (ready b s) d.thread f fs z) (sym (entered_case b.image (ready b s) d.thread (record { cause = cause; code = code; register = register }) f fs is))
@@ -100,7 +100,7 @@ step_handles b s d cause code register f fs parts facts k act frames is told = s
 
 -- ---- an event
 
-pub clean_event : (b : Board) (s : State) (e : Event) → Partitioned b.image → Facts b.image → Keeps b.image s → CleanEvent b s e
+pub clean_event : (b : Platform) (s : State) (e : Event) → Partitioned b.image → Facts b.image → Keeps b.image s → CleanEvent b s e
 clean_event b s Step parts facts k = record {
   enters = λ d export is act plain_one. step_enters b s d export parts facts k act plain_one is;
   leaves = λ t f g gs step runs before after plain_one. step_leaves b s t f g gs runs before plain_one after;
@@ -128,13 +128,13 @@ clean_event b s (Input n byte) parts facts k = record {
 
 -- ---- a trap of a thread's only frame
 
-step_ends : (b : Board) (s : State) (d : Deed) (cause code register : ℕ) (f : Frame) → d.act ≡ acts.Trap cause code register → (thread (ready b s) d.thread).frames ≡ f ∷ [] → enters_handler b (ready b s) d.thread f ≡ false → (stepped b s).1 ≡ Some d → (thread (stepped b s).0 d.thread).frames ≡ []
+step_ends : (b : Platform) (s : State) (d : Deed) (cause code register : ℕ) (f : Frame) → d.act ≡ acts.Trap cause code register → (thread (ready b s) d.thread).frames ≡ f ∷ [] → enters_handler b (ready b s) d.thread f ≡ false → (stepped b s).1 ≡ Some d → (thread (stepped b s).0 d.thread).frames ≡ []
 step_ends b s d cause code register f act frames not told = step_trap (λ z. (thread z d.thread).frames ≡ []) b s d cause code register act told (λ z c h. h)
     (subst (λ (fs : List Frame). (thread (trap_taken b.image (ready b s) d.thread (record { cause = cause; code = code; register = register }) fs) d.thread).frames ≡ []) (sym frames)
     (subst (λ (z : State). (thread z d.thread).frames ≡ []) (sym (unwound_case b.image (ready b s) d.thread (record { cause = cause; code = code; register = register }) f [] not))
     (ap (λ (u : Thread). u.frames) (switched_thread b.image (ready b s) d.thread f.top nobody None f [] frames))))
 
-pub last_ends : (b : Board) (s : State) (e : Event) → LastEnds b s e
+pub last_ends : (b : Platform) (s : State) (e : Event) → LastEnds b s e
 last_ends b s Step = λ d cause code register f is act frames not. step_ends b s d cause code register f act frames not is
 last_ends b s Tick = λ d cause code register f is act frames not. none_told d is
 last_ends b s Sweep = λ d cause code register f is act frames not. none_told d is

@@ -12,7 +12,7 @@ use Rattle.def_machine.specs.Frames.{returned, ended_with, unwound}
 use Rattle.def_machine.specs.Threads.{jumped, with_statuses}
 use Rattle.def_machine.specs.Heap.{with_object, quarantined}
 use Rattle.def_step.specs.Instructions.{Effect, put_done, executed}
-use Rattle.def_machine.specs.Board.{Board}
+use Rattle.def_machine.specs.Platform.{Platform}
 use Rattle.def_step.specs.Quotas.{let_go}
 use Rattle.def_step.specs.Tokens.{with_row}
 use Rattle.def_step.specs.Routines.{answers}
@@ -21,7 +21,7 @@ use Rattle.law_routines.proofs.Stepping.{Steps, IfDone, carried, executed_left}
 use Rattle.def_step.specs.Handlers.{handled, handler_entered}
 use Rattle.def_safety.specs.Calls.{HandsPlain}
 use Rattle.def_safety.specs.Clean.{CleanReturn}
-use Rattle.law_natives.proofs.Cleans.{back_clean, value_clean, unwind_clean}
+use Rattle.law_events.proofs.Cleans.{back_clean, value_clean, unwind_clean}
 
 -- the thread has at least so many frames
 abbrev pub Deep : ℕ → ℕ → State → Type 0
@@ -60,11 +60,11 @@ record Ended (s : State) (t : ℕ) (f g : Frame) (gs : List Frame) (z : State) :
   pub before : (thread s t).frames ≡ f ∷ g ∷ gs
   pub after : (thread z t).frames ≡ g ∷ gs
 
-abbrev EndsClean : Board → State → ℕ → State → Type 0
+abbrev EndsClean : Platform → State → ℕ → State → Type 0
 EndsClean b s t z = (f g : Frame) (gs : List Frame) → Ended s t f g gs z → HandsPlain b f → CleanReturn b.image s t f z
 
 -- none ended
-deep_ends : (b : Board) (s : State) (t : ℕ) (z : State) → Deep (length (thread s t).frames) t z → EndsClean b s t z
+deep_ends : (b : Platform) (s : State) (t : ℕ) (z : State) → Deep (length (thread s t).frames) t z → EndsClean b s t z
 deep_ends b s t z deep f g gs ended plain_one =
     let before = ap (λ (fs : List Frame). length fs) ended.before in
     let after = ap (λ (fs : List Frame). length fs) ended.after in
@@ -73,14 +73,14 @@ deep_ends b s t z deep f g gs ended plain_one =
 pub unwound_is_clean : (i : Image) (s : State) (t : ℕ) (f g : Frame) (gs : List Frame) → (thread s t).frames ≡ f ∷ g ∷ gs → CleanReturn i s t f (unwound i s t (thread s t).frames)
 unwound_is_clean i s t f g gs frames = subst (λ (fs : List Frame). CleanReturn i s t f (unwound i s t fs)) (sym frames) (unwind_clean i s t f g gs frames)
 
-ended_ends : (b : Board) (s : State) (t value : ℕ) → EndsClean b s t (ended_with b.image s t value (thread s t).frames)
+ended_ends : (b : Platform) (s : State) (t value : ℕ) → EndsClean b s t (ended_with b.image s t value (thread s t).frames)
 ended_ends b s t value f g gs ended plain_one = subst (λ (fs : List Frame). CleanReturn b.image s t f (ended_with b.image s t value fs)) (sym ended.before) (value_clean b.image s t value f g gs ended.before)
 
-returned_ends : (b : Board) (s : State) (t : ℕ) → ((f : Frame) (fs : List Frame) → (thread s t).frames ≡ f ∷ fs → f.handling ≡ false) → EndsClean b s t (returned b.image s t (thread s t).frames)
+returned_ends : (b : Platform) (s : State) (t : ℕ) → ((f : Frame) (fs : List Frame) → (thread s t).frames ≡ f ∷ fs → f.handling ≡ false) → EndsClean b s t (returned b.image s t (thread s t).frames)
 returned_ends b s t unmarked f g gs ended (inl plain_one) = subst (λ (fs : List Frame). CleanReturn b.image s t f (returned b.image s t fs)) (sym ended.before) (back_clean b.image s t f g gs ended.before plain_one)
 returned_ends b s t unmarked f g gs ended (inr marked) = absurd (let clash : true ≡ false = sym marked ∙ unmarked f (g ∷ gs) ended.before in cc)
 
-done_ends : (b : Board) (s : State) (t : ℕ) (r : Result Effect Trap) → IfDone (EndsClean b s t) s t r
+done_ends : (b : Platform) (s : State) (t : ℕ) (r : Result Effect Trap) → IfDone (EndsClean b s t) s t r
 done_ends b s t (Err why) = tt
 done_ends b s t (Ok d) = deep_ends b s t (put_done s t d) (set_deep s t (jumped (thread s t) d.pcc d.posture d.to d.value) (omega arith))
 
@@ -88,7 +88,7 @@ done_ends b s t (Ok d) = deep_ends b s t (put_done s t d) (set_deep s t (jumped 
 handles_deep : (i : Image) (s : State) (t : ℕ) (why : Trap) (f : Frame) (fs : List Frame) → (thread s t).frames ≡ f ∷ fs → Deep (length (thread s t).frames) t (handler_entered i s t why f fs)
 handles_deep i s t why f fs frames = let many = ap (λ (gs : List Frame). length gs) frames in set_deep s t (handled i (thread s t) why f fs) (omega (arith, many))
 
-steps_end : (b : Board) (s : State) (t : ℕ) → Steps (EndsClean b s t) b s t
+steps_end : (b : Platform) (s : State) (t : ℕ) → Steps (EndsClean b s t) b s t
 steps_end b s t =
     let m = moves_deep b.image s t in
     record {
@@ -108,5 +108,5 @@ steps_end b s t =
       };
     }
 
-pub executed_ends : (b : Board) (s : State) (t : ℕ) (f g : Frame) (gs : List Frame) → (thread s t).frames ≡ f ∷ g ∷ gs → (thread (executed b s t).0 t).frames ≡ g ∷ gs → HandsPlain b f → CleanReturn b.image s t f (executed b s t).0
+pub executed_ends : (b : Platform) (s : State) (t : ℕ) (f g : Frame) (gs : List Frame) → (thread s t).frames ≡ f ∷ g ∷ gs → (thread (executed b s t).0 t).frames ≡ g ∷ gs → HandsPlain b f → CleanReturn b.image s t f (executed b s t).0
 executed_ends b s t f g gs before after = executed_left (EndsClean b s t) b s t (steps_end b s t) f g gs (record { before = before; after = after })

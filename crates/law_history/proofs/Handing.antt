@@ -5,13 +5,13 @@ use Rattle.ct_entry.specs.declared.acts.Act.TheVariants as acts
 use Rattle.ct_entry.specs.declared.acts.Deed.{Deed}
 use Rattle.def_machine.specs.Image.{Image}
 use Rattle.def_machine.specs.State.{State, Counts}
-use Rattle.def_machine.specs.Board.{Board}
+use Rattle.def_machine.specs.Platform.{Platform}
 use Rattle.def_step.specs.Events.{noted, stepped, with_deed}
 use Rattle.def_step.specs.Instructions.{executed}
 use Rattle.def_step.specs.Quotas.{allocate, free}
 use Rattle.def_step.specs.Routines.{Ran, Leaves}
 use Rattle.def_step.specs.Tokens.{token_key, token_new, token_free}
-use Rattle.law_routines.specs.Leaving.{Left}
+use Rattle.def_events.specs.Leaving.{Left}
 use Rattle.def_safety.specs.Each.{ready}
 use Rattle.law_history.proofs.Steps.{none_told, step_case}
 use Rattle.law_history.proofs.Telling.{ToldBy, Tells, executed_tells}
@@ -26,7 +26,7 @@ BothFree Q i s t = Left Q (free i s t) × Left Q (token_free i s t)
 abbrev pub AllAllocate : (State → Option (ℕ × Act) → Type 0) → Image → State → ℕ → Type 0
 AllAllocate Q i s t = Left Q (allocate i s t) × (Left Q (token_key i s t) × Left Q (token_new i s t))
 
-module _ (P : State → Type 0) (Q : State → Option (ℕ × Act) → Type 0) (b : Board) (s : State) (d : Deed) (number base long live : ℕ) where
+module _ (P : State → Type 0) (Q : State → Option (ℕ × Act) → Type 0) (b : Platform) (s : State) (d : Deed) (number base long live : ℕ) where
   pub free_told_case : ((t : ℕ) → BothFree Q b.image (ready b s) t) → d.act ≡ acts.Free number base long live
       → ((z : State) (c : Counts) → Q z (Some (d.entry, acts.Free number base long live)) → P (record z { counts = c })) → (stepped b s).1 ≡ Some d → P (stepped b s).0
   free_told_case h act so = step_case (λ (r : State × Option Deed). r.1 ≡ Some d → P r.0) b s

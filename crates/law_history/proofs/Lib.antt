@@ -1,3 +1,38 @@
+mod Strips
+mod Alikes
+mod Allocations
+mod Services
+mod Tokens
+mod Statuses
+mod Waking
+pub mod Marking
+pub mod Same
+pub mod Sweeping
+pub mod Waiting
+pub mod Gone
+pub mod ReuseCharging
+pub mod Values
+pub mod Changes
+pub mod Numbered
+pub mod Routines
+pub mod Events
+pub mod Listing
+pub mod Moving
+pub mod TokensEvents
+pub mod Everywheres
+pub mod Keying
+pub mod Passing
+pub mod Made
+pub mod Fitting
+pub mod Shutting
+pub mod Naming
+pub mod Sweeps
+pub mod Whole
+pub mod Openings
+pub mod Lasting
+pub mod Deriving
+pub mod Unopened
+pub mod Standing
 pub mod Steps
 pub mod Telling
 pub mod Ending

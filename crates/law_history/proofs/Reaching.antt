@@ -16,24 +16,24 @@ use Rattle.def_reach.specs.Sharing.{Reaches}
 use Rattle.def_machine.specs.Image.{Image, root}
 use Rattle.def_machine.specs.Memory.{filtered_in, is_marked_in}
 use Rattle.def_machine.specs.State.{State, Frame, Object, register, thread}
-use Rattle.def_machine.specs.Board.{Board}
+use Rattle.def_machine.specs.Platform.{Platform}
 use Rattle.def_confined.specs.Capabilities.{heap_cap}
 use Rattle.def_confined.specs.Confined.{IsPcc}
 use Rattle.def_confined.specs.Keeps.{Keeps}
 use Rattle.def_confined.specs.Partitioned.{Partitioned}
 use Rattle.def_confined.specs.Places.{LiveCovers, Covers}
 use Rattle.def_step.specs.declared.Access.{Access}
-use Rattle.def_step.specs.Accesses.{Space, Accessed, access_of, access_checks, load_checks, store_checks, accessed, ram_value, device_value, widened}
+use Rattle.def_step.specs.Accesses.{MemoryAndDevices, Accessed, access_of, access_checks, load_checks, store_checks, accessed, ram_value, device_value, widened}
 use Rattle.def_step.specs.Checks.{Check}
 use Rattle.def_step.specs.Devices.{bank_value}
 use Rattle.def_step.specs.Instructions.{fetch_checks, space_of}
 use Rattle.def_step.specs.Operands.{operands_of}
 use Rattle.def_step.specs.Routines.{word_checks, lies_in_ram}
-use Rattle.law_places.proofs.Rows.{any_map}
-use Rattle.law_grants.proofs.Imports.{reaches_library}
-use Rattle.law_made.proofs.Results.{attenuated_carries}
-use Rattle.law_licensed.proofs.Checks.{AllPass, all_pass}
-use Rattle.law_licensed.proofs.Deeds.{register_used, pcc_used}
+use Rattle.law_moves.proofs.Rows.{any_map}
+use Rattle.law_boot.proofs.Imports.{reaches_library}
+use Rattle.law_moves.proofs.Results.{attenuated_carries}
+use Rattle.law_moves.proofs.Checks.{AllPass, all_pass}
+use Rattle.law_moves.proofs.Deeds.{register_used, pcc_used}
 use Rattle.law_routines.proofs.Accesses.{by_access}
 use Rattle.law_routines.proofs.Leaving.{option_tells}
 use Rattle.law_events.proofs.Accesses.{load_passes, store_passes, width_of}
@@ -117,7 +117,7 @@ device_moved a x n = chosen (λ (v : Cap). v.tag ≡ true → has x memory_capab
     (λ whole tagged. attenuated_carries x (integer n) tagged)
     (λ part tagged. absurd (let clash : false ≡ true = tagged in cc))
 
-value_moved : (a : Access) (x y : Cap) (at : ℕ) (p : Space) (v : Cap) → (accessed a x y at p).value ≡ Some v → v.tag ≡ true → has x memory_capability ≡ true
+value_moved : (a : Access) (x y : Cap) (at : ℕ) (p : MemoryAndDevices) (v : Cap) → (accessed a x y at p).value ≡ Some v → v.tag ≡ true → has x memory_capability ≡ true
 value_moved a x y at p = by_access (λ (m : Accessed). (v : Cap) → m.value ≡ Some v → v.tag ≡ true → has x memory_capability ≡ true) a x y at p (record {
   loads = λ ram loads v e tagged. ram_moved a x at p.ram p.granules (ap tag_in e ∙ tagged);
   stores = λ ram stores v e tagged. absurd (let clash : None ≡ Some v = e in cc);
@@ -125,16 +125,16 @@ value_moved a x y at p = by_access (λ (m : Accessed). (v : Cap) → m.value ≡
   writes = λ stores v e tagged. absurd (let clash : None ≡ Some v = e in cc);
 })
 
-load_moved : (a : Access) (x y : Cap) (at : ℕ) (p : Space) → a.loads ≡ true → moves_capability a x y at p ≡ true → has x memory_capability ≡ true
+load_moved : (a : Access) (x y : Cap) (at : ℕ) (p : MemoryAndDevices) → a.loads ≡ true → moves_capability a x y at p ≡ true → has x memory_capability ≡ true
 load_moved a x y at p loads moved = elim (option_tells (accessed a x y at p).value) [
   | inl none ↦ (let same : moves_capability a x y at p ≡ false = rw (none, loads) refl in absurd (let clash : false ≡ true = sym same ∙ moved in cc))
   | inr some ↦ (let same : moves_capability a x y at p ≡ some.0.tag = rw (some.1, loads) refl in value_moved a x y at p some.0 some.1 (sym same ∙ moved))
 ]
 
-store_moved : (a : Access) (x y : Cap) (at : ℕ) (p : Space) → a.loads ≡ false → moves_capability a x y at p ≡ true → (a.whole && y.tag) ≡ true
+store_moved : (a : Access) (x y : Cap) (at : ℕ) (p : MemoryAndDevices) → a.loads ≡ false → moves_capability a x y at p ≡ true → (a.whole && y.tag) ≡ true
 store_moved a x y at p stores moved = let same : moves_capability a x y at p ≡ (a.whole && y.tag) = rw stores refl in sym same ∙ moved
 
-access_moved : (a : Access) (x y : Cap) (at : ℕ) (p : Space) → AllPass (access_checks a x y at) → moves_capability a x y at p ≡ true → (x.tag ≡ true) × (has x memory_capability ≡ true)
+access_moved : (a : Access) (x y : Cap) (at : ℕ) (p : MemoryAndDevices) → AllPass (access_checks a x y at) → moves_capability a x y at p ≡ true → (x.tag ≡ true) × (has x memory_capability ≡ true)
 access_moved a x y at p = chosen (λ (cs : List Check). AllPass cs → moves_capability a x y at p ≡ true → (x.tag ≡ true) × (has x memory_capability ≡ true)) a.loads (load_checks a x at) (store_checks a x at (a.whole && y.tag))
     (λ loads h moved. ((load_passes a x at h).tagged, load_moved a x y at p loads moved))
     (λ stores h moved. (let says = store_passes a x at (a.whole && y.tag) h in (says.tagged, says.may_carry (store_moved a x y at p stores moved))))
@@ -161,7 +161,7 @@ runs_for i n actor (Listing kind.Export) parts is code owner = absurd (let clash
 
 -- ---- an event
 
-pub uses_reach : (b : Board) (s : State) → Partitioned b.image → Keeps b.image s → UsesReach b s
+pub uses_reach : (b : Platform) (s : State) → Partitioned b.image → Keeps b.image s → UsesReach b s
 uses_reach b s parts k = record {
   registers = λ t n f fs runs frames tagged. of_register t n f fs runs frames tagged;
   counter = λ t f fs runs frames tagged. of_counter t f fs frames tagged;

@@ -12,29 +12,29 @@ use Rattle.def_machine.specs.Objects.{Any}
 use Rattle.def_confined.specs.Confined.{Apart, Confined, ObjectFits}
 use Rattle.def_confined.specs.Keeps.{Keeps}
 use Rattle.def_confined.specs.Partitioned.{Partitioned}
-use Rattle.def_facts.specs.Facts.{Facts}
-use Rattle.def_board.specs.Wired.{Wired}
+use Rattle.def_confined.specs.Facts.{Facts}
+use Rattle.def_safety.specs.Wired.{Wired}
 use Rattle.def_hidden.specs.Hidden.{Shut, Blank}
 use Rattle.def_step.specs.declared.Event.{Event}
 use Rattle.def_step.specs.declared.Event.TheVariants.{Step}
 use Rattle.def_step.specs.Events.{happens, run, stepped}
 use Rattle.def_step.specs.Instructions.{executed}
-use Rattle.def_machine.specs.Board.{Board}
+use Rattle.def_machine.specs.Platform.{Platform}
 use Rattle.def_step.specs.Quotas.{quota_in, let_go, free}
 use Rattle.def_step.specs.Routines.{answers}
 use Rattle.def_step.specs.Tokens.{token_free}
-use Rattle.law_places.proofs.Rows.{each_any, each_take}
-use Rattle.law_routines.specs.Leaving.{Left}
+use Rattle.law_moves.proofs.Rows.{each_any, each_take}
+use Rattle.def_events.specs.Leaving.{Left}
 use Rattle.law_routines.proofs.Leaving.{free_told, free_left, token_free_left}
 use Rattle.law_routines.proofs.Objects.{Found}
 use Rattle.def_safety.specs.Fresh.{HandsOut, AsHanded}
-use Rattle.def_safety.specs.Reuse.{IsRow, Waits, SweepsWhole}
-use Rattle.law_reuse.proofs.Same.{Same, quarantined_stays, ready_same}
-use Rattle.law_reuse.proofs.Waiting.{waiting}
-use Rattle.law_reuse.proofs.Gone.{NoneLive, gives_none, ready_none, run_none, not_of}
+use Rattle.def_safety.specs.Reuse.{IsSameChunk, Waits, SweepsWhole}
+use Rattle.law_history.proofs.Same.{Same, quarantined_stays, ready_same}
+use Rattle.law_history.proofs.Waiting.{waiting}
+use Rattle.law_history.proofs.Gone.{NoneLive, gives_none, ready_none, run_none, not_of}
 use Rattle.law_events.proofs.Events.{ready_keeps}
 use Rattle.law_events.proofs.Running.{run_keeps}
-use Rattle.law_blank.proofs.Events.{run_blank}
+use Rattle.law_events.proofs.BlankEvents.{run_blank}
 use Rattle.def_safety.specs.Each.{ready}
 use Rattle.def_safety.specs.Chunks.{ChunksMeet, IsNotOf, chunk_at}
 use Rattle.def_safety.specs.Temporal.{UsesLive, UsesOnly}
@@ -87,7 +87,7 @@ free_waits i s t h = free_left FreeWaits i s t (none_waits s t) (λ r c f. gives
 token_free_waits : (i : Image) (s : State) (t : ℕ) → Confined i s → Left FreeWaits (token_free i s t)
 token_free_waits i s t h = token_free_left FreeWaits i s t (none_waits s t) (λ r c f. gives_waits i s t r c h f)
 
-step_frees : (b : Board) (s : State) (d : Deed) (number base long live : ℕ) → Partitioned b.image → Keeps b.image s → d.act ≡ acts.Free number base long live → (stepped b s).1 ≡ Some d → Any (Waits (chunk_at number base long)) (stepped b s).0.objects
+step_frees : (b : Platform) (s : State) (d : Deed) (number base long live : ℕ) → Partitioned b.image → Keeps b.image s → d.act ≡ acts.Free number base long live → (stepped b s).1 ≡ Some d → Any (Waits (chunk_at number base long)) (stepped b s).0.objects
 step_frees b s d number base long live parts k act =
     let held = (ready_keeps b s parts k).confined in
     free_told_case (λ (z : State). Any (Waits (chunk_at number base long)) z.objects) FreeWaits b s d number base long live
@@ -109,7 +109,7 @@ gives_none_live i s t r c h f entry number base long live e =
     let same : acts.Free r.number r.base r.length _ ≡ acts.Free number base long live = ap (act_in (acts.Free 0 0 0 0)) e in
     subst (λ (n : ℕ). NoneLive n (answers (let_go i s t r) t (integer 0))) (ap number_in same) (gives_none i s t r c h f)
 
-step_none : (b : Board) (s : State) (d : Deed) (number base long live : ℕ) → Partitioned b.image → Keeps b.image s → d.act ≡ acts.Free number base long live → (stepped b s).1 ≡ Some d → NoneLive number (stepped b s).0
+step_none : (b : Platform) (s : State) (d : Deed) (number base long live : ℕ) → Partitioned b.image → Keeps b.image s → d.act ≡ acts.Free number base long live → (stepped b s).1 ≡ Some d → NoneLive number (stepped b s).0
 step_none b s d number base long live parts k act =
     let held = (ready_keeps b s parts k).confined in
     free_told_case (NoneLive number) FreeNone b s d number base long live
@@ -121,7 +121,7 @@ step_none b s d number base long live parts k act =
     (λ z c so. (let none = so d.entry number base long live refl in record { given = none.given; gone = none.gone }))
 
 -- what the running thread uses is of live objects, and so of none that was freed
-pub free_then_use : (b : Board) (s : State) (es : List Event) (d : Deed) (n base long live : ℕ) → Partitioned b.image → Keeps b.image s → (happens b s Step).1.deed ≡ Some d → d.act ≡ acts.Free n base long live
+pub free_then_use : (b : Platform) (s : State) (es : List Event) (d : Deed) (n base long live : ℕ) → Partitioned b.image → Keeps b.image s → (happens b s Step).1.deed ≡ Some d → d.act ≡ acts.Free n base long live
     → UsesLive b (run b (happens b s Step).0 es) → UsesOnly b (run b (happens b s Step).0 es) (IsNotOf b.image n)
 free_then_use b s es d n base long live parts k frees act uses =
     let none = ready_none n b (run b (happens b s Step).0 es) (run_none n b (happens b s Step).0 es (step_none b s d n base long live parts k act frees)) in
@@ -133,7 +133,7 @@ free_then_use b s es d n base long live parts k frees act uses =
 -- ---- an allocation that meets it
 
 -- what holds of a machine whose events are counted on
-pub record Sound (b : Board) (s : State) : Type 0 where
+pub record Sound (b : Platform) (s : State) : Type 0 where
   pub parts : Partitioned b.image
   pub facts : Facts b.image
   pub wired : Wired b
@@ -141,7 +141,7 @@ pub record Sound (b : Board) (s : State) : Type 0 where
   pub keeps : Keeps b.image s
   pub blank : Blank b.image s
 
-pub waits_whole : (b : Board) (s : State) (es : List Event) (n base long : ℕ) (d : Deed) (number from size live : ℕ) → Sound b s → Any (Waits (chunk_at n base long)) s.objects → (happens b (run b s es) Step).1.deed ≡ Some d → d.act ≡ acts.Allocate number from size live → ChunksMeet from size base long
+pub waits_whole : (b : Platform) (s : State) (es : List Event) (n base long : ℕ) (d : Deed) (number from size live : ℕ) → Sound b s → Any (Waits (chunk_at n base long)) s.objects → (happens b (run b s es) Step).1.deed ≡ Some d → d.act ≡ acts.Allocate number from size live → ChunksMeet from size base long
     → SweepsWhole b s es
 waits_whole b s es n base long d number from size live x waits is act meets = elim (waiting b s (chunk_at n base long) es waits) [
   | inr whole ↦ whole
@@ -150,15 +150,15 @@ waits_whole b s es n base long d number from size live x waits is act meets = el
       let blank = run_blank b s es x.parts x.facts x.wired x.shut x.keeps x.blank in
       let out : HandsOut b.image (ready b (run b s es)) number from size (AsHanded b (ready b (run b s es)) d.thread (stepped b (run b s es)).0) = step_allocates b (run b s es) d number from size live x.parts x.facts keeps blank act is in
       let same : Same (run b s es) (ready b (run b s es)) = ready_same b (run b s es) in
-      let here : Any (IsRow (chunk_at n base long)) (ready b (run b s es)).objects = subst (Any (IsRow (chunk_at n base long))) (sym same.objects) there in
+      let here : Any (IsSameChunk (chunk_at n base long)) (ready b (run b s es)).objects = subst (Any (IsSameChunk (chunk_at n base long))) (sym same.objects) there in
       let starts = out.told.1 in
       let spans = out.told.2 in
-      absurd (each_take (Apart out.object) (IsRow (chunk_at n base long)) ⊥ (ready b (run b s es)).objects
+      absurd (each_take (Apart out.object) (IsSameChunk (chunk_at n base long)) ⊥ (ready b (run b s es)).objects
       (λ q apart row. meets (elim apart.1 [ inl below ↦ inl (omega (arith, below, row.1, starts, spans)) | inr above ↦ inr (omega (arith, above, row.1, row.2, starts)) ]))
       out.fresh.object.apart here)
 ]
 
-pub free_then_allocate : (b : Board) (s : State) (es : List Event) (d : Deed) (n base long live : ℕ) (c : Deed) (number from size left : ℕ) → Sound b s → Sound b (happens b s Step).0 → (happens b s Step).1.deed ≡ Some d → d.act ≡ acts.Free n base long live
+pub free_then_allocate : (b : Platform) (s : State) (es : List Event) (d : Deed) (n base long live : ℕ) (c : Deed) (number from size left : ℕ) → Sound b s → Sound b (happens b s Step).0 → (happens b s Step).1.deed ≡ Some d → d.act ≡ acts.Free n base long live
     → (happens b (run b (happens b s Step).0 es) Step).1.deed ≡ Some c → c.act ≡ acts.Allocate number from size left → ChunksMeet from size base long → SweepsWhole b (happens b s Step).0 es
 free_then_allocate b s es d n base long live c number from size left x after frees act allocates by meets =
     waits_whole b (happens b s Step).0 es n base long c number from size left after (step_frees b s d n base long live x.parts x.keeps act frees) allocates by meets

@@ -7,29 +7,29 @@ use Rattle.def_machine.specs.Objects.{charges}
 use Rattle.def_machine.specs.State.{State}
 use Rattle.def_confined.specs.Keeps.{Keeps}
 use Rattle.def_confined.specs.Partitioned.{Partitioned}
-use Rattle.def_facts.specs.Facts.{Facts}
-use Rattle.def_board.specs.Inside.{Inside}
-use Rattle.def_board.specs.Wired.{Wired}
+use Rattle.def_confined.specs.Facts.{Facts}
+use Rattle.def_safety.specs.Inside.{Inside}
+use Rattle.def_safety.specs.Wired.{Wired}
 use Rattle.def_hidden.specs.Hidden.{Shut, Blank}
 use Rattle.def_step.specs.declared.Event.{Event}
 use Rattle.def_step.specs.declared.Event.TheVariants.{Step}
 use Rattle.def_step.specs.Events.{happens, run}
-use Rattle.def_machine.specs.Board.{Board}
+use Rattle.def_machine.specs.Platform.{Platform}
 use Rattle.law_events.proofs.Events.{event_keeps, ready_keeps}
 use Rattle.law_events.proofs.Running.{run_keeps}
-use Rattle.law_blank.proofs.Events.{event_blank, run_blank}
+use Rattle.law_events.proofs.BlankEvents.{event_blank, run_blank}
 use Rattle.def_safety.specs.Reuse.{SweepsWhole}
 use Rattle.def_safety.specs.Each.{EachEvent, ready}
 use Rattle.def_safety.specs.Calls.{CleanEvent}
 use Rattle.def_events.specs.Tokens.{KeepsTokens}
 use Rattle.def_events.specs.Upheld.{Upholds}
 use Rattle.def_machine.specs.Rows.{RowsFit}
-use Rattle.def_tokens.specs.Tokened.{Tokened}
-use Rattle.law_tokens.proofs.Events.{event_fit}
-use Rattle.law_tokens.proofs.Lasting.{key_lasts, stays_shut}
-use Rattle.law_tokens.proofs.Openings.{finds_sealed, opens_tokens}
-use Rattle.law_tokens.proofs.Whole.{event_tokened, ready_tokened}
-use Rattle.law_marks.proofs.Marking.{marks_go, marked_by, enters_unmarked}
+use Rattle.def_safety.specs.Tokened.{Tokened}
+use Rattle.law_history.proofs.TokensEvents.{event_fit}
+use Rattle.law_history.proofs.Lasting.{key_lasts, stays_shut}
+use Rattle.law_history.proofs.Openings.{finds_sealed, opens_tokens}
+use Rattle.law_history.proofs.Whole.{event_tokened, ready_tokened}
+use Rattle.law_history.proofs.Marking.{marks_go, marked_by, enters_unmarked}
 use Rattle.def_safety.specs.Accesses.{UsesReach}
 use Rattle.def_safety.specs.Temporal.{UsesLive, AllocatesFresh}
 use Rattle.def_safety.specs.Chunks.{ChunksMeet, SweptBeforeReuse, UnusedAfterFree}
@@ -46,13 +46,13 @@ use Rattle.law_history.proofs.Trapping.{traps_first}
 use Rattle.law_history.proofs.Within.{ready_within}
 
 -- what stands of a state from event to event
-record IsUpheld (b : Board) (z : State) : Type 0 where
+record IsUpheld (b : Platform) (z : State) : Type 0 where
   keeps : Keeps b.image z
   blank : Blank b.image z
   rows : RowsFit z.objects z.tokens
   tokened : Tokened b.image z
 
-module _ (b : Board) (parts : Partitioned b.image) (facts : Facts b.image) (wired : Wired b) where
+module _ (b : Platform) (parts : Partitioned b.image) (facts : Facts b.image) (wired : Wired b) where
   next_keeps : (z : State) (e : Event) → Keeps b.image z → Keeps b.image (happens b z e).0
   next_keeps z e k = event_keeps b z e parts facts wired k
 
@@ -142,6 +142,6 @@ module _ (b : Board) (parts : Partitioned b.image) (facts : Facts b.image) (wire
       (uses_live b (run b (happens b (run b s es) Step).0 fs) parts (run_keeps b (happens b (run b s es) Step).0 fs parts facts wired (next_keeps (run b s es) Step kept))))
 
 -- whatever the board and the state
-pub run_traps : (b : Board) (s : State) (es : List Event) → EachEvent (TrapsFirst b) b s es
+pub run_traps : (b : Platform) (s : State) (es : List Event) → EachEvent (TrapsFirst b) b s es
 run_traps b s [] = tt
 run_traps b s (e ∷ es) = (traps_first b s e, run_traps b (happens b s e).0 es)

@@ -12,7 +12,7 @@ use Rattle.def_machine.specs.Image.{Image}
 use Rattle.def_machine.specs.State.{State, Counts, Object, register, thread}
 use Rattle.def_confined.specs.Keeps.{Keeps}
 use Rattle.def_confined.specs.Partitioned.{Partitioned}
-use Rattle.def_facts.specs.Facts.{Facts}
+use Rattle.def_confined.specs.Facts.{Facts}
 use Rattle.def_hidden.specs.Hidden.{Blank}
 use Rattle.def_step.specs.declared.Access.{Access}
 use Rattle.def_step.specs.declared.Event.{Event}
@@ -21,15 +21,15 @@ use Rattle.def_step.specs.Accesses.{access_of, access_checks, load_checks, store
 use Rattle.def_step.specs.Checks.{Check}
 use Rattle.def_step.specs.Events.{noted, stepped, with_act, with_deed}
 use Rattle.def_step.specs.Instructions.{executed}
-use Rattle.def_machine.specs.Board.{Board}
+use Rattle.def_machine.specs.Platform.{Platform}
 use Rattle.def_step.specs.Operands.{operands_of}
 use Rattle.def_step.specs.Routines.{word_checks, lies_in_ram}
-use Rattle.law_licensed.proofs.Checks.{AllPass, all_pass}
+use Rattle.law_moves.proofs.Checks.{AllPass, all_pass}
 use Rattle.law_events.proofs.Accesses.{load_passes, store_passes, width_of}
 use Rattle.law_events.proofs.Events.{ready_keeps}
-use Rattle.law_blank.proofs.Events.{ready_blank}
+use Rattle.law_events.proofs.BlankEvents.{ready_blank}
 use Rattle.def_safety.specs.Fresh.{HandsOut, AsHanded}
-use Rattle.law_natives.proofs.Handing.{hands_fresh, key_fresh, token_fresh}
+use Rattle.law_events.proofs.Handing.{hands_fresh, key_fresh, token_fresh}
 use Rattle.def_safety.specs.Each.{ready}
 use Rattle.def_safety.specs.Used.{authority_of, value_of, access_start}
 use Rattle.def_safety.specs.Temporal.{OfLive, UsesLive, AllocatesFresh}
@@ -54,7 +54,7 @@ word_uses i s c h =
     let high = leb-true (cap_address c + 4) (cap_top c) ends.1 in
     (h.0, omega (arith, low, high))
 
-pub uses_live : (b : Board) (s : State) → Partitioned b.image → Keeps b.image s → UsesLive b s
+pub uses_live : (b : Platform) (s : State) → Partitioned b.image → Keeps b.image s → UsesLive b s
 uses_live b s parts k = record {
   access = λ t i runs passes. of_register t (operands_of i).first runs (access_uses (access_of i) (authority_of (ready b s) t i) (value_of (ready b s) t i) (access_start (ready b s) t i) (width_of i).some (all_pass (access_checks (access_of i) (authority_of (ready b s) t i) (value_of (ready b s) t i) (access_start (ready b s) t i)) passes));
   word = λ t runs passes. of_register t 10 runs (word_uses b.image (ready b s) (register (thread (ready b s) t) 10) (all_pass (word_checks b.image (ready b s) (register (thread (ready b s) t) 10)) passes));
@@ -69,7 +69,7 @@ uses_live b s parts k = record {
 handed_as : {P R : Object → Type 0} (i : Image) (s : State) (number base long : ℕ) → ((r : Object) → P r → R r) → HandsOut i s number base long P → HandsOut i s number base long R
 handed_as i s number base long wider out = record { object = out.object; told = out.told; fresh = out.fresh; after_is = wider out.object out.after_is }
 
-pub step_allocates : (b : Board) (s : State) (d : Deed) (number base bytes charged : ℕ) → Partitioned b.image → Facts b.image → Keeps b.image s → Blank b.image s → d.act ≡ acts.Allocate number base bytes charged → (stepped b s).1 ≡ Some d
+pub step_allocates : (b : Platform) (s : State) (d : Deed) (number base bytes charged : ℕ) → Partitioned b.image → Facts b.image → Keeps b.image s → Blank b.image s → d.act ≡ acts.Allocate number base bytes charged → (stepped b s).1 ≡ Some d
     → HandsOut b.image (ready b s) number base bytes (AsHanded b (ready b s) d.thread (stepped b s).0)
 step_allocates b s d number base bytes charged parts facts k blank act = step_case (λ (r : State × Option Deed). r.1 ≡ Some d → HandsOut b.image (ready b s) number base bytes (AsHanded b (ready b s) d.thread r.0)) b s
     (λ idle e. none_told d e)
@@ -94,7 +94,7 @@ step_allocates b s d number base bytes charged parts facts k blank act = step_ca
           ]
         ])
 
-pub allocates_fresh : (b : Board) (s : State) (e : Event) → Partitioned b.image → Facts b.image → Keeps b.image s → Blank b.image s → AllocatesFresh b s e
+pub allocates_fresh : (b : Platform) (s : State) (e : Event) → Partitioned b.image → Facts b.image → Keeps b.image s → Blank b.image s → AllocatesFresh b s e
 allocates_fresh b s Step parts facts k blank d number base long live is act = step_allocates b s d number base long live parts facts k blank act is
 allocates_fresh b s Tick parts facts k blank d number base long live is act = none_told d is
 allocates_fresh b s Sweep parts facts k blank d number base long live is act = none_told d is

@@ -20,30 +20,30 @@ use Rattle.def_step.specs.declared.Class.TheVariants as class
 use Rattle.def_step.specs.declared.Next.{Next}
 use Rattle.def_step.specs.declared.TheConstants.{LAST_ROUTINE}
 use Rattle.law_routines.proofs.Accesses.{by_access}
-use Rattle.def_step.specs.Accesses.{Space, access_of, access_address, access_checks, access_result, accessed, deed_at, unless}
+use Rattle.def_step.specs.Accesses.{MemoryAndDevices, access_of, access_address, access_checks, access_result, accessed, deed_at, unless}
 use Rattle.def_step.specs.Checks.{first_failed}
 use Rattle.def_step.specs.Devices.{found}
 use Rattle.def_step.specs.Jumps.{Flowed}
 use Rattle.def_step.specs.Operands.{operands_of, class_of}
 use Rattle.def_step.specs.Instructions.{Effect, Context, carried_out, named_by, flows, accesses, around, space_of, deed, deed_told, trapped, put_done, instruction_end, operand, goes_on, after_fetch, executed, fetch_checks, next_at, ran, served}
-use Rattle.def_machine.specs.Board.{Board}
+use Rattle.def_machine.specs.Platform.{Platform}
 use Rattle.def_step.specs.Native.{native}
 use Rattle.def_step.specs.Quotas.{allocate, free, remaining}
 use Rattle.def_step.specs.Routines.{Ran, Traps, Leaves, switch, yield, sleep, wait, wake}
 use Rattle.def_step.specs.Tokens.{token_key, token_new, token_open, token_free}
 use Rattle.law_events.proofs.Fairness.{some_same}
-use Rattle.law_routines.specs.Leaving.{Left}
+use Rattle.def_events.specs.Leaving.{Left}
 use Rattle.def_safety.specs.Routine.{RunsRoutine}
-use Rattle.law_origins.proofs.Numbered.{by_number}
+use Rattle.law_history.proofs.Numbered.{by_number}
 use Rattle.law_routines.proofs.Cases.{by_next}
 use Rattle.law_routines.proofs.Leaving.{switch_left, yield_left, sleep_left, wait_left, wake_left, allocate_left, free_left, remaining_left, token_key_left, token_new_left, token_open_left, token_free_left}
 
 -- thread t, if it runs, stands at a routine
-abbrev pub AtRoutine : Board → State → ℕ → ℕ → Type 0
+abbrev pub AtRoutine : Platform → State → ℕ → ℕ → Type 0
 AtRoutine b s t n = s.running ≡ Some t → RunsRoutine b s t n
 
 -- which routine of thread t told an act, and left a state
-abbrev pub ToldBy : Board → State → ℕ → State → ℕ → Act → Type 0
+abbrev pub ToldBy : Platform → State → ℕ → State → ℕ → Act → Type 0
 ToldBy b s t z entry (acts.Call export) = switch b.image s t ≡ Leaves z (Some (entry, acts.Call export))
 ToldBy b s t z entry (acts.Allocate number base long live) =
     let told : Ran = Leaves z (Some (entry, acts.Allocate number base long live)) in
@@ -57,17 +57,17 @@ ToldBy b s t z entry (acts.Load address width value) = Unit {0}
 ToldBy b s t z entry (acts.Store address width value) = Unit {0}
 
 -- a deed of thread t
-pub record Tells (b : Board) (s : State) (t : ℕ) (z : State) (d : Deed) : Type 0 where
+pub record Tells (b : Platform) (s : State) (t : ℕ) (z : State) (d : Deed) : Type 0 where
   pub thread : d.thread ≡ t
   pub by : ToldBy b s t z d.entry d.act
 
-abbrev TellsAll : Board → State → ℕ → State × Option Deed → Type 0
+abbrev TellsAll : Platform → State → ℕ → State × Option Deed → Type 0
 TellsAll b s t r = (d : Deed) → r.1 ≡ Some d → Tells b s t r.0 d
 
-none_tells : (b : Board) (s : State) (t : ℕ) (z : State) → TellsAll b s t (z, None)
+none_tells : (b : Platform) (s : State) (t : ℕ) (z : State) → TellsAll b s t (z, None)
 none_tells b s t z d e = absurd (let clash : None ≡ Some d = e in cc)
 
-trap_tells : (b : Board) (s : State) (t : ℕ) (why : Trap) → TellsAll b s t (trapped b s t why)
+trap_tells : (b : Platform) (s : State) (t : ℕ) (why : Trap) → TellsAll b s t (trapped b s t why)
 trap_tells b s t why d e = some_same (Tells b s t (trap_taken b.image s t why (thread s t).frames)) (deed s t 0 (acts.Trap why.cause why.code why.register)) d e (record { thread = refl; by = refl })
 
 -- ---- instructions tell loads and stores alone
@@ -85,14 +85,14 @@ abbrev pub IfDone : Result Effect Trap → Type 0
 IfDone (Err w) = Unit {0}
 IfDone (Ok d) = IfAccess d.act
 
-device_acts : (p : Space) (at : ℕ) (a : Act) → IsAccess a → IfAccess (deed_at p at a)
+device_acts : (p : MemoryAndDevices) (at : ℕ) (a : Act) → IsAccess a → IfAccess (deed_at p at a)
 device_acts p at a h = chosen IfAccess (is_some (found p.bank.bases at)) (Some a) None (λ is. h) (λ not. tt)
 
-accessed_acts : (a : Access) (x y : Cap) (at : ℕ) (p : Space) → IfAccess (accessed a x y at p).act
+accessed_acts : (a : Access) (x y : Cap) (at : ℕ) (p : MemoryAndDevices) → IfAccess (accessed a x y at p).act
 accessed_acts a x y at p = by_access (λ m. IfAccess m.act) a x y at p
     (record { loads = λ ram loads. tt; stores = λ ram stores. tt; reads = λ loads. device_acts p at _ tt; writes = λ stores. device_acts p at _ tt })
 
-access_acts : (a : Context) (to : ℕ) (k : Instr) (x y : Cap) (p : Space) → IfDone (accesses a to (access_result k x y p))
+access_acts : (a : Context) (to : ℕ) (k : Instr) (x y : Cap) (p : MemoryAndDevices) → IfDone (accesses a to (access_result k x y p))
 unfolding access_result
 access_acts a to k x y p = by (first_failed (access_checks (access_of k) x y (access_address (access_of k) x)))
   where
@@ -114,7 +114,7 @@ class_acts class.Fence k to x y named a = tt
 class_acts class.Call k to x y named a = tt
 class_acts class.Break k to x y named a = tt
 
-access_told : (b : Board) (s : State) (t : ℕ) (z : State) (entry : ℕ) (a : Act) → IsAccess a → ToldBy b s t z entry a
+access_told : (b : Platform) (s : State) (t : ℕ) (z : State) (entry : ℕ) (a : Act) → IsAccess a → ToldBy b s t z entry a
 access_told b s t z entry (acts.Load address width value) h = tt
 access_told b s t z entry (acts.Store address width value) h = tt
 access_told b s t z entry (acts.Call export) h = absurd h
@@ -122,7 +122,7 @@ access_told b s t z entry (acts.Allocate number base long live) h = absurd h
 access_told b s t z entry (acts.Free number base long live) h = absurd h
 access_told b s t z entry (acts.Trap cause code register) h = absurd h
 
-ends_tells : (b : Board) (s : State) (t : ℕ) (x : Cap) (r : Result Effect Trap) → IfDone r → TellsAll b s t (instruction_end b s t x r)
+ends_tells : (b : Platform) (s : State) (t : ℕ) (x : Cap) (r : Result Effect Trap) → IfDone r → TellsAll b s t (instruction_end b s t x r)
 ends_tells b s t x (Err why) h = trap_tells b s t why
 ends_tells b s t x (Ok d) h = by d.act h
   where
@@ -151,7 +151,7 @@ IsFree _ = ⊥
 abbrev IsNone : Act → Type 0
 IsNone a = ⊥
 
-call_by : (b : Board) (s : State) (t : ℕ) (z : State) (entry : ℕ) (a : Act) → IsCall a → switch b.image s t ≡ Leaves z (Some (entry, a)) → ToldBy b s t z entry a
+call_by : (b : Platform) (s : State) (t : ℕ) (z : State) (entry : ℕ) (a : Act) → IsCall a → switch b.image s t ≡ Leaves z (Some (entry, a)) → ToldBy b s t z entry a
 call_by b s t z entry (acts.Call export) h e = e
 call_by b s t z entry (acts.Load address width value) h e = absurd h
 call_by b s t z entry (acts.Store address width value) h e = absurd h
@@ -160,7 +160,7 @@ call_by b s t z entry (acts.Free number base long live) h e = absurd h
 call_by b s t z entry (acts.Trap cause code register) h e = absurd h
 
 -- by one of the routines that hand an object out, and of those that give one back
-allocate_by : (b : Board) (s : State) (t : ℕ) (routine : Ran) → ((z : State) (entry number base long live : ℕ) → routine ≡ Leaves z (Some (entry, acts.Allocate number base long live)) → ToldBy b s t z entry (acts.Allocate number base long live)) → (z : State) (entry : ℕ) (a : Act) → IsAllocate a → routine ≡ Leaves z (Some (entry, a)) → ToldBy b s t z entry a
+allocate_by : (b : Platform) (s : State) (t : ℕ) (routine : Ran) → ((z : State) (entry number base long live : ℕ) → routine ≡ Leaves z (Some (entry, acts.Allocate number base long live)) → ToldBy b s t z entry (acts.Allocate number base long live)) → (z : State) (entry : ℕ) (a : Act) → IsAllocate a → routine ≡ Leaves z (Some (entry, a)) → ToldBy b s t z entry a
 allocate_by b s t routine by z entry (acts.Allocate number base long live) h e = by z entry number base long live e
 allocate_by b s t routine by z entry (acts.Load address width value) h e = absurd h
 allocate_by b s t routine by z entry (acts.Store address width value) h e = absurd h
@@ -168,7 +168,7 @@ allocate_by b s t routine by z entry (acts.Call export) h e = absurd h
 allocate_by b s t routine by z entry (acts.Free number base long live) h e = absurd h
 allocate_by b s t routine by z entry (acts.Trap cause code register) h e = absurd h
 
-free_by : (b : Board) (s : State) (t : ℕ) (routine : Ran) → ((z : State) (entry number base long live : ℕ) → routine ≡ Leaves z (Some (entry, acts.Free number base long live)) → ToldBy b s t z entry (acts.Free number base long live)) → (z : State) (entry : ℕ) (a : Act) → IsFree a → routine ≡ Leaves z (Some (entry, a)) → ToldBy b s t z entry a
+free_by : (b : Platform) (s : State) (t : ℕ) (routine : Ran) → ((z : State) (entry number base long live : ℕ) → routine ≡ Leaves z (Some (entry, acts.Free number base long live)) → ToldBy b s t z entry (acts.Free number base long live)) → (z : State) (entry : ℕ) (a : Act) → IsFree a → routine ≡ Leaves z (Some (entry, a)) → ToldBy b s t z entry a
 free_by b s t routine by z entry (acts.Free number base long live) h e = by z entry number base long live e
 free_by b s t routine by z entry (acts.Load address width value) h e = absurd h
 free_by b s t routine by z entry (acts.Store address width value) h e = absurd h
@@ -177,15 +177,15 @@ free_by b s t routine by z entry (acts.Allocate number base long live) h e = abs
 free_by b s t routine by z entry (acts.Trap cause code register) h e = absurd h
 
 -- a routine whose acts are all of one kind, by which it is found
-ran_tells : (b : Board) (s : State) (t : ℕ) (P : Act → Type 0) (routine r : Ran) → routine ≡ r → ((z : State) (entry : ℕ) (a : Act) → P a → routine ≡ Leaves z (Some (entry, a)) → ToldBy b s t z entry a) → Left (IfTold P) r → TellsAll b s t (ran b s t r)
+ran_tells : (b : Platform) (s : State) (t : ℕ) (P : Act → Type 0) (routine r : Ran) → routine ≡ r → ((z : State) (entry : ℕ) (a : Act) → P a → routine ≡ Leaves z (Some (entry, a)) → ToldBy b s t z entry a) → Left (IfTold P) r → TellsAll b s t (ran b s t r)
 ran_tells b s t P routine (Traps why) is by h = trap_tells b s t why
 ran_tells b s t P routine (Leaves z None) is by h = none_tells b s t z
 ran_tells b s t P routine (Leaves z (Some told)) is by h = λ d e. some_same (Tells b s t z) (deed_told s t told) d e (record { thread = refl; by = by z told.0 told.1 h is })
 
-none_by : (b : Board) (s : State) (t : ℕ) (routine : Ran) → Left (IfTold IsNone) routine → TellsAll b s t (ran b s t routine)
+none_by : (b : Platform) (s : State) (t : ℕ) (routine : Ran) → Left (IfTold IsNone) routine → TellsAll b s t (ran b s t routine)
 none_by b s t routine h = ran_tells b s t IsNone routine routine refl (λ z entry a none is. absurd none) h
 
-routine_tells : (b : Board) (s : State) (t n : ℕ) → n ≤ LAST_ROUTINE → (n ≡ RETURN → ⊥) → AtRoutine b s t n → TellsAll b s t (served b s t (native b.image s t n))
+routine_tells : (b : Platform) (s : State) (t n : ℕ) → n ≤ LAST_ROUTINE → (n ≡ RETURN → ⊥) → AtRoutine b s t n → TellsAll b s t (served b s t (native b.image s t n))
 routine_tells b s t n few other = by_number (λ m (o : Option Ran). AtRoutine b s t m → TellsAll b s t (served b s t o)) b.image s t n few other (record {
   switch = λ at. ran_tells b s t IsCall (switch b.image s t) (switch b.image s t) refl (call_by b s t) (switch_left (IfTold IsCall) b.image s t (λ n. tt) (λ high. tt));
   yield = λ at. none_by b s t (yield s t) (yield_left (IfTold IsNone) b.image s t (λ status. tt));
@@ -203,7 +203,7 @@ routine_tells b s t n few other = by_number (λ m (o : Option Ran). AtRoutine b 
 
 -- ---- whole
 
-next_tells : (b : Board) (s : State) (t : ℕ) → first_failed (fetch_checks (thread s t).pcc) ≡ None → TellsAll b s t (goes_on b s t (next_at (space_of b s) (cap_address (thread s t).pcc)))
+next_tells : (b : Platform) (s : State) (t : ℕ) → first_failed (fetch_checks (thread s t).pcc) ≡ None → TellsAll b s t (goes_on b s t (next_at (space_of b s) (cap_address (thread s t).pcc)))
 next_tells b s t fetched = by_next (λ (n : Next). next_at (space_of b s) (cap_address (thread s t).pcc) ≡ n → TellsAll b s t (goes_on b s t n)) (space_of b s) (cap_address (thread s t).pcc)
     (λ at. none_tells b s t (return_taken b.image s t (thread s t).frames))
     (λ k away read at. ends_tells b s t (operand s t (operands_of k).first) _ (class_acts (class_of k) k (operands_of k).to (operand s t (operands_of k).first) (operand s t (operands_of k).second) (named_by b.image (operand s t (operands_of k).first)) (around b s t)))
@@ -211,7 +211,7 @@ next_tells b s t fetched = by_next (λ (n : Next). next_at (space_of b s) (cap_a
     (λ at. trap_tells b s t (plain_trap ILLEGAL_INSTRUCTION))
     refl
 
-pub executed_tells : (b : Board) (s : State) (t : ℕ) (d : Deed) → (executed b s t).1 ≡ Some d → Tells b s t (executed b s t).0 d
+pub executed_tells : (b : Platform) (s : State) (t : ℕ) (d : Deed) → (executed b s t).1 ≡ Some d → Tells b s t (executed b s t).0 d
 unfolding executed
 executed_tells b s t = by (first_failed (fetch_checks (thread s t).pcc)) refl
   where

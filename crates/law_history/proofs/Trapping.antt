@@ -15,7 +15,7 @@ use Rattle.def_words.specs.Capability.{integer}
 use Rattle.def_words.specs.Traps.{plain_trap}
 use Rattle.def_instr.specs.declared.Instr.{Instr}
 use Rattle.def_instr.specs.declared.Instr.TheVariants.{Jal, CJalr, Beq, Bne, Blt, Bge, Bltu, Bgeu}
-use Rattle.def_machine.specs.Board.{Board}
+use Rattle.def_machine.specs.Platform.{Platform}
 use Rattle.def_machine.specs.Image.{Image, root, stack_base, frames_most}
 use Rattle.def_machine.specs.State.{State, Object, register, thread}
 use Rattle.def_machine.specs.Objects.{charges}
@@ -41,7 +41,7 @@ use Rattle.def_step.specs.Quotas.{Allocation, Refused, Made, allocate, allocated
 use Rattle.def_step.specs.Routines.{Ran, Traps, Leaves, checked, code, sleep, stops, switch, switched_to, tells, wait, waits, wake, wakes, word_checks, yield}
 use Rattle.def_step.specs.Switch.{Switched, TooDeep, NoStack, Enters, called, frame_top, new_top, past_checks, return_checks, switch_checks, with_room}
 use Rattle.def_step.specs.Tokens.{by_key, frees_token, key_of, made_token, opens, token_free, token_key, token_new, token_of, token_open}
-use Rattle.law_routines.specs.Leaving.{IfRan, Left}
+use Rattle.def_events.specs.Leaving.{IfRan, Left}
 use Rattle.law_routines.proofs.Cases.{by_next, by_routine}
 use Rattle.law_routines.proofs.Leaving.{option_tells, routines_left}
 use Rattle.law_events.proofs.Fairness.{some_same}
@@ -251,7 +251,7 @@ jump_traps (Bltu rs1 rs2 offset) x y pcc posture named why e = branch_traps (is_
 jump_traps (Bgeu rs1 rs2 offset) x y pcc posture named why e = branch_traps (is_taken (Bgeu rs1 rs2 offset) (cap_address x) (cap_address y)) pcc posture offset why e
 jump_traps k x y pcc posture named why e = absurd (let clash : passed_over pcc posture ≡ Err why = e in cc)
 
-flows_traps : (b : Board) (s : State) (t to : ℕ) (r : Result Flowed Trap) (why : Trap) → flows (around b s t) to r ≡ Err why → r ≡ Err why
+flows_traps : (b : Platform) (s : State) (t to : ℕ) (r : Result Flowed Trap) (why : Trap) → flows (around b s t) to r ≡ Err why → r ≡ Err why
 flows_traps b s t to (Ok f) why e = absurd (let clash : error_ok (flows (around b s t) to (Ok f)) ≡ error_ok (Err why) = ap error_ok e in let plain : true ≡ false = clash in cc)
   where
     error_ok : Result Effect Trap → Bool
@@ -259,7 +259,7 @@ flows_traps b s t to (Ok f) why e = absurd (let clash : error_ok (flows (around 
     error_ok (Err w) = false
 flows_traps b s t to (Err w) why e = ap (λ (z : Trap). Err z) (ap (error_of why) e)
 
-accesses_traps : (b : Board) (s : State) (t to : ℕ) (r : Result Accessed Trap) (why : Trap) → accesses (around b s t) to r ≡ Err why → r ≡ Err why
+accesses_traps : (b : Platform) (s : State) (t to : ℕ) (r : Result Accessed Trap) (why : Trap) → accesses (around b s t) to r ≡ Err why → r ≡ Err why
 accesses_traps b s t to (Ok m) why e = absurd (let clash : error_ok (accesses (around b s t) to (Ok m)) ≡ error_ok (Err why) = ap error_ok e in let plain : true ≡ false = clash in cc)
   where
     error_ok : Result Effect Trap → Bool
@@ -267,12 +267,12 @@ accesses_traps b s t to (Ok m) why e = absurd (let clash : error_ok (accesses (a
     error_ok (Err w) = false
 accesses_traps b s t to (Err w) why e = ap (λ (z : Trap). Err z) (ap (error_of why) e)
 
-access_traps : (b : Board) (s : State) (t to : ℕ) (k : Instr) (why : Trap) → accesses (around b s t) to (access_result k (authority_of s t k) (value_of s t k) (space_of b s)) ≡ Err why
+access_traps : (b : Platform) (s : State) (t to : ℕ) (k : Instr) (why : Trap) → accesses (around b s t) to (access_result k (authority_of s t k) (value_of s t k) (space_of b s)) ≡ Err why
     → first_failed (access_checks (access_of k) (authority_of s t k) (value_of s t k) (access_start s t k)) ≡ Some why
 unfolding access_result
 access_traps b s t to k why e = unless_traps _ (accessed (access_of k) (authority_of s t k) (value_of s t k) (access_start s t k) (space_of b s)) why (accesses_traps b s t to _ why e)
 
-class_traps : (b : Board) (s : State) (t to named : ℕ) (c : Class) (k : Instr) (why : Trap) → carried_out c k to (authority_of s t k) (value_of s t k) named (around b s t) ≡ Err why → first_failed (class_checks c k s t) ≡ Some why
+class_traps : (b : Platform) (s : State) (t to named : ℕ) (c : Class) (k : Instr) (why : Trap) → carried_out c k to (authority_of s t k) (value_of s t k) named (around b s t) ≡ Err why → first_failed (class_checks c k s t) ≡ Some why
 class_traps b s t to named class.Integer k why e = absurd (let clash : Ok _ ≡ Err why = e in cc)
 class_traps b s t to named class.Capability k why e = absurd (let clash : Ok _ ≡ Err why = e in cc)
 class_traps b s t to named class.System k why e = ap (λ (z : Trap). Some z) (ap (error_of why) e)
@@ -295,7 +295,7 @@ TellsNamed P r = (d : Deed) (cause code register : ℕ) → r.1 ≡ Some d → d
 none_named : (P : Trap → Type 0) (z : State) → TellsNamed P (z, None)
 none_named P z d cause code register e act = absurd (let clash : None ≡ Some d = e in cc)
 
-trap_named : (P : Trap → Type 0) (b : Board) (s : State) (t : ℕ) (why : Trap) → P why → TellsNamed P (trapped b s t why)
+trap_named : (P : Trap → Type 0) (b : Platform) (s : State) (t : ℕ) (why : Trap) → P why → TellsNamed P (trapped b s t why)
 trap_named P b s t why h d cause code register e act =
     some_same (λ (d : Deed). d.act ≡ acts.Trap cause code register → P (record { cause = cause; code = code; register = register })) (deed s t 0 (acts.Trap why.cause why.code why.register)) d e
     (λ is. subst P (ap trap_in is) h) act
@@ -316,7 +316,7 @@ access_other (acts.Allocate number base long live) h = absurd h
 access_other (acts.Free number base long live) h = absurd h
 access_other (acts.Trap cause code register) h = absurd h
 
-ends_named : (P : Trap → Type 0) (b : Board) (s : State) (t : ℕ) (x : Cap) (r : Result Effect Trap) → IfDone r → ((why : Trap) → r ≡ Err why → P why) → TellsNamed P (instruction_end b s t x r)
+ends_named : (P : Trap → Type 0) (b : Platform) (s : State) (t : ℕ) (x : Cap) (r : Result Effect Trap) → IfDone r → ((why : Trap) → r ≡ Err why → P why) → TellsNamed P (instruction_end b s t x r)
 ends_named P b s t x (Err why) acts_of h = trap_named P b s t why (h why refl)
 ends_named P b s t x (Ok d) acts_of h = by d.act acts_of
   where
@@ -329,7 +329,7 @@ others_left : (i : Image) (s : State) (t n : ℕ) → n ≤ LAST_ROUTINE → (n 
 others_left i s t n few other = routines_left (IfTold IsOther) i s t n few other
     (record { tells = λ n. tt; enters = λ high. tt; stops = λ status. tt; wakes = λ address most. tt; hands = λ size r is. tt; gives = λ r c is. tt; seals = λ size key r is k. tt; opens = λ key r is. tt })
 
-served_named : (P : Trap → Type 0) (b : Board) (s : State) (t : ℕ) (o : Option Ran) → (o ≡ None → ⊥) → IfRan (Left (IfTold IsOther)) o → ((why : Trap) → o ≡ Some (Traps why) → P why) → TellsNamed P (served b s t o)
+served_named : (P : Trap → Type 0) (b : Platform) (s : State) (t : ℕ) (o : Option Ran) → (o ≡ None → ⊥) → IfRan (Left (IfTold IsOther)) o → ((why : Trap) → o ≡ Some (Traps why) → P why) → TellsNamed P (served b s t o)
 served_named P b s t None some h traps = absurd (some refl)
 served_named P b s t (Some (Traps why)) some h traps = trap_named P b s t why (traps why refl)
 served_named P b s t (Some (Leaves z None)) some h traps = none_named P z
@@ -354,7 +354,7 @@ some_routine i s t n few other = by_routine (λ (o : Option Ran). o ≡ None →
 
 -- ---- whole
 
-module _ (b : Board) (s : State) (t : ℕ) where
+module _ (b : Platform) (s : State) (t : ℕ) where
   abbrev NextNames : Next → Trap → Type 0
   NextNames n why = first_failed (next_checks b.image s t n) ≡ Some why
 
@@ -377,7 +377,7 @@ module _ (b : Board) (s : State) (t : ℕ) where
 
 -- ---- an event
 
-step_named : (b : Board) (s : State) (d : Deed) (cause code register : ℕ) → (stepped b s).1 ≡ Some d → d.act ≡ acts.Trap cause code register → FirstFails (step_checks b (ready b s) d.thread) (record { cause = cause; code = code; register = register })
+step_named : (b : Platform) (s : State) (d : Deed) (cause code register : ℕ) → (stepped b s).1 ≡ Some d → d.act ≡ acts.Trap cause code register → FirstFails (step_checks b (ready b s) d.thread) (record { cause = cause; code = code; register = register })
 step_named b s d cause code register e act = step_case (λ (r : State × Option Deed). r.1 ≡ Some d → FirstFails (step_checks b (ready b s) d.thread) (record { cause = cause; code = code; register = register })) b s
     (λ idle told. none_told d told)
     (λ t runs told. (let tells = executed_tells b (ready b s) t d told in
@@ -385,7 +385,7 @@ step_named b s d cause code register e act = step_case (λ (r : State × Option 
     (first_fails (step_checks b (ready b s) t) (record { cause = cause; code = code; register = register }) (executed_named b (ready b s) t d cause code register told act))))
     e
 
-pub traps_first : (b : Board) (s : State) (e : Event) → TrapsFirst b s e
+pub traps_first : (b : Platform) (s : State) (e : Event) → TrapsFirst b s e
 traps_first b s Step d cause code register is act = step_named b s d cause code register is act
 traps_first b s Tick d cause code register is act = none_told d is
 traps_first b s Sweep d cause code register is act = none_told d is

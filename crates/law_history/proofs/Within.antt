@@ -4,24 +4,24 @@ use Rattle.law_lists.proofs.Tests.{bool_tells}
 use Rattle.def_words.specs.declared.Cap.{Cap}
 use Rattle.def_words.specs.Authority.{cap_base, cap_top}
 use Rattle.def_words.specs.Permissions.{load_data, store_data, execute}
-use Rattle.def_facts.specs.Facts.{Reads}
-use Rattle.def_machine.specs.Board.{Board}
+use Rattle.def_confined.specs.Facts.{GrantsAccess}
+use Rattle.def_machine.specs.Platform.{Platform}
 use Rattle.def_machine.specs.Heap.{ram_size}
 use Rattle.def_machine.specs.Image.{root}
 use Rattle.def_machine.specs.State.{State, register, thread}
-use Rattle.def_board.specs.Inside.{Inside, IsWithin}
+use Rattle.def_safety.specs.Inside.{Inside, IsWithin}
 use Rattle.def_confined.specs.Capabilities.{Rooted, heap_cap}
 use Rattle.def_confined.specs.Confined.{Confined}
 use Rattle.def_confined.specs.Keeps.{Keeps}
 use Rattle.def_confined.specs.Partitioned.{Partitioned}
-use Rattle.law_jumps.proofs.Moves.{in_rooted}
+use Rattle.law_moves.proofs.JumpsMoves.{in_rooted}
 use Rattle.law_events.proofs.Events.{ready_keeps}
 use Rattle.def_safety.specs.Each.{ready}
 use Rattle.def_safety.specs.Within.{MayTouch, ThreadsWithin}
 
-module _ (b : Board) (s : State) (inside : Inside b) (parts : Partitioned b.image) (h : Confined b.image s) where
+module _ (b : Platform) (s : State) (inside : Inside b) (parts : Partitioned b.image) (h : Confined b.image s) where
   -- the rights of a capability are its root's
-  reads : (c : Cap) → Rooted b.image c → heap_cap b.image c ≡ false → MayTouch c → Reads (root b.image c.shadow.root)
+  reads : (c : Cap) → Rooted b.image c → heap_cap b.image c ≡ false → MayTouch c → GrantsAccess (root b.image c.shadow.root)
   reads c r other (inl loads) = inl (r.rights other load_data loads)
   reads c r other (inr (inl stores)) = inr (inl (r.rights other store_data stores))
   reads c r other (inr (inr runs)) = inr (inr (r.rights other execute runs))
@@ -49,5 +49,5 @@ module _ (b : Board) (s : State) (inside : Inside b) (parts : Partitioned b.imag
     counters = λ t tagged any x low high. cap_within (thread s t).pcc x (in_rooted b.image s.objects t (thread s t).frames (thread s t).pcc (h.pcc t) tagged) any low high;
   }
 
-pub ready_within : (b : Board) (s : State) → Inside b → Partitioned b.image → Keeps b.image s → ThreadsWithin b (ready b s)
+pub ready_within : (b : Platform) (s : State) → Inside b → Partitioned b.image → Keeps b.image s → ThreadsWithin b (ready b s)
 ready_within b s inside parts k = state_within b (ready b s) inside parts (ready_keeps b s parts k).confined

@@ -1,22 +1,31 @@
 //! Laws of what events do one after another, whatever list of them comes: calls are clean, what is accessed is
 //! licensed, a trap names the first check that fails, no freed object is used, what is handed out is fresh and comes
-//! after a whole sweep, charges follow what is told and no quota is exceeded, what threads hold stays inside the board,
-//! and a frame's error handler is entered at most once. They speak of the written machine alone.
+//! after a whole sweep, charges follow what is told and no quota is exceeded, what threads hold stays inside the
+//! platform, a frame's error handler is entered at most once, and keys and tokens are kept. They speak of the written
+//! machine alone.
 #![tactic(auto)]
 
+mod causes;
+mod derived;
+mod marks;
+mod reuse;
+mod sealing;
+mod shadows;
+mod token_rows;
+
 ghost use Rattle.std.specs.Prelude.{◌≤◌, ℕ, List};
-ghost use Rattle.def_board.specs.Inside.{Inside};
-ghost use Rattle.def_board.specs.Wired.{Wired};
+ghost use Rattle.def_safety.specs.Inside.{Inside};
+ghost use Rattle.def_safety.specs.Wired.{Wired};
 ghost use Rattle.def_confined.specs.Keeps.{Keeps};
 ghost use Rattle.def_confined.specs.Partitioned.{Partitioned};
-ghost use Rattle.def_facts.specs.Facts.{Facts};
+ghost use Rattle.def_confined.specs.Facts.{Facts};
 ghost use Rattle.def_hidden.specs.Hidden.{Blank, Shut};
 ghost use Rattle.def_machine.specs.Image.{root};
 ghost use Rattle.def_machine.specs.Objects.{charges};
 ghost use Rattle.def_machine.specs.State.{State};
 ghost use Rattle.def_step.specs.declared.Event.{Event};
 ghost use Rattle.def_step.specs.Events.{run};
-ghost use Rattle.def_machine.specs.Board.{Board};
+ghost use Rattle.def_machine.specs.Platform.{Platform};
 ghost use Rattle.def_safety.specs.Accesses.{UsesReach};
 ghost use Rattle.def_safety.specs.Charges.{ChargesFollow};
 ghost use Rattle.def_safety.specs.Chunks.{SweptBeforeReuse, UnusedAfterFree};
@@ -27,14 +36,24 @@ ghost use Rattle.def_safety.specs.Traps.{TrapsFirst};
 ghost use Rattle.def_safety.specs.Within.{ThreadsWithin};
 ghost use Rattle.def_events.specs.Upheld.{Upholds};
 ghost use Rattle.def_machine.specs.Rows.{RowsFit};
-ghost use Rattle.def_tokens.specs.Tokened.{Tokened};
+ghost use Rattle.def_safety.specs.Tokened.{Tokened};
+
+pub use causes::{
+    allocations_refused, services_answer, sleeps_last, tokens_answer, wakes_in_order,
+};
+pub use derived::{events_derive, events_derive_opened};
+pub use marks::handlers_enter_once;
+pub use reuse::{sweep_before_reuse, sweeps_paint};
+pub use sealing::{events_fit, events_tokened, keys_last, tokens_opened, tokens_stay_shut};
+pub use shadows::shadows_unread;
+pub use token_rows::rows_last;
 
 /// Each event upholds what a record says of it: calls are clean, accesses are licensed, no freed object is used, what
 /// is handed out is fresh, a trap names the first check that fails, charges follow what is told, what threads hold stays
 /// inside the board, a frame's error handler is entered where a trap is told that enters it, and only once, and keys and
 /// tokens are kept.
 pub fn events_safe()
-    ensures { (b : Board) (s : State) (es : List Event)
+    ensures { (b : Platform) (s : State) (es : List Event)
         → Partitioned b.image → Facts b.image → Wired b → Inside b → Shut b.image
         → Keeps b.image s → Blank b.image s → RowsFit s.objects s.tokens → Tokened b.image s
         → EachEvent (Upholds b) b s es }
@@ -47,7 +66,7 @@ pub fn events_safe()
 /// top. A trap that enters an error handler begins it with its own code, the way back, the stack from the
 /// record of the trap on and its compartment's globals, and nothing else tagged.
 pub fn calls_clean()
-    ensures { (b : Board) (s : State) (es : List Event)
+    ensures { (b : Platform) (s : State) (es : List Event)
         → Partitioned b.image → Facts b.image → Wired b → Keeps b.image s
         → EachEvent (CleanEvent b) b s es }
 {}
@@ -59,7 +78,7 @@ pub fn calls_clean()
 /// capability in a live object; and the root's rights hold what is used: execute, load or store, and the right to move
 /// capabilities where one is moved.
 pub fn accesses_licensed()
-    ensures { (b : Board) (s : State) (es : List Event)
+    ensures { (b : Platform) (s : State) (es : List Event)
         → Partitioned b.image → Facts b.image → Wired b → Keeps b.image s
         → EachEvent (λ z e. UsesReach b z) b s es }
 {}
@@ -67,13 +86,13 @@ pub fn accesses_licensed()
 /// Traps. A trap that a step tells is that of the first check that fails, of the list that is written for what stands at
 /// the program counter: each check before it holds, and it doesn't.
 pub fn traps_first()
-    ensures { (b : Board) (s : State) (es : List Event) → EachEvent (TrapsFirst b) b s es }
+    ensures { (b : Platform) (s : State) (es : List Event) → EachEvent (TrapsFirst b) b s es }
 {}
 
 /// Machine stays inside. What a thread may load, store or run through, by a register or its program counter,
 /// reaches RAM, devices and the entries of native routines alone.
 pub fn threads_within()
-    ensures { (b : Board) (s : State) (es : List Event)
+    ensures { (b : Platform) (s : State) (es : List Event)
         → Partitioned b.image → Facts b.image → Wired b → Inside b → Keeps b.image s
         → EachEvent (λ z e. ThreadsWithin b (ready b z)) b s es }
 {}
@@ -81,7 +100,7 @@ pub fn threads_within()
 /// No use after free, by rows. No load or store whose checks pass, and no wait or wake, goes through a capability
 /// of an object that isn't live.
 pub fn freed_unused()
-    ensures { (b : Board) (s : State) (es : List Event)
+    ensures { (b : Platform) (s : State) (es : List Event)
         → Partitioned b.image → Facts b.image → Wired b → Keeps b.image s
         → EachEvent (λ z e. UsesLive b z) b s es }
 {}
@@ -89,14 +108,14 @@ pub fn freed_unused()
 /// No use after free, by deeds. Where a free is told after some events, then after any more no load or store whose
 /// checks pass, and no wait or wake, goes through a capability of the freed object.
 pub fn freed_stay_unused()
-    ensures { (b : Board) (s : State)
+    ensures { (b : Platform) (s : State)
         → Partitioned b.image → Facts b.image → Wired b → Keeps b.image s → UnusedAfterFree b s }
 {}
 
 /// Charges. A free that is told takes the object's length and head from the live charges on its quota, an allocation
 /// adds them; those on other quotas stay, and what is told is what the charges come to.
 pub fn charges_follow()
-    ensures { (b : Board) (s : State) (es : List Event)
+    ensures { (b : Platform) (s : State) (es : List Event)
         → Partitioned b.image → Facts b.image → Wired b → Keeps b.image s
         → EachEvent (ChargesFollow b) b s es }
 {}
@@ -104,7 +123,7 @@ pub fn charges_follow()
 /// Fresh objects. A new object reads as zero and untagged, and no other capability that isn't empty covers
 /// it.
 pub fn allocations_fresh()
-    ensures { (b : Board) (s : State) (es : List Event)
+    ensures { (b : Platform) (s : State) (es : List Event)
         → Partitioned b.image → Facts b.image → Wired b → Shut b.image → Keeps b.image s
         → Blank b.image s → EachEvent (AllocatesFresh b) b s es }
 {}
@@ -113,14 +132,14 @@ pub fn allocations_fresh()
 /// meets the chunk of the freed object, there was a whole sweep among these, which began after the free: its front
 /// passed all of RAM, a slice at a time.
 pub fn chunks_swept()
-    ensures { (b : Board) (s : State)
+    ensures { (b : Platform) (s : State)
         → Partitioned b.image → Facts b.image → Wired b → Shut b.image → Keeps b.image s
         → Blank b.image s → SweptBeforeReuse b s }
 {}
 
 /// Quotas hold. After any list of events the live charges on each quota are at most its limit.
 pub fn quotas_hold()
-    ensures { (b : Board) (s : State) (es : List Event) (q : ℕ)
+    ensures { (b : Platform) (s : State) (es : List Event) (q : ℕ)
         → Partitioned b.image → Facts b.image → Wired b → Keeps b.image s
         → charges q (run b s es).objects ≤ (root b.image q).limit }
 {}

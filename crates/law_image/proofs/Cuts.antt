@@ -5,7 +5,7 @@ use Rattle.std.specs.Int.{w32, from_le_bytes}
 use Rattle.def_image.specs.declared.RawEntry.{RawEntry}
 use Rattle.def_image.specs.Raw.{RawDevice, RawShared, RawSealed, RawCode, RawCompartment, RawThread}
 use Rattle.def_image.specs.Spelling.{number, count, entry_spelled, device_spelled, shared_spelled, sealed_spelled, compartment_spelled, library_spelled, thread_spelled, padding_after}
-use Rattle.def_image.specs.Shapes.{IsNumber, IsEntry, IsDevice, IsShared, IsSealed, IsCode, IsCompartment, IsThread}
+use Rattle.def_image.specs.Shapes.{IsNumber, IsRawEntry, IsDevice, IsShared, IsSealed, IsCode, IsCompartment, IsThread}
 use Rattle.law_image.proofs.Rows.{number_back}
 
 -- the front and the rest are equal
@@ -49,7 +49,7 @@ list_cut P spell one (x ∷ xs) (y ∷ ys) s t hx hy n e =
 abbrev pub same_entry : RawEntry → RawEntry
 same_entry x = record { row = x.row; name = x.name }
 
-pub entry_cut : (x y : RawEntry) (s t : List ℕ) → IsEntry x → IsEntry y → entry_spelled x ++ s ≡ entry_spelled y ++ t → Cut x y s t
+pub entry_cut : (x y : RawEntry) (s t : List ℕ) → IsRawEntry x → IsRawEntry y → entry_spelled x ++ s ≡ entry_spelled y ++ t → Cut x y s t
 entry_cut x y s t hx hy e =
     let e0 = simp append_assoc at e in
     let a0 = field_cut (x.row) (y.row) (x.name ++ s) (y.name ++ t) (hx.0.size ∙ sym hy.0.size) e0 in
@@ -124,8 +124,8 @@ library_cut x y s t hx hy e =
     let a3 = number_cut (length x.text) (length y.text) (count x.slots ++ (count x.exports ++ (flat_map entry_spelled x.slots ++ (flat_map entry_spelled x.exports ++ (x.text ++ s))))) (count y.slots ++ (count y.exports ++ (flat_map entry_spelled y.slots ++ (flat_map entry_spelled y.exports ++ (y.text ++ t))))) hx.text.0 hy.text.0 a2.rest in
     let a4 = number_cut (length x.slots) (length y.slots) (count x.exports ++ (flat_map entry_spelled x.slots ++ (flat_map entry_spelled x.exports ++ (x.text ++ s)))) (count y.exports ++ (flat_map entry_spelled y.slots ++ (flat_map entry_spelled y.exports ++ (y.text ++ t)))) hx.slots.0 hy.slots.0 a3.rest in
     let a5 = number_cut (length x.exports) (length y.exports) (flat_map entry_spelled x.slots ++ (flat_map entry_spelled x.exports ++ (x.text ++ s))) (flat_map entry_spelled y.slots ++ (flat_map entry_spelled y.exports ++ (y.text ++ t))) hx.exports.0 hy.exports.0 a4.rest in
-    let a6 = list_cut IsEntry entry_spelled entry_cut (x.slots) (y.slots) (flat_map entry_spelled x.exports ++ (x.text ++ s)) (flat_map entry_spelled y.exports ++ (y.text ++ t)) hx.slots.1 hy.slots.1 (a4.front) a5.rest in
-    let a7 = list_cut IsEntry entry_spelled entry_cut (x.exports) (y.exports) (x.text ++ s) (y.text ++ t) hx.exports.1 hy.exports.1 (a5.front) a6.rest in
+    let a6 = list_cut IsRawEntry entry_spelled entry_cut (x.slots) (y.slots) (flat_map entry_spelled x.exports ++ (x.text ++ s)) (flat_map entry_spelled y.exports ++ (y.text ++ t)) hx.slots.1 hy.slots.1 (a4.front) a5.rest in
+    let a7 = list_cut IsRawEntry entry_spelled entry_cut (x.exports) (y.exports) (x.text ++ s) (y.text ++ t) hx.exports.1 hy.exports.1 (a5.front) a6.rest in
     let a8 = field_cut (x.text) (y.text) s t (a3.front) a7.rest in
     let f0 : x.name ≡ y.name = a0.front in
     let f1 : x.base ≡ y.base = a1.front in
@@ -155,8 +155,8 @@ compartment_cut x y s t hx hy e =
     let a7 = number_cut (length x.initial) (length y.initial) (count x.code.slots ++ (count x.code.exports ++ (flat_map entry_spelled x.code.slots ++ (flat_map entry_spelled x.code.exports ++ (x.code.text ++ (x.initial ++ (x.padding ++ s))))))) (count y.code.slots ++ (count y.code.exports ++ (flat_map entry_spelled y.code.slots ++ (flat_map entry_spelled y.code.exports ++ (y.code.text ++ (y.initial ++ (y.padding ++ t))))))) hx.initial.0 hy.initial.0 a6.rest in
     let a8 = number_cut (length x.code.slots) (length y.code.slots) (count x.code.exports ++ (flat_map entry_spelled x.code.slots ++ (flat_map entry_spelled x.code.exports ++ (x.code.text ++ (x.initial ++ (x.padding ++ s)))))) (count y.code.exports ++ (flat_map entry_spelled y.code.slots ++ (flat_map entry_spelled y.code.exports ++ (y.code.text ++ (y.initial ++ (y.padding ++ t)))))) hx.code.slots.0 hy.code.slots.0 a7.rest in
     let a9 = number_cut (length x.code.exports) (length y.code.exports) (flat_map entry_spelled x.code.slots ++ (flat_map entry_spelled x.code.exports ++ (x.code.text ++ (x.initial ++ (x.padding ++ s))))) (flat_map entry_spelled y.code.slots ++ (flat_map entry_spelled y.code.exports ++ (y.code.text ++ (y.initial ++ (y.padding ++ t))))) hx.code.exports.0 hy.code.exports.0 a8.rest in
-    let a10 = list_cut IsEntry entry_spelled entry_cut (x.code.slots) (y.code.slots) (flat_map entry_spelled x.code.exports ++ (x.code.text ++ (x.initial ++ (x.padding ++ s)))) (flat_map entry_spelled y.code.exports ++ (y.code.text ++ (y.initial ++ (y.padding ++ t)))) hx.code.slots.1 hy.code.slots.1 (a8.front) a9.rest in
-    let a11 = list_cut IsEntry entry_spelled entry_cut (x.code.exports) (y.code.exports) (x.code.text ++ (x.initial ++ (x.padding ++ s))) (y.code.text ++ (y.initial ++ (y.padding ++ t))) hx.code.exports.1 hy.code.exports.1 (a9.front) a10.rest in
+    let a10 = list_cut IsRawEntry entry_spelled entry_cut (x.code.slots) (y.code.slots) (flat_map entry_spelled x.code.exports ++ (x.code.text ++ (x.initial ++ (x.padding ++ s)))) (flat_map entry_spelled y.code.exports ++ (y.code.text ++ (y.initial ++ (y.padding ++ t)))) hx.code.slots.1 hy.code.slots.1 (a8.front) a9.rest in
+    let a11 = list_cut IsRawEntry entry_spelled entry_cut (x.code.exports) (y.code.exports) (x.code.text ++ (x.initial ++ (x.padding ++ s))) (y.code.text ++ (y.initial ++ (y.padding ++ t))) hx.code.exports.1 hy.code.exports.1 (a9.front) a10.rest in
     let a12 = field_cut (x.code.text) (y.code.text) (x.initial ++ (x.padding ++ s)) (y.initial ++ (y.padding ++ t)) (a3.front) a11.rest in
     let a13 = field_cut (x.initial) (y.initial) (x.padding ++ s) (y.padding ++ t) (a7.front) a12.rest in
     let a14 = field_cut (x.padding) (y.padding) s t (hx.padding.size ∙ ap padding_after a7.front ∙ sym hy.padding.size) a13.rest in

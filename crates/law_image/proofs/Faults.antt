@@ -13,7 +13,7 @@ use Rattle.def_image.specs.Indexes.{index_checks}
 use Rattle.def_image.specs.Rights.{right_checks}
 use Rattle.def_image.specs.Accepted.{is_begun, Spells, IsImage, IsCut, BreaksLimit, SpellsParts, BreaksRegion, BreaksIndex, BreaksRight}
 use Rattle.law_lists.proofs.Tests.{le_tells}
-use Rattle.law_image.specs.Answers.{ImagesHaveNoFault, OneFault}
+use Rattle.def_image.specs.Answers.{ImagesHaveNoFault, OneFault}
 use Rattle.law_image.proofs.Rows.{number_back}
 use Rattle.law_image.proofs.OneCut.{one_cut}
 use Rattle.law_image.proofs.Backs.{one_reading}

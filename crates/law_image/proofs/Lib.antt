@@ -14,3 +14,9 @@ pub mod Backs
 pub mod Walks
 pub mod Places
 pub mod Faults
+pub mod Flags
+pub mod Limits
+pub mod Regions
+pub mod Slots
+pub mod Accepted
+pub mod Alike

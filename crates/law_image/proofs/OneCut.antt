@@ -7,7 +7,7 @@ use Rattle.def_image.specs.Raw.{RawImage}
 use Rattle.def_image.specs.Spelling.{number, count, device_spelled, shared_spelled, sealed_spelled, compartment_spelled, library_spelled, thread_spelled, magic, sweep_spelled, spelled}
 use Rattle.def_image.specs.Shapes.{IsNumber, IsDevice, IsShared, IsSealed, IsCode, IsCompartment, IsThread, IsShaped}
 use Rattle.def_image.specs.Reading.{OneCut}
-use Rattle.law_image.specs.Answers.{EndsWhole}
+use Rattle.def_image.specs.Answers.{EndsWhole}
 use Rattle.law_image.proofs.Cuts.{Cut, field_cut, number_cut, list_cut, device_cut, shared_cut, sealed_cut, compartment_cut, library_cut, thread_cut}
 
 -- the sweep rate is a field from version 2 on

@@ -7,9 +7,9 @@ use Rattle.def_image.specs.declared.RawEntry.{RawEntry}
 use Rattle.def_image.specs.declared.format.TheConstants.{THREAD}
 use Rattle.def_image.specs.Raw.{RawDevice, RawShared, RawSealed, RawCode, RawCompartment, RawThread, RawImage}
 use Rattle.def_image.specs.Spelling.{number, count, magic, sweep_spelled, entry_spelled, device_spelled, shared_spelled, sealed_spelled, tables_spelled, compartment_spelled, library_spelled, thread_spelled, spelled}
-use Rattle.def_image.specs.Shapes.{IsField, IsEntry, IsDevice, IsShared, IsSealed, IsCode, IsCompartment, IsThread, IsShaped}
+use Rattle.def_image.specs.Shapes.{IsField, IsRawEntry, IsDevice, IsShared, IsSealed, IsCode, IsCompartment, IsThread, IsShaped}
 use Rattle.def_image.specs.Sizes.{sum_of, rate_size, sealed_size, tables_size, compartment_size, library_size, threads_at}
-use Rattle.law_image.specs.Answers.{PlacesAreOffsets}
+use Rattle.def_image.specs.Answers.{PlacesAreOffsets}
 
 -- ---- lists
 
@@ -35,7 +35,7 @@ summed P spell size one (x ∷ xs) h =
 
 -- ---- members
 
-pub entry_long : (e : RawEntry) → IsEntry e → length (entry_spelled e) ≡ 48
+pub entry_long : (e : RawEntry) → IsRawEntry e → length (entry_spelled e) ≡ 48
 entry_long e h = joined e.row e.name 16 32 h.0.size h.1.size
 
 pub device_long : (d : RawDevice) → IsDevice d → length (device_spelled d) ≡ 40
@@ -64,8 +64,8 @@ sealed_long s h =
 
 tables_long : (c : RawCode) → IsCode c → length (tables_spelled c) ≡ tables_size c
 tables_long c h =
-    let slots = alike IsEntry entry_spelled 48 entry_long c.slots h.slots.1 in
-    let exports = alike IsEntry entry_spelled 48 entry_long c.exports h.exports.1 in
+    let slots = alike IsRawEntry entry_spelled 48 entry_long c.slots h.slots.1 in
+    let exports = alike IsRawEntry entry_spelled 48 entry_long c.exports h.exports.1 in
     let a0 = joined (flat_map entry_spelled c.slots) (flat_map entry_spelled c.exports) (48 * length c.slots) (48 * length c.exports) slots exports in
     joined (flat_map entry_spelled c.slots ++ flat_map entry_spelled c.exports) c.text (48 * length c.slots + 48 * length c.exports) (length c.text) a0 refl
 

@@ -4,7 +4,7 @@ use Rattle.std.proofs.lemmas.List.{drop_more, take_more, nil_from_length, length
 use Rattle.def_image.specs.declared.Check.{Check}
 use Rattle.def_image.specs.Checks.{first, walked}
 use Rattle.def_image.specs.Sizes.{sum_of}
-use Rattle.law_image.specs.First.{or_else}
+use Rattle.def_image.specs.First.{or_else}
 
 first_by : (b : Bool) (a : ℕ) (x y : Option ℕ) → cond b (Some a) (or_else x y) ≡ or_else (cond b (Some a) x) y
 first_by true a x y = refl

@@ -4,6 +4,8 @@
 //! contracts are the laws.
 #![tactic(auto)]
 
+mod upgrade;
+
 ghost use Rattle.std.specs.Prelude.{◌≡◌, None};
 ghost use Rattle.def_image.specs.Accepted.{IsFaultless};
 ghost use Rattle.def_image.specs.Checks.{first};
@@ -12,7 +14,9 @@ ghost use Rattle.def_image.specs.Lying.{region_checks};
 ghost use Rattle.def_image.specs.Parts.{PartsRow};
 ghost use Rattle.def_image.specs.Reading.{OneCut, OneReading};
 ghost use Rattle.def_image.specs.Sound.{Sound};
-ghost use Rattle.law_image.specs.Answers.{EndsWhole, ImagesHaveNoFault, OneFault, PlacesAreOffsets};
+ghost use Rattle.def_image.specs.Answers.{EndsWhole, ImagesHaveNoFault, OneFault, PlacesAreOffsets};
+
+pub use upgrade::{upgrade_boots_alike, upgrade_is_accepted};
 
 /// Regions of an image whose checks of regions pass are laid out apart, in RAM below the heap.
 pub fn regions_laid()

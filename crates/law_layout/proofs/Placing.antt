@@ -9,7 +9,7 @@ use Rattle.law_words.proofs.Leasts.{exponent_is, ceil_le, floor_under}
 use Rattle.law_words.proofs.Exacts.{no_larger, exact_flag}
 use Rattle.def_layout.specs.declared.Region.{Region}
 use Rattle.def_layout.specs.Placement.{whole_size, region_length, region_base, region, placed, last_end, needed}
-use Rattle.law_layout.specs.Lies.{AreSmall, IsSpelled}
+use Rattle.def_layout.specs.Lies.{AreSmall, IsSpelled}
 use Rattle.law_layout.proofs.Multiples.{whole_of, coarser, ceil_whole, base_least, after}
 
 -- where the region of the first size ends

@@ -1,15 +1,16 @@
-//! Laws of placement: the bases that *Placement* gives are the least lawful ones, its regions stand
-//! in order and can be spelled by a word, and what it takes tells whether they lie in RAM. Functions
-//! with empty bodies whose contracts are the laws.
+//! Laws of placement: the bases that *Placement* gives are the least lawful ones, its regions stand in order and can be
+//! spelled by a word, what it takes tells whether they lie in RAM, and a length is rounded to the least exact one.
+//! Functions with empty bodies whose contracts are the laws.
 #![tactic(auto)]
+
+mod rounds;
 
 ghost use Rattle.std.specs.Prelude.{◌%◌, ◌+◌, ◌<◌, ◌≡◌, ◌≤◌, List, Some, length, slice_get, ℕ};
 ghost use Rattle.def_layout.specs.declared.Region.{Region};
 ghost use Rattle.def_layout.specs.Placement.{IsLeastBase, last_end, needed, placed, region_base, region_length};
-ghost use Rattle.law_layout.specs.Lies.{AreSmall, IsSpelled};
+ghost use Rattle.def_layout.specs.Lies.{AreSmall, IsSpelled};
 
-/// Bytes of a region that placement is asked for, at most.
-pub const MOST_REGION: u32 = 0x0020_0000;
+pub use rounds::lengths_round_to_the_least;
 
 /// Each base is the least at or after the end before it at which a region of this size may begin.
 pub fn bases_are_least()

@@ -5,10 +5,10 @@ use Rattle.std.proofs.lemmas.Option.{slice_get-map}
 use Rattle.std.proofs.lemmas.List.{length-map}
 use Rattle.std.proofs.lemmas.Slice.Eq.{bytes_eq-Decides}
 use Rattle.law_lists.proofs.Tests.{lt_tells}
-use Rattle.def_description.specs.Rows.{ExportRow, CompartmentRow, LexportRow, LibraryRow, DescRow}
-use Rattle.def_description.specs.References.{export_name}
-use Rattle.def_description.specs.Named.{export_names, library_export_names}
-use Rattle.def_description.specs.Lawful.{Has, IsCall, IsLent}
+use Rattle.def_desc.specs.Rows.{ExportRow, CompartmentRow, LexportRow, LibraryRow, DescRow}
+use Rattle.def_desc.specs.References.{export_name}
+use Rattle.def_desc.specs.Named.{export_names, library_export_names}
+use Rattle.def_desc.specs.Lawful.{Has, IsCallImport, IsLent}
 use Rattle.def_link.specs.Slots.{index_of, Exported, exported, Exporter, full_names, export_from, compartment_exporters, library_exporters, compartment_export_named, library_export_named}
 
 pub has_mapped : {A B : Type 0} (f : A → B) (xs : List A) (x : A) → Has xs x → Has (map f xs) (f x)
@@ -81,7 +81,7 @@ exporter_of c = record { name = c.name; exports = export_names c }
 unfoldable pub library_exporter_of : LibraryRow → Exporter
 library_exporter_of l = record { name = l.name; exports = library_export_names l }
 
-pub call_found : (d : DescRow) (text : List ℕ) → IsCall d text → IsFound 0 (compartment_exporters d) (compartment_export_named d text)
+pub call_found : (d : DescRow) (text : List ℕ) → IsCallImport d text → IsFound 0 (compartment_exporters d) (compartment_export_named d text)
 unfolding exporter_of
 call_found d text h =
     let owner = exporter_of h.owner in

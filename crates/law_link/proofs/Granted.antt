@@ -4,7 +4,7 @@ use Rattle.std.specs.Prelude.{bytes_eq, unwrap_or}
 use Rattle.std.specs.List.{AllByRecursion}
 use Rattle.std.proofs.lemmas.Slice.Eq.{bytes_eq-Decides}
 use Rattle.law_lists.proofs.Alls.{all_joined, all_mapped, all_so}
-use Rattle.def_names.specs.Names.{among}
+use Rattle.def_texts.specs.Names.{among}
 use Rattle.def_layout.specs.Placement.{placed, last_end}
 use Rattle.def_image.specs.declared.SlotKind.TheVariants as kind
 use Rattle.def_image.specs.declared.format.TheConstants.{ENTRY, COMPARTMENT_HEAD, LIBRARY_HEAD}
@@ -14,17 +14,17 @@ use Rattle.def_image.specs.Sizes.{sum_of, compartments_at, libraries_at}
 use Rattle.def_image.specs.Checks.{first, walked}
 use Rattle.def_image.specs.Indexes.{part_size, code_size}
 use Rattle.def_image.specs.Rights.{fits_kind, rights_of, is_library, right_asked, library_right_asked, compartment_rights, library_rights, right_checks}
-use Rattle.def_description.specs.declared.tables.Form.{Form}
-use Rattle.def_description.specs.declared.tables.Form.TheVariants as form
+use Rattle.def_desc.specs.declared.tables.Form.{Form}
+use Rattle.def_desc.specs.declared.tables.Form.TheVariants as form
 use Rattle.def_words.specs.Permissions.{bit, set_where, form_of, packed, unpacked}
-use Rattle.def_description.specs.Reading.{rights_of as rights_of_text}
-use Rattle.def_description.specs.Tables.{device_rights, shared_rights}
-use Rattle.def_description.specs.References.{rights_fit}
-use Rattle.def_description.specs.Rows.{Target, ImportRow, QuotaRow, CompartmentRow, LimportRow, LibraryRow, DescRow}
-use Rattle.def_description.specs.Lawful.{IsLawfulImport, IsLawfulCompartment}
+use Rattle.def_desc.specs.Reading.{rights_of as rights_of_text}
+use Rattle.def_desc.specs.Tables.{device_rights, shared_rights}
+use Rattle.def_desc.specs.References.{rights_fit}
+use Rattle.def_desc.specs.Rows.{Target, ImportRow, QuotaRow, CompartmentRow, LimportRow, LibraryRow, DescRow}
+use Rattle.def_desc.specs.Lawful.{IsLawfulImport, IsLawfulCompartment}
 use Rattle.def_link.specs.Slots.{granted, claimed, slot, target_row, form_row, import_slot, quota_slot, key_slot, compartment_slots, library_slots}
 use Rattle.def_link.specs.Linked.{sizes_of, compartment_parts, compartment_entries, library_parts, parts_of}
-use Rattle.law_link.specs.Links.{Links}
+use Rattle.def_link.specs.Links.{LinksTo}
 use Rattle.law_link.proofs.Walks.{joined_none, one_none, walk_all}
 use Rattle.law_link.proofs.Linkeds.{parts, GoodCompartment, GoodLibrary, compartments_good, libraries_good, compartments_all, libraries_all}
 
@@ -124,7 +124,8 @@ library_passes at earlier c h =
     (λ place before s k. one_none place (not (fits_kind s.row.kind (rights_of s.row) && is_library s.row.kind)) (passed (fits_kind s.row.kind (rights_of s.row) && is_library s.row.kind) k))
     (at + LIBRARY_HEAD) [] c.slots h
 
-pub rights_pass : (d : DescRow) (sources : List (List ℕ)) (p : PartsRow) → Links d sources p → first (right_checks p) ≡ None
+-- each slot has rights of its kind, and a library's slots are of libraries
+pub rights_pass : (d : DescRow) (sources : List (List ℕ)) (p : PartsRow) → LinksTo d sources p → first (right_checks p) ≡ None
 unfolding right_checks parts_of
 rights_pass d sources p h =
     let s = parts d sources p h.linked in

@@ -14,17 +14,17 @@ use Rattle.def_image.specs.Spelling.{raw_of}
 use Rattle.def_image.specs.Sizes.{sum_of, compartments_at, libraries_at, threads_at}
 use Rattle.def_image.specs.Checks.{first, walked, check}
 use Rattle.def_image.specs.Indexes.{exports_of, code_in, is_named, class_of, comes_before, is_switch, is_reserved, is_astray, slot_asked, is_own_astray, own_slot_asked, compartment_asked, library_asked, enters, thread_asked, part_size, code_size, index_checks}
-use Rattle.def_description.specs.declared.tables.Form.{Form}
-use Rattle.def_description.specs.declared.tables.Form.TheVariants as form
-use Rattle.def_description.specs.Tables.{service_of}
+use Rattle.def_desc.specs.declared.tables.Form.{Form}
+use Rattle.def_desc.specs.declared.tables.Form.TheVariants as form
+use Rattle.def_desc.specs.Tables.{service_of}
 use Rattle.ct_entry.specs.Listed.{DeviceRow}
-use Rattle.def_description.specs.Rows.{Target, SharedRow, SealedRow, ImportRow, QuotaRow, ExportRow, CompartmentRow, LimportRow, LexportRow, LibraryRow, ThreadRow, DescRow}
-use Rattle.def_description.specs.Named.{device_names, shared_names, sealed_names, export_names, library_export_names}
-use Rattle.def_description.specs.Lawful.{IsCall, IsLent, Resolves, IsLawful, IsLawfulImport, IsLawfulCompartment, IsLawfulLibrary, IsLawfulThread}
+use Rattle.def_desc.specs.Rows.{Target, SharedRow, SealedRow, ImportRow, QuotaRow, ExportRow, CompartmentRow, LimportRow, LexportRow, LibraryRow, ThreadRow, DescRow}
+use Rattle.def_desc.specs.Named.{device_names, shared_names, sealed_names, export_names, library_export_names}
+use Rattle.def_desc.specs.Lawful.{IsCallImport, IsLent, Resolves, IsLawful, IsLawfulImport, IsLawfulCompartment, IsLawfulLibrary, IsLawfulThread}
 use Rattle.def_link.specs.Owners.{numbered}
 use Rattle.def_link.specs.Slots.{index_of, slot, switch_row, claimed, target_row, form_row, import_slot, quota_slot, key_slot, compartment_slots, library_slots, Exporter, compartment_export_named, library_export_named, export_gate, lexport_gate}
 use Rattle.def_link.specs.Linked.{sizes_of, BuiltCompartment, BuiltLibrary, compartment_parts, compartment_entries, library_parts, library_entries, shared_parts, sealed_parts, thread_parts, parts_of}
-use Rattle.law_link.specs.Links.{Links}
+use Rattle.def_link.specs.Links.{LinksTo}
 use Rattle.law_link.proofs.Walks.{joined_none, next_none, one_none, walk_all, walk_holding, walk_joined}
 use Rattle.law_link.proofs.Linkeds.{Parts, parts, GoodCompartment, GoodLibrary, compartments_good, libraries_good, compartments_all, libraries_all}
 use Rattle.law_link.proofs.Found.{exporter_of, library_exporter_of, index_less, call_found, lent_found}
@@ -73,7 +73,7 @@ pub record Targets (d : DescRow) (p : PartsRow) : Type 0 where
   pub devices : length p.devices ≡ length d.devices
   pub shared : length p.shared ≡ length d.shared
   pub sealed : length p.sealed ≡ length d.sealed
-  pub called : (text : List ℕ) → IsCall d text → nat_lt (compartment_export_named d text).export (exports_of (code_in p.compartments (compartment_export_named d text).owner)) ≡ true
+  pub called : (text : List ℕ) → IsCallImport d text → nat_lt (compartment_export_named d text).export (exports_of (code_in p.compartments (compartment_export_named d text).owner)) ≡ true
   pub lent : (text : List ℕ) → IsLent d text → nat_lt (library_export_named d text).export (exports_of (slice_get p.libraries (library_export_named d text).owner)) ≡ true
 
 below : (e n : ℕ) (k : ℕ) → e < n → k ≡ n → nat_lt e k ≡ true
@@ -298,7 +298,8 @@ all_pass d p h =
     (walk_all (λ (t : ThreadPart). enters p t ≡ true) (thread_asked p) (λ t. THREAD)
     (λ at earlier t k. one_none (at + 40) (not (enters p t)) (ap not k)) (threads_at (raw_of p)) [] p.threads h.threads)
 
-pub indexes_pass : (d : DescRow) (sources : List (List ℕ)) (p : PartsRow) → Links d sources p → first (index_checks p) ≡ None
+-- what slots and threads name is there, and slots stand in their order
+pub indexes_pass : (d : DescRow) (sources : List (List ℕ)) (p : PartsRow) → LinksTo d sources p → first (index_checks p) ≡ None
 indexes_pass d sources p h =
     let s = parts d sources p h.linked in
     all_pass d p (listed d p h.lawful s p (targets d p s) refl)

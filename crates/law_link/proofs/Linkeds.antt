@@ -7,8 +7,8 @@ use Rattle.law_lists.proofs.Tests.{lt_tells}
 use Rattle.def_layout.specs.declared.Region.{Region}
 use Rattle.def_layout.specs.Placement.{placed, last_end, needed}
 use Rattle.def_image.specs.Parts.{CompartmentRow as CompartmentPart, CodeRow as CodePart, PartsRow}
-use Rattle.def_description.specs.Rows.{CompartmentRow, LibraryRow, DescRow}
-use Rattle.def_description.specs.Lawful.{IsLawfulCompartment, IsLawfulLibrary}
+use Rattle.def_desc.specs.Rows.{CompartmentRow, LibraryRow, DescRow}
+use Rattle.def_desc.specs.Lawful.{IsLawfulCompartment, IsLawfulLibrary}
 use Rattle.def_link.specs.declared.LinkFault.{LinkFault}
 use Rattle.def_link.specs.declared.LinkFault.TheVariants as fault
 use Rattle.def_link.specs.Owners.{Unit as OwnerUnit, Built, compartment_unit, library_unit, numbered, units_of, unit_built, with_front, source_for, rest_of, all_built}

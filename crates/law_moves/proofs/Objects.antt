@@ -14,11 +14,11 @@ use Rattle.def_confined.specs.Changes.{NewObject, Frees}
 use Rattle.def_confined.specs.Keeps.{Beside, Keeps}
 use Rattle.def_confined.specs.Partitioned.{Partitioned}
 use Rattle.def_confined.specs.Swept.{UnpaintedCovers, HasUnpainted, FramesSwept}
-use Rattle.law_places.proofs.Rows.{among_any, among_each}
-use Rattle.law_heap.proofs.Allocates.{allocate_confined}
-use Rattle.law_heap.proofs.Quarantines.{quarantine_any, quarantine_each}
-use Rattle.law_heap.proofs.Frees.{free_confined, freed_cap}
-use Rattle.law_moves.specs.Premises.{Allocates}
+use Rattle.law_moves.proofs.Rows.{among_any, among_each}
+use Rattle.law_moves.proofs.Allocates.{allocate_confined}
+use Rattle.law_moves.proofs.Quarantines.{quarantine_any, quarantine_each}
+use Rattle.law_moves.proofs.Frees.{free_confined, freed_cap}
+use Rattle.def_confined.specs.Premises.{Allocates}
 use Rattle.law_moves.proofs.Threads.{put_beside, registers_beside}
 
 -- what a capability has of unpainted objects before, it has of those after

@@ -10,9 +10,9 @@ use Rattle.def_machine.specs.Frames.{returned, ended_with, unwound, left_by, ans
 use Rattle.def_confined.specs.Keeps.{Beside, Keeps}
 use Rattle.def_confined.specs.Partitioned.{Partitioned}
 use Rattle.def_confined.specs.Swept.{FramesSwept, Bounded}
-use Rattle.law_places.proofs.Turns.{clock_of}
-use Rattle.law_calls.proofs.Pops.{returned_confined, ended_confined}
-use Rattle.law_sweeps.proofs.Moves.{ThreadLeft, moved_beside}
+use Rattle.law_moves.proofs.Turns.{clock_of}
+use Rattle.law_moves.proofs.CallsPops.{returned_confined, ended_confined}
+use Rattle.law_moves.proofs.SweepsMoves.{ThreadLeft, moved_beside}
 use Rattle.law_moves.proofs.Threads.{zeroed_left}
 
 -- the last frame ends, and none runs

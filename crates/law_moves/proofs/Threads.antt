@@ -16,13 +16,13 @@ use Rattle.def_confined.specs.Holding.{EndFits}
 use Rattle.def_confined.specs.Keeps.{Beside, Keeps}
 use Rattle.def_confined.specs.Partitioned.{Partitioned}
 use Rattle.def_confined.specs.Swept.{HasUnpainted, IsPassed, FramesSwept, Swept}
-use Rattle.law_places.proofs.Turns.{clock_of}
-use Rattle.law_registers.proofs.Moves.{put_confined}
-use Rattle.law_turns.proofs.Moves.{turn_confined}
-use Rattle.law_calls.proofs.Pushes.{push_confined}
-use Rattle.law_sweeps.proofs.Slices.{live_unpainted}
-use Rattle.law_sweeps.proofs.Moves.{RamLeft, ram_same, running_left, moved_beside}
-use Rattle.law_moves.specs.Premises.{HasRoom, Turns}
+use Rattle.law_moves.proofs.Turns.{clock_of}
+use Rattle.law_moves.proofs.Moves.{put_confined}
+use Rattle.law_moves.proofs.TurnsMoves.{turn_confined}
+use Rattle.law_moves.proofs.Pushes.{push_confined}
+use Rattle.law_moves.proofs.Slices.{live_unpainted}
+use Rattle.law_moves.proofs.SweepsMoves.{RamLeft, ram_same, running_left, moved_beside}
+use Rattle.def_confined.specs.Premises.{HasRoom, Turns}
 
 -- ---- a register
 

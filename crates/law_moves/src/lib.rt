@@ -3,6 +3,16 @@
 //! of them.
 #![tactic(auto)]
 
+mod calls;
+mod clocks;
+mod heap;
+mod jumps;
+mod licensed;
+mod made;
+mod memory;
+mod registers;
+mod sweeps;
+
 ghost use Rattle.std.specs.Prelude.{◌≡◌, ℕ, List, Some, None};
 ghost use Rattle.def_words.specs.declared.Cap.{Cap};
 ghost use Rattle.def_sched.specs.declared.Status.{Status};
@@ -15,7 +25,17 @@ ghost use Rattle.def_machine.specs.Threads.{Clockwork, changed, with_status};
 ghost use Rattle.def_confined.specs.Changes.{Frees, Puts};
 ghost use Rattle.def_confined.specs.Keeps.{Keeps};
 ghost use Rattle.def_confined.specs.Partitioned.{Partitioned};
-ghost use Rattle.law_moves.specs.Premises.{Allocates, HasRoom, Turns};
+ghost use Rattle.def_confined.specs.Premises.{Allocates, HasRoom, Turns};
+
+pub use calls::{call_confined, clean_calls, ends_confined};
+pub use clocks::turns_confined;
+pub use heap::{heap_moves, objects_there};
+pub use jumps::{code_jumps, jump_move, postures_fit, targets_land};
+pub use licensed::{deeds_licensed, off_spans_licensed, uses_reach};
+pub use made::results_derived;
+pub use memory::{load_moves, store_moves};
+pub use registers::{keys, register_moves, values_put};
+pub use sweeps::{sweep_moves, sweeps_end_clean};
 
 /// An object that may be put beside the others, with its capability in a register of the running thread; and a live
 /// object freed by the running thread, whose registers pass the load filter.

@@ -4,7 +4,7 @@ use Rattle.std.proofs.lemmas.Bool.{ltb-true}
 use Rattle.ct_entry.specs.declared.rows.Owner.{Owner}
 use Rattle.ct_entry.specs.declared.rows.Owner.TheVariants.{Trusted, Compartment, Library, Thread}
 use Rattle.ct_entry.specs.Listed.{Listed}
-use Rattle.def_graph.specs.Route.{precedes, IsLeft, Before, IsPath}
+use Rattle.def_reach.specs.Route.{precedes, IsLeft, Before, IsPath}
 
 apart : (x y : Owner) → precedes x y ≡ true → precedes y x ≡ true → ⊥
 apart (Compartment a) (Compartment b) h k = let one : a < b = ltb-true a b h in let two : b < a = ltb-true b a k in absurd (omega (arith, one, two))

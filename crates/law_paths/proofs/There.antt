@@ -9,7 +9,7 @@ use Rattle.ct_graph.specs.Links.{links_of}
 use Rattle.ct_graph.specs.Nodes.{is_node, nodes_of, node, matrix_of, stands_among, IsNode, IsGraph, IsNear, IsRoute, NotNear}
 use Rattle.ct_graph.proofs.Orders.{stands_at}
 use Rattle.ct_graph.proofs.Graphs.{nodes_fit, distances_to, not_reached, route_path, others_reach_none}
-use Rattle.def_paths.specs.There.{Leads, LeadsOrNot}
+use Rattle.def_reach.specs.There.{Leads, LeadsOrNot}
 use Rattle.law_paths.proofs.Falling.{Everywhere, everywhere, Way, walk}
 
 -- ---- the graph

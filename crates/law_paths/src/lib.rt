@@ -7,7 +7,7 @@ ghost use Rattle.std.specs.Prelude.{◌≢◌, ◌<◌, ◌^◌, length, ℕ};
 ghost use Rattle.ct_entry.specs.declared.rows.Owner.{Owner};
 ghost use Rattle.ct_entry.specs.declared.rows.Owner.TheVariants.{Trusted};
 ghost use Rattle.ct_entry.specs.Listed.{Listed};
-ghost use Rattle.def_paths.specs.There.{LeadsOrNot};
+ghost use Rattle.def_reach.specs.There.{LeadsOrNot};
 
 /// Of any entries, of which there are fewer than 2^32, an owner that isn't the trusted part reaches a
 /// compartment by a path that comes before all others, or doesn't reach it.

@@ -6,12 +6,12 @@ use Rattle.ct_entry.specs.declared.rows.Entry.{Entry}
 use Rattle.ct_entry.specs.declared.rows.Owner.{Owner}
 use Rattle.ct_entry.specs.Listed.{Listed}
 use Rattle.def_boot.specs.Gates.{entries_of}
-use Rattle.def_graph.specs.Reach.{Reached}
+use Rattle.def_reach.specs.Reach.{Reached}
 use Rattle.def_image.specs.Accepted.{IsFaultless}
 use Rattle.def_image.specs.Parts.{PartsRow}
 use Rattle.def_policy.specs.declared.Subject.{Subject}
 use Rattle.def_policy.specs.declared.Subject.TheVariants as subject
-use Rattle.def_policy.specs.Breaking.{PolicyHolds, IsApart, Keeps, breaking, breaking_from}
+use Rattle.def_policy.specs.Breaking.{PolicyHolds, KeepsApart, KeepsRule, breaking, breaking_from}
 use Rattle.def_policy.specs.Denials.{AllDenied, Denies, Reaching, entry_line, entry_lines, path_line}
 use Rattle.def_policy.specs.Names.{name_of}
 use Rattle.def_policy.specs.Rules.{ended}
@@ -20,7 +20,7 @@ use Rattle.ct_entries.proofs.Few.{few_rows}
 use Rattle.ct_entries.proofs.Standing.{stands}
 use Rattle.ct_policy.specs.Kept.{IsUntrusted, KeepsUntrusted}
 use Rattle.law_image.proofs.Sounds.{sound}
-use Rattle.def_paths.specs.There.{LeadsOrNot}
+use Rattle.def_reach.specs.There.{LeadsOrNot}
 use Rattle.law_paths.proofs.Once.{same_path}
 use Rattle.law_paths.proofs.There.{there}
 use Rattle.def_policy.specs.Denied.{HasDenials}
@@ -106,19 +106,19 @@ apart_breaks_none e r o b is number sum [] = refl
 apart_breaks_none e r o b is number sum (x ∷ xs) = rw is (apart_breaks_none e r o b is (number + 1) _ xs)
 
 module _ (p : PartsRow) (r : Ruling) where
-  by_entries : IsApart (entries_of p) r.subject → (line : ℕ) (text : List ℕ) → text ≡ entry_lines line (breaking (entries_of p) r) → text ≡ [] → Keeps (entries_of p) r
+  by_entries : KeepsApart (entries_of p) r.subject → (line : ℕ) (text : List ℕ) → text ≡ entry_lines line (breaking (entries_of p) r) → text ≡ [] → KeepsRule (entries_of p) r
   by_entries apart line text is none = record { entries = no_lines line (breaking (entries_of p) r) (sym is ∙ none); apart = apart }
 
-  by_reach : (line : ℕ) (o : Owner) (b : ℕ) (text : List ℕ) → r.subject ≡ subject.Apart o b → Reaching p line o b text → text ≡ [] → Keeps (entries_of p) r
+  by_reach : (line : ℕ) (o : Owner) (b : ℕ) (text : List ℕ) → r.subject ≡ subject.Apart o b → Reaching p line o b text → text ≡ [] → KeepsRule (entries_of p) r
   unfolding breaking
   by_reach line o b text is (inl not) none = record {
     entries = apart_breaks_none (entries_of p) r o b is 1 0 (entries_of p).rows;
-    apart = subst (λ s. IsApart (entries_of p) s) (sym is) not.0;
+    apart = subst (λ s. KeepsApart (entries_of p) s) (sym is) not.0;
   }
   by_reach line o b text is (inr found) none =
       absurd (omega (arith, ap length (sym found.1.2 ∙ none), line_some line (codes "path" ∷ map (name_of p) found.0)))
 
-  keeps_by : (line : ℕ) (s : Subject) (text : List ℕ) → r.subject ≡ s → Denies p line r s text → text ≡ [] → Keeps (entries_of p) r
+  keeps_by : (line : ℕ) (s : Subject) (text : List ℕ) → r.subject ≡ s → Denies p line r s text → text ≡ [] → KeepsRule (entries_of p) r
   keeps_by line (subject.Device n) text is denies none = by_entries (rw is tt) line text denies none
   keeps_by line (subject.Shared n) text is denies none = by_entries (rw is tt) line text denies none
   keeps_by line (subject.Service n) text is denies none = by_entries (rw is tt) line text denies none
@@ -129,10 +129,10 @@ module _ (p : PartsRow) (r : Ruling) where
   keeps_by line (subject.Quota o n) text is denies none = by_entries (rw is tt) line text denies none
   keeps_by line (subject.Apart o b) text is denies none = by_reach line o b text is denies none
 
-  no_entries : Keeps (entries_of p) r → (line : ℕ) (text : List ℕ) → text ≡ entry_lines line (breaking (entries_of p) r) → text ≡ []
+  no_entries : KeepsRule (entries_of p) r → (line : ℕ) (text : List ℕ) → text ≡ entry_lines line (breaking (entries_of p) r) → text ≡ []
   no_entries k line text is = is ∙ ap (entry_lines line) k.entries
 
-  none_by : (line : ℕ) (s : Subject) (text : List ℕ) → r.subject ≡ s → Keeps (entries_of p) r → Denies p line r s text → text ≡ []
+  none_by : (line : ℕ) (s : Subject) (text : List ℕ) → r.subject ≡ s → KeepsRule (entries_of p) r → Denies p line r s text → text ≡ []
   none_by line (subject.Device n) text is k denies = no_entries k line text denies
   none_by line (subject.Shared n) text is k denies = no_entries k line text denies
   none_by line (subject.Service n) text is k denies = no_entries k line text denies
@@ -143,7 +143,7 @@ module _ (p : PartsRow) (r : Ruling) where
   none_by line (subject.Quota o n) text is k denies = no_entries k line text denies
   none_by line (subject.Apart o b) text is k (inl not) = not.1
   none_by line (subject.Apart o b) text is k (inr found) =
-      absurd (let apart : Reached (entries_of p) o b → ⊥ = subst (λ s. IsApart (entries_of p) s) is k.apart in apart found.1.0)
+      absurd (let apart : Reached (entries_of p) o b → ⊥ = subst (λ s. KeepsApart (entries_of p) s) is k.apart in apart found.1.0)
 
 pub holds_where : (p : PartsRow) (line : ℕ) (rulings : List Ruling) (text : List ℕ) → AllDenied p line rulings text → text ≡ [] → PolicyHolds (entries_of p) rulings
 holds_where p line [] text denied none k d inside = absurd (omega (arith, inside))

@@ -10,10 +10,10 @@ use Rattle.ct_entry.specs.declared.rows.Owner.{Owner}
 use Rattle.ct_entry.specs.Kinds.{is_quota}
 use Rattle.ct_entry.specs.Listed.{Listed}
 use Rattle.def_reach.specs.Roots.{gate_for, turns_interrupts_off}
-use Rattle.def_graph.specs.Reach.{same_owner}
+use Rattle.def_reach.specs.Reach.{same_owner}
 use Rattle.def_policy.specs.declared.Subject.{Subject}
 use Rattle.def_policy.specs.declared.Subject.TheVariants.{Call, Data, Device, Disabled, Quota, Service, Shared, Total}
-use Rattle.def_policy.specs.Breaking.{Keeps, breaking, breaking_from, breaks, counted, is_listed}
+use Rattle.def_policy.specs.Breaking.{KeepsRule, breaking, breaking_from, breaks, counted, is_listed}
 use Rattle.def_policy.specs.Rulings.{Ruling}
 use Rattle.def_policy.specs.Denied.{AreDisabledListed, AreListed, PassesData, limits_counted}
 
@@ -41,7 +41,7 @@ module _ (e : Listed) (r : Ruling) where
       let kept = keeps_none (breaks r number (sum + counted r.subject y) y (gate_for e.gates number)) number (breaking_from e r (number + 1) (sum + counted r.subject y) ys) none in
       unbroken_from (number + 1) (sum + counted r.subject y) ys k x kept.1 there at (omega (arith, is))
 
-  unbroken : (k : ℕ) (x : Entry) → Keeps e r → slice_get e.rows k ≡ Some x → Unbroken e r (suc k) x
+  unbroken : (k : ℕ) (x : Entry) → KeepsRule e r → slice_get e.rows k ≡ Some x → Unbroken e r (suc k) x
   unfolding breaking
   unbroken k x keeps there = unbroken_from 1 0 e.rows k x keeps.entries there (suc k) (omega arith)
 
@@ -79,16 +79,16 @@ module _ (e : Listed) (r : Ruling) (n : ℕ) where
       let told : not (is_listed r.owners x.owner) ≡ false = rw (is, kind_is, of_is, same_number n) at no_break in
       listed_by (is_listed r.owners x.owner) told
 
-  pub device_held : r.subject ≡ Device n → Keeps e r → AreListed e r kind.Device n
+  pub device_held : r.subject ≡ Device n → KeepsRule e r → AreListed e r kind.Device n
   device_held is keeps k x there kind_is of_is = device_kept (suc k) x is (unbroken e r k x keeps there) kind_is of_is
 
-  pub shared_held : r.subject ≡ Shared n → Keeps e r → AreListed e r kind.Shared n
+  pub shared_held : r.subject ≡ Shared n → KeepsRule e r → AreListed e r kind.Shared n
   shared_held is keeps k x there kind_is of_is = shared_kept (suc k) x is (unbroken e r k x keeps there) kind_is of_is
 
-  pub service_held : r.subject ≡ Service n → Keeps e r → AreListed e r kind.Service n
+  pub service_held : r.subject ≡ Service n → KeepsRule e r → AreListed e r kind.Service n
   service_held is keeps k x there kind_is of_is = service_kept (suc k) x is (unbroken e r k x keeps there) kind_is of_is
 
-  pub call_held : r.subject ≡ Call n → Keeps e r → AreListed e r kind.Call n
+  pub call_held : r.subject ≡ Call n → KeepsRule e r → AreListed e r kind.Call n
   call_held is keeps k x there kind_is of_is = call_kept (suc k) x is (unbroken e r k x keeps there) kind_is of_is
 
 -- ---- rules on exports
@@ -100,7 +100,7 @@ disabled_kept e r number x is u kind_is off =
     let told : not (is_listed r.owners x.owner) ≡ false = rw (is, kind_is, off) at no_break in
     listed_by (is_listed r.owners x.owner) told
 
-pub disabled_held : (e : Listed) (r : Ruling) → r.subject ≡ Disabled → Keeps e r → AreDisabledListed e r
+pub disabled_held : (e : Listed) (r : Ruling) → r.subject ≡ Disabled → KeepsRule e r → AreDisabledListed e r
 disabled_held e r is keeps k x there kind_is off = disabled_kept e r (suc k) x is (unbroken e r k x keeps there) kind_is off
 
 data_kept : (e : Listed) (r : Ruling) (n : ℕ) (x : Entry) → r.subject ≡ Data n → Unbroken e r n x → x.kind ≡ kind.Export → (gate_for e.gates n).capabilities ≡ false
@@ -109,7 +109,7 @@ data_kept e r n x is u kind_is =
     let told : (gate_for e.gates n).capabilities ≡ false = rw (is, kind_is, same_number n) at no_break in
     told
 
-pub data_held : (e : Listed) (r : Ruling) (n : ℕ) → r.subject ≡ Data n → Keeps e r → PassesData e n
+pub data_held : (e : Listed) (r : Ruling) (n : ℕ) → r.subject ≡ Data n → KeepsRule e r → PassesData e n
 data_held e r n is keeps k x there number kind_is =
     data_kept e r n x is (subst (λ m. Unbroken e r m x) number (unbroken e r k x keeps there)) kind_is
 
@@ -138,7 +138,7 @@ module _ (e : Listed) (r : Ruling) (n : ℕ) where
       let later = total_from (number + 1) (sum + more) xs is within left in
       omega (arith, later)
 
-  pub total_held : r.subject ≡ Total n → Keeps e r → limits_counted (Total n) e.rows ≤ n
+  pub total_held : r.subject ≡ Total n → KeepsRule e r → limits_counted (Total n) e.rows ≤ n
   unfolding breaking
   total_held is keeps = (let all = total_from 1 0 e.rows is (omega arith) keeps.entries in omega (arith, all))
 
@@ -156,6 +156,6 @@ module _ (e : Listed) (r : Ruling) (n : ℕ) where
         let later = quota_from (number + 1) (sum + more) xs is within left in
         omega (arith, later)
 
-    pub quota_held : r.subject ≡ Quota o n → Keeps e r → limits_counted (Quota o n) e.rows ≤ n
+    pub quota_held : r.subject ≡ Quota o n → KeepsRule e r → limits_counted (Quota o n) e.rows ≤ n
     unfolding breaking
     quota_held is keeps = (let all = quota_from 1 0 e.rows is (omega arith) keeps.entries in omega (arith, all))

@@ -2,8 +2,8 @@
 use Rattle.std.proofs.Common.{◌≡◌, ◌⊎◌, ℕ, zero, suc, ◌+◌, ◌<◌, ◌≤◌, List, [], ◌∷◌, ◌++◌, Option, Some, None, Result, Ok, Err, length, map, take, drop, slice_get, refl, sym, ap, ◌∙◌, subst, inl, inr, arith, length-take}
 use Rattle.std.proofs.lemmas.List.{append_cancel_left, drop_all, take-map, take_all}
 use Rattle.std.proofs.lemmas.Option.{slice_get_cases, slice_get_past, slice_get_within}
-use Rattle.def_description.specs.Rows.{DescRow}
-use Rattle.def_description.specs.WellFormed.{WellFormed}
+use Rattle.def_desc.specs.Rows.{DescRow}
+use Rattle.def_desc.specs.WellFormed.{WellFormed}
 use Rattle.def_image.specs.Accepted.{IsImage}
 use Rattle.def_image.specs.Parts.{PartsRow, upgraded}
 use Rattle.def_image.specs.Spelling.{image_bytes}
@@ -22,9 +22,9 @@ use Rattle.def_program.specs.Runs.{run_text}
 use Rattle.def_program.specs.Turns.{Turn, Asks, Ends, Follows, OfDescription, OfImage, OfLinked, OfParts, OfRows, OfRun, OfSources, source_names}
 use Rattle.def_program.specs.declared.Status.{Status}
 use Rattle.def_program.specs.declared.Status.TheVariants as status
-use Rattle.law_description.proofs.Judging.{not_both, same_rows}
-use Rattle.law_link_limits.proofs.Whole.{faultless}
-use Rattle.law_wellformed.proofs.Lawfuls.{bytes_lawful}
+use Rattle.law_desc.proofs.Judging.{not_both, same_rows}
+use Rattle.law_link.proofs.Whole.{faultless}
+use Rattle.law_desc.proofs.Lawfuls.{bytes_lawful}
 use Rattle.law_program.proofs.Deciding.{Meeting, asked, decides, further, large_is_none, nearer, same_name, together, turns}
 use Rattle.law_program.proofs.Ending.{not_both_forms, same_command, take_more, too_large}
 use Rattle.law_program.proofs.Then.{IsTold as IsToldRun, own, told}

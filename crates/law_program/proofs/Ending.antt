@@ -17,18 +17,18 @@ use Rattle.def_program.specs.Licences.{LinksTo, NumberStandsFor}
 use Rattle.def_program.specs.Lines.{script_line, policy_line, allow_line}
 use Rattle.def_program.specs.Runs.{run_text}
 use Rattle.def_program.specs.Paths.{owner_named, compartment_named}
-use Rattle.def_description.specs.Reading.{description_of}
+use Rattle.def_desc.specs.Reading.{description_of}
 use Rattle.def_gen.specs.Description.{firmware}
 use Rattle.def_gen.specs.Sources as generated
-use Rattle.law_gen_links.proofs.Linking as links
+use Rattle.law_gen.proofs.Linking as links
 use Rattle.def_program.specs.Turns.{Turn, Asks, Ends, NamesFound, OfText, verdict, OfScript, OfRun, OfParts, OfLinked, OfSources, OfRows, OfDescription, OfImage, OfFirst, OfFiles, FollowsBy, Follows, source_names}
 use Rattle.def_program.specs.Answers.{Read, contents, WereDue, TurnCause, LastRead, Answers}
-use Rattle.law_description.proofs.Judging.{not_both, same_rows}
+use Rattle.law_desc.proofs.Judging.{not_both, same_rows}
 use Rattle.law_image.proofs.Backs.{one_reading}
 use Rattle.law_image.proofs.Faults.{no_fault as image_has_none}
 use Rattle.law_policy.proofs.Texts as texts
 use Rattle.law_script.proofs.Scripts as scripts
-use Rattle.def_program.specs.Completing.{NoFault, IsTold, AreTold, Stand, IsRuled, IsPlanned, IsPlannedIfNamed, AlsoStands, AreGiven, Given, IsAsked, looked_status, Finishes, Completes, CompletesDemo, RefusesMisuse, IsSteady}
+use Rattle.def_program.specs.Completing.{NoFault, IsTold, AreTold, Stand, IsRuled, IsPlanned, IsPlannedIfNamed, AlsoStands, AreGiven, GivenFiles, IsAsked, looked_status, Finishes, Completes, CompletesDemo, RefusesMisuse, IsSteady}
 
 -- ---- lists by index
 
@@ -405,7 +405,7 @@ planned_number e number p is = record {
   };
 }
 
-planned_for : (e : CallRecord) (c : Command) (p : PartsRow) → Given e c (generated_by c) p → Planned e c p
+planned_for : (e : CallRecord) (c : Command) (p : PartsRow) → GivenFiles e c (generated_by c) p → Planned e c p
 planned_for e (Audit name) p g = planned_files e (Audit name) p refl g
 planned_for e (Image name) p g = planned_files e (Image name) p refl g
 planned_for e (Run name limit script) p g = planned_files e (Run name limit script) p refl g

@@ -5,3 +5,13 @@ pub mod Ending
 pub mod Deciding
 pub mod Upgraded
 pub mod Alike
+pub mod Licences
+pub mod Telling
+pub mod Lawful
+pub mod Safe
+pub mod Written
+pub mod Images
+pub mod Scripts
+pub mod Following
+pub mod ReportsAlike
+pub mod Labelled

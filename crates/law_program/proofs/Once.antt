@@ -3,7 +3,7 @@ use Rattle.std.proofs.Common.{◌≡◌, ℕ, Bool, true, false, List, [], ◌�
 use Rattle.ct_entry.specs.declared.rows.Owner.{Owner}
 use Rattle.def_image.specs.Parts.{PartsRow}
 use Rattle.def_policy.specs.Denials.{AllDenied}
-use Rattle.def_description.specs.Rows.{DescRow}
+use Rattle.def_desc.specs.Rows.{DescRow}
 use Rattle.def_link.specs.declared.LinkFault.{LinkFault}
 use Rattle.def_link.specs.Linked.{linked}
 use Rattle.def_program.specs.declared.Status.TheVariants as status
@@ -11,11 +11,11 @@ use Rattle.def_script.specs.Script.{Due}
 use Rattle.def_program.specs.Commands.{Command, Audit, Image, Run, RunImage, Why, Upgrade, Check, Demo, generated_by, reads_image}
 use Rattle.def_program.specs.Lines.{description_line, image_line, script_line, policy_line}
 use Rattle.def_program.specs.Paths.{IsWhyLine, path_line, owner_named, compartment_named}
-use Rattle.def_description.specs.Reading.{description_of}
+use Rattle.def_desc.specs.Reading.{description_of}
 use Rattle.def_gen.specs.Description.{firmware}
 use Rattle.def_gen.specs.Sources as texts_of
 use Rattle.def_program.specs.Turns.{Turn, Ends, NamesFound, OfText, verdict, OfPolicy, OfScript, OfRun, OfParts, OfLinked, OfSources, OfRows, OfDescription, OfImage, OfFirst, FollowsBy, OfFiles, Follows, source_names}
-use Rattle.law_description.proofs.Judging.{not_both, same_rows, same_fault}
+use Rattle.law_desc.proofs.Judging.{not_both, same_rows, same_fault}
 use Rattle.law_image.proofs.Backs.{one_reading}
 use Rattle.law_image.proofs.Faults.{no_fault, one_fault}
 use Rattle.law_paths.proofs.Once.{same_path}

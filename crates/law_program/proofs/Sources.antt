@@ -2,13 +2,13 @@
 use Rattle.std.proofs.Common.{ℕ, ◌≡◌, ◌∙◌, List, length, take, drop, Some, None, Result, slice_get, codes, refl, sym, ap, subst, arith}
 use Rattle.std.proofs.lemmas.List.{take_all}
 use Rattle.def_image.specs.Parts.{PartsRow}
-use Rattle.def_description.specs.Rows.{DescRow}
-use Rattle.def_description.specs.Tables.{kind_of, posture_of, library_posture_of, passes_of, service_of}
+use Rattle.def_desc.specs.Rows.{DescRow}
+use Rattle.def_desc.specs.Tables.{kind_of, posture_of, library_posture_of, passes_of, service_of}
 use Rattle.def_link.specs.declared.LinkFault.{LinkFault}
 use Rattle.def_link.specs.Linked.{linked}
 use Rattle.def_program.specs.Commands.{Command}
 use Rattle.def_program.specs.Turns.{Turn, OfLinked, OfSources, OfRows, source_names}
-use Rattle.law_linked.specs.Samples.{tiny_rows, tiny_in, filed}
+use Rattle.law_link_samples.specs.Samples.{tiny_rows, tiny_in, filed}
 
 -- where no further source is due, what is linked tells
 pub of_rows : (c : Command) (d : DescRow) (sources : List (List ℕ)) (turn : Turn) (r : Result PartsRow LinkFault)

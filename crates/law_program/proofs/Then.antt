@@ -5,8 +5,8 @@ use Rattle.std.proofs.lemmas.List.{take_all}
 use Rattle.std.proofs.lemmas.Option.{slice_get_past}
 use Rattle.def_image.specs.Parts.{PartsRow}
 use Rattle.def_image.specs.Spelling.{image_bytes}
-use Rattle.def_description.specs.Rows.{DescRow}
-use Rattle.def_description.specs.WellFormed.{WellFormed}
+use Rattle.def_desc.specs.Rows.{DescRow}
+use Rattle.def_desc.specs.WellFormed.{WellFormed}
 use Rattle.def_link.specs.declared.LinkFault.{LinkFault}
 use Rattle.def_link.specs.declared.LinkFault.TheVariants as fault
 use Rattle.def_link.specs.Linked.{linked}
@@ -15,9 +15,9 @@ use Rattle.def_program.specs.Commands.{Command, Image, Run, RunImage}
 use Rattle.def_program.specs.Lines.{description_line, link_status, link_text}
 use Rattle.def_program.specs.Licences.{LinksTo}
 use Rattle.def_program.specs.Turns.{Turn, Asks, Ends, OfParts, OfRun, OfRows, OfLinked, OfSources, OfDescription, Follows, source_names}
-use Rattle.law_description.proofs.Judging.{not_both, same_rows}
-use Rattle.law_wellformed.proofs.Lawfuls.{bytes_lawful}
-use Rattle.law_link_limits.proofs.Whole.{faultless}
+use Rattle.law_desc.proofs.Judging.{not_both, same_rows}
+use Rattle.law_desc.proofs.Lawfuls.{bytes_lawful}
+use Rattle.law_link.proofs.Whole.{faultless}
 
 -- as many files as the rows name
 abbrev pub own : DescRow → List (List ℕ) → List (List ℕ)

@@ -1,11 +1,11 @@
 -- What is written of an upgraded image runs to the same turn.
 use Rattle.std.proofs.Common.{ℕ, ◌≡◌, ◌++◌, inl, inr, List, [], ◌∷◌, Option, Some, None, refl, ap, sym, ◌∙◌, subst}
-use Rattle.def_machine.specs.Board.{MachineRow, Board}
+use Rattle.def_machine.specs.Platform.{MachineRow, Platform}
 use Rattle.def_machine.specs.State.{State}
 use Rattle.def_image.specs.Parts.{PartsRow, upgraded}
 use Rattle.def_image.specs.Accepted.{IsImage}
 use Rattle.def_image.specs.Spelling.{image_bytes}
-use Rattle.def_boot.specs.Boot.{board_of, boot_state, booted_machine}
+use Rattle.def_boot.specs.Boot.{platform_of, boot_state, booted_machine}
 use Rattle.def_program.specs.declared.Status.TheVariants as status
 use Rattle.def_program.specs.Commands.{RunImage, Upgrade}
 use Rattle.def_program.specs.Lines.{image_line}
@@ -13,10 +13,10 @@ use Rattle.def_program.specs.Runs.{events_until, run_lines, run_text}
 use Rattle.def_step.specs.Events.{happenings_of}
 use Rattle.def_script.specs.Script.{Due}
 use Rattle.def_program.specs.Turns.{Turn, Ends, OfRun, OfImage, Follows}
-use Rattle.def_lines.specs.Report.{report_line}
-use Rattle.law_upgrade.proofs.Accepted.{stays}
-use Rattle.law_upgrade.proofs.Alike.{alike}
-use Rattle.law_reports.proofs.Alike.{line_alike}
+use Rattle.def_report.specs.Report.{report_line}
+use Rattle.law_image.proofs.Accepted.{stays}
+use Rattle.law_image.proofs.Alike.{alike}
+use Rattle.law_program.proofs.ReportsAlike.{line_alike}
 use Rattle.law_image.proofs.Backs.{one_reading}
 use Rattle.law_image.proofs.Faults.{no_fault}
 
@@ -35,17 +35,17 @@ written_so name bytes written (inr found) = record {
   spelled = (let same : Ends status.Done written ≡ Ends status.Done (image_bytes (upgraded found.0)) = found.1.1 in cc);
 }
 
-abbrev machine : Board → State → MachineRow
+abbrev machine : Platform → State → MachineRow
 machine b s = record { board = b; state = s }
 
 machine_alike : (p : PartsRow) → booted_machine (upgraded p) ≡ booted_machine p
 machine_alike p =
     ap (λ b. machine b (boot_state (upgraded p))) (alike p).board
-    ∙ ap (λ s. machine (board_of p) s) (alike p).state
+    ∙ ap (λ s. machine (platform_of p) s) (alike p).state
 
 pub happenings_alike : (p : PartsRow) (script : List Due) (limit : ℕ)
-    → happenings_of (board_of (upgraded p)) (boot_state (upgraded p)) (events_until (booted_machine (upgraded p)) script (upgraded p).quantum limit)
-    ≡ happenings_of (board_of p) (boot_state p) (events_until (booted_machine p) script p.quantum limit)
+    → happenings_of (platform_of (upgraded p)) (boot_state (upgraded p)) (events_until (booted_machine (upgraded p)) script (upgraded p).quantum limit)
+    ≡ happenings_of (platform_of p) (boot_state p) (events_until (booted_machine p) script p.quantum limit)
 happenings_alike p script limit = ap (λ (m : MachineRow). happenings_of m.board m.state (events_until m script p.quantum limit)) (machine_alike p)
 
 text_alike : (p : PartsRow) (dues : List Due) (limit : ℕ) → run_text (upgraded p) dues limit ≡ run_text p dues limit
@@ -53,7 +53,7 @@ unfolding run_text
 text_alike p dues limit =
     ap (λ t. t ++ run_lines (booted_machine (upgraded p)) dues p.quantum limit) (line_alike p)
     ∙ ap (λ b. report_line p ++ run_lines (machine b (boot_state (upgraded p))) dues p.quantum limit) (alike p).board
-    ∙ ap (λ s. report_line p ++ run_lines (machine (board_of p) s) dues p.quantum limit) (alike p).state
+    ∙ ap (λ s. report_line p ++ run_lines (machine (platform_of p) s) dues p.quantum limit) (alike p).state
 
 -- with a script or without one, an image and the upgraded one have the same turn
 run_alike : (p : PartsRow) (limit : ℕ) (script : Option (List ℕ)) (more : List (List ℕ)) (turn : Turn) → OfRun p limit script more turn → OfRun (upgraded p) limit script more turn

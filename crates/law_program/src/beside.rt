@@ -1,9 +1,9 @@
 //! Calls beside one another: one reads what another wrote.
 
 ghost use Rattle.std.specs.Prelude.{◌≡◌, ◌≤◌, ℕ, List, Option, Some, length};
-ghost use Rattle.def_boot.specs.Boot.{board_of, boot_state, booted_machine};
+ghost use Rattle.def_boot.specs.Boot.{platform_of, boot_state, booted_machine};
 ghost use Rattle.def_image.specs.Parts.{PartsRow, upgraded};
-ghost use Rattle.def_lines.specs.Report.{report_line};
+ghost use Rattle.def_report.specs.Report.{report_line};
 ghost use Rattle.def_port.specs.Told.{File, TellsSame};
 ghost use Rattle.def_program.specs.Answers.{Answers, Whole};
 ghost use Rattle.def_program.specs.Beside.{EndsUnlessWanting, IsDoneWith, TellsAll, TellsSameScript};
@@ -53,9 +53,9 @@ pub fn upgraded_images_run_alike()
         → (answer : Whole old due) → (due ≡ status.ReadFault → ⊥)
         → Answers new s → NoFault new → EndsUnlessWanting new s due answer.text }
     ensures happenings { (p : PartsRow) (script : List Due) (limit : ℕ)
-        → happenings_of (board_of (upgraded p)) (boot_state (upgraded p))
+        → happenings_of (platform_of (upgraded p)) (boot_state (upgraded p))
         (events_until (booted_machine (upgraded p)) script (upgraded p).quantum limit)
-        ≡ happenings_of (board_of p) (boot_state p)
+        ≡ happenings_of (platform_of p) (boot_state p)
         (events_until (booted_machine p) script p.quantum limit) }
     ensures report { (p : PartsRow) → report_line (upgraded p) ≡ report_line p }
 {}

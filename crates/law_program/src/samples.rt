@@ -1,19 +1,19 @@
 //! What is due on the smallest sample.
 
 ghost use Rattle.std.specs.Prelude.{◌≡◌, codes, List, None, ℕ, [], ◌∷◌, ◌++◌};
-ghost use Rattle.def_description.specs.WellFormed.{WellFormed};
+ghost use Rattle.def_desc.specs.WellFormed.{WellFormed};
 ghost use Rattle.def_image.specs.Accepted.{IsImage};
 ghost use Rattle.def_image.specs.Parts.{PartsRow};
 ghost use Rattle.def_image.specs.Spelling.{image_bytes};
-ghost use Rattle.def_lines.specs.Report.{report_line};
+ghost use Rattle.def_report.specs.Report.{report_line};
 ghost use Rattle.def_program.specs.declared.Status.TheVariants as status;
 ghost use Rattle.def_program.specs.Commands.{Command, Audit, Image, Run, RunImage, file_of, generated_by};
 ghost use Rattle.def_program.specs.Runs.{run_text};
 ghost use Rattle.def_program.specs.Turns.{Asks, Ends, Follows};
-ghost use Rattle.law_images.specs.Tiny.{tiny};
-ghost use Rattle.law_linked.specs.Samples.{tiny_rows, tiny_in, filed, tiny_source, unknown_mnemonic};
+ghost use Rattle.law_image_samples.specs.Tiny.{tiny};
+ghost use Rattle.law_link_samples.specs.Samples.{tiny_rows, tiny_in, filed, tiny_source, unknown_mnemonic};
 
-use law_linked::{link_faults, tiny_is_linked};
+use law_link_samples::{link_faults, tiny_is_linked};
 
 /// First the command's file is due, if it has one. Of the smallest sample's description then, by its words, the
 /// report, the image and the run; with too little RAM the refusal; of its form with a source first

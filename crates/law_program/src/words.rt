@@ -2,15 +2,15 @@
 
 ghost use Rattle.std.specs.Prelude.{◌≡◌, codes, None, Some, [], ◌∷◌, ◌++◌};
 ghost use Rattle.ct_entry.specs.declared.rows.Owner.TheVariants.{Compartment, Library};
-ghost use Rattle.def_description.specs.declared.faults.PartWord.TheVariants as part;
+ghost use Rattle.def_desc.specs.declared.faults.PartWord.TheVariants as part;
 ghost use Rattle.def_link.specs.declared.LinkFault.TheVariants as fault;
 ghost use Rattle.def_step.specs.declared.Event.TheVariants.{Input, Step, Sweep, Tick};
 ghost use Rattle.def_program.specs.Commands.{form_of, Audit, Image, Run, RunImage, Why, Upgrade, Check, Demo};
 ghost use Rattle.def_program.specs.Lines.{usage_line, read_line, large_line, description_line, link_text, image_line, name_line, script_line, policy_line, allow_line};
 ghost use Rattle.def_program.specs.Runs.{round};
-ghost use Rattle.law_description.specs.Samples.{at};
-ghost use Rattle.law_linked.specs.Samples.{lent};
-ghost use Rattle.law_program.specs.Bytes.{two_bytes};
+ghost use Rattle.law_desc.specs.Samples.{at};
+ghost use Rattle.law_link_samples.specs.Samples.{lent};
+ghost use Rattle.def_script.specs.Bytes.{two_bytes};
 
 /// Each form of the words; and words that are none: a limit of 0, with a leading zero or past the
 /// most, a number with a leading zero or past the most, a word too many or too few, and a command

@@ -4,7 +4,7 @@ use Rattle.ct_entry.specs.declared.rows.Owner.{Owner}
 use Rattle.ct_entry.specs.declared.rows.Owner.TheVariants.{Trusted, Compartment, Library, Thread}
 use Rattle.ct_entry.specs.Listed.{Listed}
 use Rattle.def_reach.specs.Sharing.{Edge, IsEdgeList, Joined, Imports, IsLibrary, Reaches}
-use Rattle.law_reach.specs.Laws.{IsReflexive, IsSymmetric, IsTransitive, ReachesComponents}
+use Rattle.def_reach.specs.Laws.{IsReflexive, IsSymmetric, IsTransitive, ReachesComponents}
 
 pub edge_back : (e : Listed) (a b : ℕ) → Edge e a b → Edge e b a
 edge_back e a b (inl c) = inr (inl c)

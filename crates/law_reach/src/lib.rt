@@ -6,7 +6,7 @@ ghost use Rattle.ct_entry.specs.declared.rows.Owner.{Owner};
 ghost use Rattle.ct_entry.specs.declared.rows.Owner.TheVariants.{Compartment};
 ghost use Rattle.ct_entry.specs.Listed.{Listed};
 ghost use Rattle.def_reach.specs.Sharing.{Joined, Reaches};
-ghost use Rattle.law_reach.specs.Laws.{IsReflexive, IsSymmetric, IsTransitive, ReachesComponents};
+ghost use Rattle.def_reach.specs.Laws.{IsReflexive, IsSymmetric, IsTransitive, ReachesComponents};
 
 /// To be joined is an equivalence among compartments; what an owner reaches goes along it, and a
 /// compartment's own reach is that.

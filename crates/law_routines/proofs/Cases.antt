@@ -10,7 +10,7 @@ use Rattle.def_machine.specs.State.{State}
 use Rattle.def_step.specs.declared.Next.{Next}
 use Rattle.def_step.specs.declared.Next.TheVariants.{Returning, Instruction, Native, Nothing}
 use Rattle.def_step.specs.declared.TheConstants.{LAST_ROUTINE}
-use Rattle.def_step.specs.Accesses.{Space}
+use Rattle.def_step.specs.Accesses.{MemoryAndDevices}
 use Rattle.def_step.specs.Instructions.{fetched, is_native_entry, native_number, next_native, next_word, next_at}
 use Rattle.def_step.specs.Native.{native}
 use Rattle.def_step.specs.Quotas.{allocate, free, remaining}
@@ -27,7 +27,7 @@ not_return x other entry is =
     omega (arith, low, even, apart, is)
 
 -- an instruction stands away from native entries, and a routine that runs has one of the numbers up to the last
-pub by_next : (P : Next → Type 0) (p : Space) (x : ℕ) → P Returning → ((k : Instr) → is_native_entry x ≡ false → instruction_in (fetched p x) ≡ Some k → P (Instruction k))
+pub by_next : (P : Next → Type 0) (p : MemoryAndDevices) (x : ℕ) → P Returning → ((k : Instr) → is_native_entry x ≡ false → instruction_in (fetched p x) ≡ Some k → P (Instruction k))
     → ((n : ℕ) → n ≤ LAST_ROUTINE → (n ≡ RETURN → ⊥) → P (Native n)) → P Nothing → P (next_at p x)
 by_next P p x back instruction routine none =
     chosen P (x == RETURN_ENTRY) Returning (if is_native_entry x then next_native (native_number x) else next_word (instruction_in (fetched p x)))

@@ -28,7 +28,7 @@ use Rattle.def_step.specs.Native.{native}
 use Rattle.def_step.specs.Quotas.{Allocation, Refused, Made, allocation, is_quota_cap, quota_in, by_quota, allocated, allocate, freed_as, free, whole_of, let_go, gives_back, remaining}
 use Rattle.def_step.specs.Routines.{Ran, answered, answers, tells, code, checked, switched_to, switch, stops, yield, sleep, waits, wait, wakes, wake, word_checks}
 use Rattle.def_step.specs.Switch.{Switched, TooDeep, NoStack, Enters, return_checks, switch_checks, called, new_top, with_room, past_checks, frame_top}
-use Rattle.law_routines.specs.Leaving.{Left, IfRan}
+use Rattle.def_events.specs.Leaving.{Left, IfRan}
 use Rattle.def_step.specs.Tokens.{is_key_row, with_row, sealed_token, opened_token, key_of, token_of, made_token, by_key, opens, frees_token, token_key, token_new, token_open, token_free}
 use Rattle.law_routines.proofs.Cases.{Routines, by_routine}
 use Rattle.law_routines.proofs.Objects.{Found, whole_found}

@@ -5,3 +5,9 @@ pub mod Leaving
 pub mod Accesses
 pub mod Stepping
 pub mod Tokens
+pub mod Appended
+pub mod Counted
+pub mod Devices
+pub mod Counting
+pub mod Values
+pub mod Events

@@ -15,11 +15,11 @@ use Rattle.def_step.specs.declared.Next.{Next}
 use Rattle.def_step.specs.Checks.{first_failed}
 use Rattle.def_step.specs.Handlers.{is_handled, handler_entered, handler_value, return_taken, trap_taken}
 use Rattle.def_step.specs.Instructions.{Effect, carried_out, named_by, around, space_of, put_done, instruction_end, operand, trapped, goes_on, after_fetch, executed, fetch_checks, next_at, served}
-use Rattle.def_machine.specs.Board.{Board}
+use Rattle.def_machine.specs.Platform.{Platform}
 use Rattle.def_step.specs.Native.{native}
 use Rattle.def_step.specs.Operands.{operands_of, class_of}
 use Rattle.def_step.specs.Routines.{Ran, Traps, Leaves}
-use Rattle.law_routines.specs.Leaving.{Left, IfRan}
+use Rattle.def_events.specs.Leaving.{Left, IfRan}
 use Rattle.law_routines.proofs.Cases.{by_next}
 use Rattle.law_routines.proofs.Leaving.{Moves, routines_left}
 
@@ -47,20 +47,20 @@ abbrev pub IfDone : (State → Type 0) → State → ℕ → Result Effect Trap 
 IfDone P s t (Err why) = Unit {0}
 IfDone P s t (Ok d) = P (put_done s t d)
 
-abbrev pub carried : Board → State → ℕ → Instr → Result Effect Trap
+abbrev pub carried : Platform → State → ℕ → Instr → Result Effect Trap
 carried b s t k =
     carried_out (class_of k) k (operands_of k).to (operand s t (operands_of k).first) (operand s t (operands_of k).second)
     (named_by b.image (operand s t (operands_of k).first)) (around b s t)
 
 -- a handler that is entered, a frame that ends with a value, one that returns, an instruction, and what routines do
-pub record Steps (P : State → Type 0) (b : Board) (s : State) (t : ℕ) : Type 0 where
+pub record Steps (P : State → Type 0) (b : Platform) (s : State) (t : ℕ) : Type 0 where
   pub handles : (why : Trap) (f : Frame) (fs : List Frame) → (thread s t).frames ≡ f ∷ fs → is_handled b.image (stack_base b.image t) (thread s t) f ≡ true → P (handler_entered b.image s t why f fs)
   pub ends : (value : ℕ) → P (ended_with b.image s t value (thread s t).frames)
   pub back : ((f : Frame) (fs : List Frame) → (thread s t).frames ≡ f ∷ fs → f.handling ≡ false) → P (returned b.image s t (thread s t).frames)
   pub done : (k : Instr) → IfDone P s t (carried b s t k)
   pub moves : Moves (λ z told. P z) b.image s t
 
-module _ (P : State → Type 0) (b : Board) (s : State) (t : ℕ) (m : Steps P b s t) where
+module _ (P : State → Type 0) (b : Platform) (s : State) (t : ℕ) (m : Steps P b s t) where
   pub trapped_left : (why : Trap) → P (trapped b s t why).0
   trapped_left why = trap_case P b.image s t why (thread s t).frames (λ f fs frames is. m.handles why f fs frames is) (m.ends UNWOUND)
 

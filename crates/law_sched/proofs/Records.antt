@@ -12,7 +12,7 @@ use Rattle.law_lists.proofs.Finds.{IsFirst, find_is, find_tells}
 use Rattle.def_sched.specs.declared.Status.{Status}
 use Rattle.def_sched.specs.Statuses.{is_ready, status_of}
 use Rattle.def_sched.specs.Picks.{IsOrder, pick, priority_of, is_foremost}
-use Rattle.def_picks.specs.Records.{order_after, since, IsLongerAgo, IsFairPick}
+use Rattle.def_sched.specs.Records.{order_after, since, IsLongerAgo, IsFairPick}
 use Rattle.law_sched.proofs.Orders.{others, left_out, starts, goes_on}
 use Rattle.law_sched.proofs.Picks.{foremost_is, foremost_ready, foremost_tells}
 

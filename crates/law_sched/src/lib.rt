@@ -7,7 +7,7 @@ ghost use Rattle.std.specs.Prelude.{◌≡◌, ◌<◌, ◌↔◌, ℕ, List, So
 ghost use Rattle.def_sched.specs.declared.Status.{Status};
 ghost use Rattle.def_sched.specs.Statuses.{is_ready};
 ghost use Rattle.def_sched.specs.Picks.{pick, IsOrder};
-ghost use Rattle.def_picks.specs.Records.{order_after, IsFairPick};
+ghost use Rattle.def_sched.specs.Records.{order_after, IsFairPick};
 
 /// After any list of picks each thread stands in the order once; a thread is picked exactly where it
 /// is the fair pick, and none exactly where none is ready.

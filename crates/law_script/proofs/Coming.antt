@@ -6,7 +6,7 @@ use Rattle.std.proofs.lemmas.List.Elements.{All-filter, All-map}
 use Rattle.law_lists.proofs.Tests.{eq_tells, le_tells}
 use Rattle.def_script.specs.declared.Given.{Given}
 use Rattle.def_script.specs.Script.{Due, given_at}
-use Rattle.law_script.specs.Coming.{left_from}
+use Rattle.def_script.specs.Coming.{left_from}
 
 abbrev comes_at : ℕ → Due → Bool
 comes_at step d = d.step == step

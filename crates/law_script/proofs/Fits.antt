@@ -8,7 +8,7 @@ use Rattle.std.proofs.lemmas.List.Elements.{All-map}
 use Rattle.std.proofs.lemmas.List.Quantifiers.{position-Some}
 use Rattle.ct_entry.specs.Listed.{DeviceRow}
 use Rattle.ct_entry.specs.declared.hardware.DeviceKind.TheVariants.{Timer}
-use Rattle.def_script.specs.Script.{Row, Due, Reads, due, device_named, is_named, spelled}
+use Rattle.def_script.specs.Script.{Row, Due, ReadsAsScript, due, device_named, is_named, spelled}
 use Rattle.law_script.proofs.Lines.{line_long}
 
 rows_short : (rows : List Row) → length rows ≤ length (flat_map spelled rows)
@@ -17,7 +17,7 @@ rows_short (r ∷ rs) =
     let rest = rows_short rs in
     omega (arith, rest, line_long r (flat_map spelled rs), ap length (flat_map-cons spelled r rs), length-append (spelled r) (flat_map spelled rs))
 
-pub few : (devices : List DeviceRow) (text : List ℕ) (dues : List Due) → Reads devices text dues → length dues ≤ length text
+pub few : (devices : List DeviceRow) (text : List ℕ) (dues : List Due) → ReadsAsScript devices text dues → length dues ≤ length text
 few devices text dues is =
     omega (arith, ap length is.dues_are, length-map is.rows (due devices), rows_short is.rows, ap length is.text_is)
 
@@ -25,7 +25,7 @@ found : (devices : List DeviceRow) (name : List ℕ) (o : Option ℕ) → device
 found devices name (Some i) is some = (position-Some (is_named name) devices i (record { name = []; kind = Timer; base = 0 }) is).0
 found devices name None is some = absurd (let bad : false ≡ true = some in cc)
 
-pub named : (devices : List DeviceRow) (text : List ℕ) (dues : List Due) → Reads devices text dues → All (λ (d : Due). d.given.device < length devices) dues
+pub named : (devices : List DeviceRow) (text : List ℕ) (dues : List Due) → ReadsAsScript devices text dues → All (λ (d : Due). d.given.device < length devices) dues
 named devices text dues is =
     subst (λ ds. All (λ (d : Due). d.given.device < length devices) ds) (sym is.dues_are)
     (All-map (λ (d : Due). d.given.device < length devices) (due devices) is.rows

@@ -6,7 +6,7 @@ use Rattle.std.specs.List.{All, flat_map}
 use Rattle.std.proofs.lemmas.List.{append-nil}
 use Rattle.std.proofs.lemmas.List.Concat.{flat_map-cons}
 use Rattle.ct_entry.specs.Listed.{DeviceRow}
-use Rattle.def_script.specs.Script.{Row, IsRow, IsScript, Begins, Breaks, IsFault, Reads, Due, due, device_named, last_step, spelled}
+use Rattle.def_script.specs.Script.{Row, IsScriptRow, IsScript, BeginsWithRow, BreaksScript, IsScriptFault, ReadsAsScript, Due, due, device_named, last_step, spelled}
 use Rattle.law_script.proofs.Lines.{same_line, line_long}
 
 abbrev pub lines_of : List Row → List ℕ
@@ -21,18 +21,18 @@ record Ahead (rs qs : List Row) (left gone : List ℕ) : Type 0 where
 first_and_rest : (r : Row) (rs : List Row) (left : List ℕ) → lines_of (r ∷ rs) ++ left ≡ spelled r ++ (lines_of rs ++ left)
 first_and_rest r rs left = ap (λ t. t ++ left) (flat_map-cons spelled r rs) ∙ append_assoc (spelled r) (lines_of rs) left
 
-tail_rows : (r : Row) (rs : List Row) → All IsRow (r ∷ rs) → All IsRow rs
+tail_rows : (r : Row) (rs : List Row) → All IsScriptRow (r ∷ rs) → All IsScriptRow rs
 tail_rows r rs h = λ k d inside. h (suc k) d (omega (arith, inside))
 
 ahead_more : (r q : Row) (rs qs : List Row) (left gone : List ℕ) → r ≡ q → Ahead rs qs left gone → Ahead (r ∷ rs) (q ∷ qs) left gone
 ahead_more r q rs qs left gone same a = record { more = a.more; rows = ap (λ xs. q ∷ xs) a.rows ∙ ap (λ x. x ∷ rs ++ a.more) (sym same); text = a.text }
 
-aligned : (rs qs : List Row) (left gone : List ℕ) → All IsRow rs → All IsRow qs → lines_of rs ++ left ≡ lines_of qs ++ gone → Ahead rs qs left gone ⊎ Ahead qs rs gone left
+aligned : (rs qs : List Row) (left gone : List ℕ) → All IsScriptRow rs → All IsScriptRow qs → lines_of rs ++ left ≡ lines_of qs ++ gone → Ahead rs qs left gone ⊎ Ahead qs rs gone left
 aligned [] qs left gone hr hq e = inl (record { more = qs; rows = refl; text = e })
 aligned (r ∷ rs) [] left gone hr hq e = inr (record { more = r ∷ rs; rows = refl; text = sym e })
 aligned (r ∷ rs) (q ∷ qs) left gone hr hq e =
-    let here : Begins (lines_of (r ∷ rs) ++ left) r (lines_of rs ++ left) = record { row = hr 0 r (omega arith); text_is = first_and_rest r rs left } in
-    let there : Begins (lines_of (r ∷ rs) ++ left) q (lines_of qs ++ gone) = record { row = hq 0 q (omega arith); text_is = e ∙ first_and_rest q qs gone } in
+    let here : BeginsWithRow (lines_of (r ∷ rs) ++ left) r (lines_of rs ++ left) = record { row = hr 0 r (omega arith); text_is = first_and_rest r rs left } in
+    let there : BeginsWithRow (lines_of (r ∷ rs) ++ left) q (lines_of qs ++ gone) = record { row = hq 0 q (omega arith); text_is = e ∙ first_and_rest q qs gone } in
     let both = same_line (lines_of (r ∷ rs) ++ left) r q (lines_of rs ++ left) (lines_of qs ++ gone) here there in
     elim (aligned rs qs left gone (tail_rows r rs hr) (tail_rows q qs hq) both.1) [
       | inl a ↦ inl (ahead_more r q rs qs left gone both.0 a)
@@ -62,7 +62,7 @@ is_named devices rs m ms is =
 unnamed : (devices : List DeviceRow) (m : Row) → IsSome (device_named devices m.name) → device_named devices m.name ≡ None → ⊥
 unnamed devices m known none = let bad : false ≡ true = rw none at known in absurd (cc)
 
-no_next : (devices : List DeviceRow) (rs : List Row) (m : Row) (ms : List Row) (left rest : List ℕ) (number : ℕ) → IsScript devices (rs ++ m ∷ ms) → Begins left m rest → Breaks devices rs left number → ⊥
+no_next : (devices : List DeviceRow) (rs : List Row) (m : Row) (ms : List Row) (left rest : List ℕ) (number : ℕ) → IsScript devices (rs ++ m ∷ ms) → BeginsWithRow left m rest → BreaksScript devices rs left number → ⊥
 no_next devices rs m ms left rest number is begins (inl bare) = bare.1.none m rest begins
 no_next devices rs m ms left rest number is begins (inr (inl late)) =
     let same = same_line left late.1.next m late.1.rest rest late.1.begins begins in
@@ -72,7 +72,7 @@ no_next devices rs m ms left rest number is begins (inr (inr lost)) =
     unnamed devices m (is_named devices rs m ms is) (subst (λ (x : Row). device_named devices x.name ≡ None) same.0 lost.1.unknown)
 
 -- nothing breaks a rule where nothing is left
-not_empty : (devices : List DeviceRow) (rs : List Row) (left : List ℕ) (number : ℕ) → Breaks devices rs left number → left ≡ [] → ⊥
+not_empty : (devices : List DeviceRow) (rs : List Row) (left : List ℕ) (number : ℕ) → BreaksScript devices rs left number → left ≡ [] → ⊥
 not_empty devices rs left number (inl bare) none = omega (arith, bare.1.some, ap length none)
 not_empty devices rs left number (inr (inl late)) none =
     omega (arith, line_long late.1.next late.1.rest, ap length (sym none ∙ late.1.begins.text_is))
@@ -81,17 +81,17 @@ not_empty devices rs left number (inr (inr lost)) none =
 
 -- ---- one account
 
-begins_with : (m : Row) (ms : List Row) (left gone : List ℕ) → IsRow m → left ≡ lines_of (m ∷ ms) ++ gone → Begins left m (lines_of ms ++ gone)
+begins_with : (m : Row) (ms : List Row) (left gone : List ℕ) → IsScriptRow m → left ≡ lines_of (m ∷ ms) ++ gone → BeginsWithRow left m (lines_of ms ++ gone)
 begins_with m ms left gone row e = record { row = row; text_is = e ∙ first_and_rest m ms gone }
 
-row_after : (rs : List Row) (m : Row) (ms : List Row) → All IsRow (rs ++ m ∷ ms) → IsRow m
-row_after rs m ms h = subst (λ x. IsRow x) (get_or-append_seam rs m ms no_row) (h (length rs) no_row (omega (arith, length-append rs (m ∷ ms))))
+row_after : (rs : List Row) (m : Row) (ms : List Row) → All IsScriptRow (rs ++ m ∷ ms) → IsScriptRow m
+row_after rs m ms h = subst (λ x. IsScriptRow x) (get_or-append_seam rs m ms no_row) (h (length rs) no_row (omega (arith, length-append rs (m ∷ ms))))
 
 none_more : (more : List Row) (gone : List ℕ) → [] ≡ lines_of more ++ gone → (more ≡ []) × (gone ≡ [])
 none_more [] gone e = (refl, sym e)
 none_more (m ∷ ms) gone e = absurd (omega (arith, line_long m (lines_of ms ++ gone), ap length (e ∙ first_and_rest m ms gone)))
 
-same_dues : (devices : List DeviceRow) (text : List ℕ) (first second : List Due) → (a : Reads devices text first) → (b : Reads devices text second) → a.rows ≡ b.rows → first ≡ second
+same_dues : (devices : List DeviceRow) (text : List ℕ) (first second : List Due) → (a : ReadsAsScript devices text first) → (b : ReadsAsScript devices text second) → a.rows ≡ b.rows → first ≡ second
 same_dues devices text first second a b same = a.dues_are ∙ ap (λ rs. map (due devices) rs) same ∙ sym b.dues_are
 
 same_rows : (rs qs : List Row) → Ahead rs qs [] [] → rs ≡ qs
@@ -99,7 +99,7 @@ same_rows rs qs a =
     let none = none_more a.more [] a.text in
     sym (append-nil rs) ∙ ap (λ m. rs ++ m) (sym none.0) ∙ sym a.rows
 
-pub one_reading : (devices : List DeviceRow) (text : List ℕ) (first second : List Due) → Reads devices text first → Reads devices text second → first ≡ second
+pub one_reading : (devices : List DeviceRow) (text : List ℕ) (first second : List Due) → ReadsAsScript devices text first → ReadsAsScript devices text second → first ≡ second
 one_reading devices text first second a b =
     let whole : lines_of a.rows ++ [] ≡ lines_of b.rows ++ [] = append-nil (lines_of a.rows) ∙ sym a.text_is ∙ b.text_is ∙ sym (append-nil (lines_of b.rows)) in
     elim (aligned a.rows b.rows [] [] a.script.lines b.script.lines whole) [
@@ -108,13 +108,13 @@ one_reading devices text first second a b =
     ]
 
 -- a fault, and a script that goes on from the same lines
-stops : (devices : List DeviceRow) (rs qs : List Row) (left gone : List ℕ) (number : ℕ) (more : List Row) → IsScript devices qs → Breaks devices rs left number → qs ≡ rs ++ more → left ≡ lines_of more ++ gone → (more ≡ []) × (left ≡ gone)
+stops : (devices : List DeviceRow) (rs qs : List Row) (left gone : List ℕ) (number : ℕ) (more : List Row) → IsScript devices qs → BreaksScript devices rs left number → qs ≡ rs ++ more → left ≡ lines_of more ++ gone → (more ≡ []) × (left ≡ gone)
 stops devices rs qs left gone number [] is breaks rows text = (refl, text)
 stops devices rs qs left gone number (m ∷ ms) is breaks rows text =
     let longer : IsScript devices (rs ++ m ∷ ms) = subst (λ xs. IsScript devices xs) rows is in
     absurd (no_next devices rs m ms left (lines_of ms ++ gone) number longer (begins_with m ms left gone (row_after rs m ms longer.lines) text) breaks)
 
-pub no_reading : (devices : List DeviceRow) (text : List ℕ) (dues : List Due) (number line : ℕ) → IsFault devices text number line → Reads devices text dues → ⊥
+pub no_reading : (devices : List DeviceRow) (text : List ℕ) (dues : List Due) (number line : ℕ) → IsScriptFault devices text number line → ReadsAsScript devices text dues → ⊥
 no_reading devices text dues number line f a =
     let whole : lines_of f.rows ++ f.left ≡ lines_of a.rows ++ [] = sym f.text_is ∙ a.text_is ∙ sym (append-nil (lines_of a.rows)) in
     elim (aligned f.rows a.rows f.left [] f.script.lines a.script.lines whole) [
@@ -124,7 +124,7 @@ no_reading devices text dues number line f a =
       | inr x ↦ not_empty devices f.rows f.left number f.breaks (none_more x.more f.left x.text).1
     ]
 
-same_number : (devices : List DeviceRow) (rs : List Row) (left : List ℕ) (number other : ℕ) → Breaks devices rs left number → Breaks devices rs left other → number ≡ other
+same_number : (devices : List DeviceRow) (rs : List Row) (left : List ℕ) (number other : ℕ) → BreaksScript devices rs left number → BreaksScript devices rs left other → number ≡ other
 same_number devices rs left number other (inl a) (inl b) = a.0 ∙ sym b.0
 same_number devices rs left number other (inl a) (inr (inl b)) = absurd (a.1.none b.1.next b.1.rest b.1.begins)
 same_number devices rs left number other (inl a) (inr (inr b)) = absurd (a.1.none b.1.next b.1.rest b.1.begins)
@@ -139,12 +139,12 @@ same_number devices rs left number other (inr (inr a)) (inr (inl b)) =
     absurd (omega (arith, b.1.falls, a.1.order, ap (λ (x : Row). x.step) same.0))
 same_number devices rs left number other (inr (inr a)) (inr (inr b)) = a.0 ∙ sym b.0
 
-same_fault : (devices : List DeviceRow) (text : List ℕ) (number line other place : ℕ) (f : IsFault devices text number line) (g : IsFault devices text other place) → f.rows ≡ g.rows → f.left ≡ g.left → (number ≡ other) × (line ≡ place)
+same_fault : (devices : List DeviceRow) (text : List ℕ) (number line other place : ℕ) (f : IsScriptFault devices text number line) (g : IsScriptFault devices text other place) → f.rows ≡ g.rows → f.left ≡ g.left → (number ≡ other) × (line ≡ place)
 same_fault devices text number line other place f g rows left =
-    let moved : Breaks devices g.rows g.left number = subst (λ t. Breaks devices g.rows t number) left (subst (λ rs. Breaks devices rs f.left number) rows f.breaks) in
+    let moved : BreaksScript devices g.rows g.left number = subst (λ t. BreaksScript devices g.rows t number) left (subst (λ rs. BreaksScript devices rs f.left number) rows f.breaks) in
     (same_number devices g.rows g.left number other moved g.breaks, omega (arith, f.line_is, g.line_is, ap length rows))
 
-pub one_fault : (devices : List DeviceRow) (text : List ℕ) (number line other place : ℕ) → IsFault devices text number line → IsFault devices text other place → (number ≡ other) × (line ≡ place)
+pub one_fault : (devices : List DeviceRow) (text : List ℕ) (number line other place : ℕ) → IsScriptFault devices text number line → IsScriptFault devices text other place → (number ≡ other) × (line ≡ place)
 one_fault devices text number line other place f g =
     let whole : lines_of f.rows ++ f.left ≡ lines_of g.rows ++ g.left = sym f.text_is ∙ g.text_is in
     elim (aligned f.rows g.rows f.left g.left f.script.lines g.script.lines whole) [

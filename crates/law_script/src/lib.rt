@@ -6,20 +6,20 @@
 ghost use Rattle.std.specs.Prelude.{◌≡◌, ◌+◌, ◌<◌, ◌≤◌, ℕ, List, All, length};
 ghost use Rattle.ct_entry.specs.Listed.{DeviceRow};
 ghost use Rattle.def_script.specs.declared.Given.{Given};
-ghost use Rattle.def_script.specs.Script.{Due, Reads, IsFault, given_at};
-ghost use Rattle.law_script.specs.Coming.{left_from};
+ghost use Rattle.def_script.specs.Script.{Due, ReadsAsScript, IsScriptFault, given_at};
+ghost use Rattle.def_script.specs.Coming.{left_from};
 
 /// A text has one reading or one fault, and never both.
 pub fn script_is_determined()
     ensures one_reading { (devices : List DeviceRow) (text : List ℕ) (first second : List Due)
-        → Reads devices text first → Reads devices text second
+        → ReadsAsScript devices text first → ReadsAsScript devices text second
         → first ≡ second }
     ensures no_reading { (devices : List DeviceRow) (text : List ℕ) (dues : List Due)
         (number line : ℕ)
-        → IsFault devices text number line → Reads devices text dues
+        → IsScriptFault devices text number line → ReadsAsScript devices text dues
         → ⊥ }
     ensures one_fault { (devices : List DeviceRow) (text : List ℕ) (number line other place : ℕ)
-        → IsFault devices text number line → IsFault devices text other place
+        → IsScriptFault devices text number line → IsScriptFault devices text other place
         → (number ≡ other) × (line ≡ place) }
 {}
 
@@ -37,7 +37,7 @@ pub fn bytes_come_once()
 /// A text that is a script says no more bytes than it has itself, and each goes to one of the devices.
 pub fn scripts_fit()
     ensures few { (devices : List DeviceRow) (text : List ℕ) (script : List Due)
-        → Reads devices text script → length script ≤ length text }
+        → ReadsAsScript devices text script → length script ≤ length text }
     ensures named { (devices : List DeviceRow) (text : List ℕ) (script : List Due)
-        → Reads devices text script → All (λ (d : Due). d.given.device < length devices) script }
+        → ReadsAsScript devices text script → All (λ (d : Due). d.given.device < length devices) script }
 {}

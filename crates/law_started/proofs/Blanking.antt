@@ -14,8 +14,8 @@ use Rattle.def_image.specs.Sound.{Sound}
 use Rattle.def_boot.specs.Made.{return_sentry}
 use Rattle.def_boot.specs.Contents.{content_at, boot_cap, region_at, granules_in}
 use Rattle.def_boot.specs.Boot.{image_of, boot_state}
-use Rattle.law_laid.proofs.Found.{found, none_there}
-use Rattle.law_booted.proofs.Contents.{booted_in}
+use Rattle.law_boot.proofs.Found.{found, none_there}
+use Rattle.law_boot.proofs.Contents.{booted_in}
 use Rattle.law_started.proofs.Granules.{past_none, same_granule}
 use Rattle.law_started.proofs.Shutting.{Ends, ends_in, first_region}
 

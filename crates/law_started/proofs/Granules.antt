@@ -14,10 +14,10 @@ use Rattle.def_image.specs.Parts.{PartsRow}
 use Rattle.def_image.specs.Sound.{Sound}
 use Rattle.def_boot.specs.Contents.{boot_granules, granules_from, granules_in}
 use Rattle.def_boot.specs.Boot.{image_of, boot_state}
-use Rattle.law_places.proofs.Puts.{plain_region}
-use Rattle.law_grants.proofs.Sets.{no_way}
-use Rattle.law_laid.proofs.Granules.{in_ram}
-use Rattle.law_booted.proofs.Contents.{booted_in, booted_made, granules_count, granules_past}
+use Rattle.law_moves.proofs.Puts.{plain_region}
+use Rattle.law_boot.proofs.Sets.{no_way}
+use Rattle.law_boot.proofs.Granules.{in_ram}
+use Rattle.law_boot.proofs.Contents.{booted_in, booted_made, granules_count, granules_past}
 use Rattle.law_started.proofs.Tags.{tagged_fixed, kept_made}
 
 none_marked : (p : PartsRow) (x n k : ℕ) → (slice_index_or (granules_from p x n) k nothing).mark ≡ false

@@ -6,3 +6,9 @@ pub mod Shutting
 pub mod Settling
 pub mod Blanking
 pub mod Tokening
+mod Grants
+mod Starting
+mod Deriving
+mod Entries
+mod BootPlacesTags
+mod Fixing

@@ -16,9 +16,9 @@ use Rattle.def_boot.specs.Made.{boot_cap_of, return_sentry}
 use Rattle.def_boot.specs.Contents.{word_from_bytes, gate_word, code_content, owned_content, table_content, content, content_at, region_at, boot_cap, granules_from, granules_in, boot_granules}
 use Rattle.def_boot.specs.Boot.{first_thread, first_threads, entry_address, boot_state}
 use Rattle.law_words.proofs.Away.{address_settles}
-use Rattle.law_grants.proofs.Settling.{made_settled, sentry_settled}
-use Rattle.law_settled.proofs.Values.{plain_settled}
-use Rattle.law_settled.proofs.Events.{nobody_settled, sixteen}
+use Rattle.law_boot.proofs.Settling.{made_settled, sentry_settled}
+use Rattle.law_routines.proofs.Values.{plain_settled}
+use Rattle.law_routines.proofs.Events.{nobody_settled, sixteen}
 
 -- ---- what stands in RAM
 

@@ -20,13 +20,13 @@ use Rattle.def_image.specs.Sound.{Sound, Names}
 use Rattle.def_boot.specs.Entries.{slot_row}
 use Rattle.def_boot.specs.Gates.{entries_of}
 use Rattle.def_boot.specs.Boot.{image_of}
-use Rattle.law_listed.specs.Rows.{EntryIs, is_nothing, is_trusted, is_code, is_globals, is_slot, is_export, is_library, is_library_slot, is_library_export, is_stack}
-use Rattle.law_listed.proofs.Listing.{entry_of}
-use Rattle.law_listed.proofs.Regions.{Among, code_there, globals_there, library_there, sealed_there, shared_there, stack_there, table_there}
-use Rattle.law_grants.proofs.Lying.{trusted_there}
-use Rattle.law_grants.proofs.Making.{length_above, device_base_is}
-use Rattle.law_grants.proofs.Sets.{no_way}
-use Rattle.law_grants.proofs.Clauses.{told_at, away_of}
+use Rattle.def_boot.specs.Rows.{EntryIs, is_nothing, is_trusted, is_code, is_globals, is_slot, is_export, is_library, is_library_slot, is_library_export, is_stack}
+use Rattle.law_boot.proofs.Listing.{entry_of}
+use Rattle.law_boot.proofs.Regions.{Among, code_there, globals_there, library_there, sealed_there, shared_there, stack_there, table_there}
+use Rattle.law_boot.proofs.Lying.{trusted_there}
+use Rattle.law_boot.proofs.Making.{length_above, device_base_is}
+use Rattle.law_boot.proofs.Sets.{no_way}
+use Rattle.law_boot.proofs.Clauses.{told_at, away_of}
 use Rattle.law_started.proofs.Whole.{areas_are, areas_fit}
 
 -- ---- apart from the areas

@@ -21,13 +21,13 @@ use Rattle.def_boot.specs.Gates.{entries_of}
 use Rattle.def_boot.specs.Made.{boot_cap_of, return_sentry}
 use Rattle.def_boot.specs.Contents.{content, content_at, boot_cap, part, part_at, part_of, region_at}
 use Rattle.def_boot.specs.Boot.{image_of}
-use Rattle.law_listed.specs.Rows.{EntryIs, is_nothing, is_trusted, is_code, is_globals, is_slot, is_export, is_library, is_library_slot, is_library_export, is_stack}
-use Rattle.law_listed.proofs.Listing.{entry_of}
-use Rattle.law_grants.specs.Fits.{type_for}
-use Rattle.law_grants.proofs.Sets.{no_way}
-use Rattle.law_grants.proofs.Making.{sentry_made}
-use Rattle.law_grants.proofs.Own.{slots_stand, library_slots_stand}
-use Rattle.law_booted.proofs.Rooting.{boot_made}
+use Rattle.def_boot.specs.Rows.{EntryIs, is_nothing, is_trusted, is_code, is_globals, is_slot, is_export, is_library, is_library_slot, is_library_export, is_stack}
+use Rattle.law_boot.proofs.Listing.{entry_of}
+use Rattle.def_boot.specs.Fits.{type_for}
+use Rattle.law_boot.proofs.Sets.{no_way}
+use Rattle.law_boot.proofs.Making.{sentry_made}
+use Rattle.law_boot.proofs.Own.{slots_stand, library_slots_stand}
+use Rattle.law_boot.proofs.Rooting.{boot_made}
 
 -- ---- where
 

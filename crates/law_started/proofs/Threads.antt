@@ -22,17 +22,17 @@ use Rattle.def_image.specs.Sound.{Sound, ThreadFits}
 use Rattle.def_boot.specs.Gates.{gates_of, entries_of}
 use Rattle.def_boot.specs.Made.{caps_at_boot, return_sentry}
 use Rattle.def_boot.specs.Boot.{image_of, boot_state, entered, entry_number, entry_address, offset_of, gate_is_disabled, first_frame, first_pcc, first_registers, first_thread, first_threads}
-use Rattle.law_places.proofs.Puts.{plain_kept}
-use Rattle.law_places.proofs.Places.{all_of}
+use Rattle.law_moves.proofs.Puts.{plain_kept}
+use Rattle.law_moves.proofs.Places.{all_of}
 use Rattle.law_reach.proofs.Joins.{reaches_own, joined_is}
-use Rattle.law_registers.proofs.Derives.{kept_bound, derived_in}
-use Rattle.law_made.proofs.Results.{address_derived, address_runs}
-use Rattle.law_listed.specs.Rows.{HasCompartment, HasStack}
-use Rattle.law_listed.proofs.Standing.{compartment_of, stack_of}
-use Rattle.law_grants.proofs.Lying.{stack_there}
-use Rattle.law_grants.proofs.Sets.{code_set, no_way}
-use Rattle.law_grants.proofs.Own.{stack_entry_is, code_stands, gates_small}
-use Rattle.law_booted.proofs.Rooting.{faithful, boot_made, no_object}
+use Rattle.law_moves.proofs.Derives.{kept_bound, derived_in}
+use Rattle.law_moves.proofs.Results.{address_derived, address_runs}
+use Rattle.def_boot.specs.Rows.{HasCompartment, HasStack}
+use Rattle.law_boot.proofs.Standing.{compartment_of, stack_of}
+use Rattle.law_boot.proofs.Lying.{stack_there}
+use Rattle.law_boot.proofs.Sets.{code_set, no_way}
+use Rattle.law_boot.proofs.Own.{stack_entry_is, code_stands, gates_small}
+use Rattle.law_boot.proofs.Rooting.{faithful, boot_made, no_object}
 use Rattle.law_started.proofs.Tags.{kept_made}
 
 threads_tell : (p : PartsRow) (from : ℕ) (xs : List ThreadRow) (t : ℕ) → ((x : ThreadRow) × (slice_get xs t ≡ Some x) × (slice_index_or (first_threads p from xs) t nobody ≡ first_thread p (from + t) x)) ⊎ (slice_index_or (first_threads p from xs) t nobody ≡ nobody)

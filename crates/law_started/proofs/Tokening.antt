@@ -7,8 +7,8 @@ use Rattle.def_profile.specs.declared.layout.TheConstants.{GRANULE, SLOT_SIZE, T
 use Rattle.def_words.specs.declared.Cap.{Cap}
 use Rattle.def_memory.specs.Granules.{plain, nothing}
 use Rattle.def_machine.specs.State.{nobody, thread}
-use Rattle.def_tokens.specs.Everywhere.{ThreadHas, Everywhere}
-use Rattle.def_tokens.specs.Tokened.{KeysShut, TokenFits, Tokened}
+use Rattle.def_safety.specs.Everywhere.{ThreadHas, Everywhere}
+use Rattle.def_safety.specs.Tokened.{KeysShut, TokenFits, Tokened}
 use Rattle.def_image.specs.Parts.{CodeRow, ThreadRow, PartsRow}
 use Rattle.def_image.specs.Sound.{Sound}
 use Rattle.def_image.specs.Members.{compartment, library, sealed, code_number, globals_number, library_number, stack_number}
@@ -16,8 +16,8 @@ use Rattle.def_image.specs.Regions.{Holder, CodeOf, TableOf, GlobalsOf, SharedOf
 use Rattle.def_boot.specs.Made.{caps_at_boot, boot_cap_of, return_sentry}
 use Rattle.def_boot.specs.Contents.{word_from_bytes, gate_word, code_content, owned_content, table_content, content, content_at, region_at, boot_cap, granules_from, granules_in, boot_granules}
 use Rattle.def_boot.specs.Boot.{first_thread, first_threads, boot_state, image_of}
-use Rattle.law_grants.proofs.Clauses.{no_token}
-use Rattle.law_settled.proofs.Events.{sixteen}
+use Rattle.law_boot.proofs.Clauses.{no_token}
+use Rattle.law_routines.proofs.Events.{sixteen}
 use Rattle.law_started.proofs.Whole.{confined}
 
 -- what holds of plain values and of each entry's capability

@@ -18,10 +18,10 @@ use Rattle.def_image.specs.Sizes.{sum_of}
 use Rattle.def_image.specs.Regions.{area_size, trusted_size}
 use Rattle.def_image.specs.Sound.{Sound}
 use Rattle.def_boot.specs.Boot.{image_of, boot_state, first_threads, first_frame}
-use Rattle.law_places.proofs.Puts.{plain_kept}
-use Rattle.law_grants.proofs.Sets.{no_way}
-use Rattle.law_grants.proofs.Lying.{trusted_there}
-use Rattle.law_grants.proofs.Making.{length_above}
+use Rattle.law_moves.proofs.Puts.{plain_kept}
+use Rattle.law_boot.proofs.Sets.{no_way}
+use Rattle.law_boot.proofs.Lying.{trusted_there}
+use Rattle.law_boot.proofs.Making.{length_above}
 use Rattle.law_started.proofs.Threads.{of_thread, pcc_in, pcc_runs, register_in, register_kept, frame_holds, posture_fits, saved_kept}
 use Rattle.law_started.proofs.Granules.{in_region, same_granule, unmarked, kept_there, granules_end}
 

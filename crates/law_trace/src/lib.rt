@@ -5,7 +5,7 @@ ghost use Rattle.std.specs.Prelude.{◌≡◌, ◌++◌, [], ◌∷◌, codes};
 ghost use Rattle.ct_entry.specs.declared.acts.Act.TheVariants.{Call, Load, Store, Allocate, Free, Trap};
 ghost use Rattle.ct_entry.specs.declared.acts.End.TheVariants.{Limit, Finished, Idle};
 ghost use Rattle.def_trace.specs.Trace.{deed_line, off_line, summary_line};
-ghost use Rattle.law_trace.specs.Quiet.{quiet};
+ghost use Rattle.def_trace.specs.Quiet.{quiet};
 
 /// A store and a load of a serial port, a call, an allocation, a free, a trap, a span with
 /// interrupts off.

@@ -12,3 +12,4 @@ pub mod Making
 pub mod Away
 pub mod Rights
 pub mod Blocks
+pub mod Lowered

@@ -11,7 +11,7 @@ use Rattle.def_words.specs.Seals.{cap_seal, seal_type, is_unsealed}
 use Rattle.def_words.specs.Capability.{cap_of, IsSettled, with_fields, with_permission_bits, with_address, is_representable, word_at, with_exact_bounds, word_bounded, is_range_inside, end_at, masked, word_with_set, word_sealed}
 use Rattle.def_words.specs.Derive.{derive, root_cap, sealed_as}
 use Rattle.def_words.specs.Narrows.{IsMade}
-use Rattle.law_words.specs.Facts.{IsRoot, KindFits, Derives}
+use Rattle.def_words.specs.Facts.{IsRoot, KindFits, DerivesExactly}
 use Rattle.law_words.proofs.Fields.{base_by, top_by, base_back, top_back}
 use Rattle.law_words.proofs.Back.{gives}
 use Rattle.law_words.proofs.Words.{address_small, bounds_is, perms_is, high_is, address_is, perm_low}
@@ -213,7 +213,7 @@ sealed_made c low high set at kind from s fits = elim fits [
       ))
 ]
 
-pub derive_makes : (high base length set address kind : ℕ) (from : Shadow) → Derives high base length set address kind
+pub derive_makes : (high base length set address kind : ℕ) (from : Shadow) → DerivesExactly high base length set address kind
     → IsMade base (base + length) (normal_set (bit_and (unpacked (permission_bits high)) set)) address kind (derive high base length set address kind from)
     × ((derive high base length set address kind from).shadow ≡ from)
 unfolding derive

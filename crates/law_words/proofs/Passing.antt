@@ -11,7 +11,7 @@ use Rattle.def_words.specs.Capability.{raised, with_address, word_with_set}
 use Rattle.def_words.specs.Loaded.{attenuated, lost_through}
 use Rattle.def_words.specs.Jumped.{opened, linked}
 use Rattle.def_words.specs.Narrows.{Narrows, IsOpened, IsLink}
-use Rattle.law_words.specs.Facts.{IsLoaded}
+use Rattle.def_words.specs.Facts.{IsLoaded}
 use Rattle.law_words.proofs.Bits.{bit_where, bit_past, where_small, apart}
 use Rattle.law_words.proofs.Spellings.{all_below, below_holds, normal_within, normal_small, unpacked_small}
 use Rattle.law_words.proofs.Narrowing.{shadow_kept, narrows_of, Addressed, addressed, WithSet, with_set, zero_field, field_zero}

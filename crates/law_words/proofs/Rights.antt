@@ -3,7 +3,7 @@ use Rattle.std.proofs.Common.{ℕ, ◌≡◌, ◌+◌, refl, false}
 use Rattle.def_profile.specs.declared.rights.TheConstants.{CODE_RIGHTS, GLOBALS_RIGHTS, HEAP_RIGHTS, STACK_RIGHTS, SERVICE_RIGHTS, SEALED_RIGHTS, EXPORT_RIGHTS, QUOTA_RIGHTS, KEY_RIGHTS, GL, LD, LG, LM, MC, SD}
 use Rattle.def_words.specs.Derive.{memory_root, executable_root, sealing_root}
 use Rattle.def_words.specs.Permissions.{IsLegal, bit, form_of, global, normal_set, set_where, store_local, unpacked}
-use Rattle.law_words.specs.Facts.{IsRoot, Spells}
+use Rattle.def_words.specs.Facts.{IsRoot, Spells}
 
 pub memory_is_root : IsRoot memory_root
 unfolding memory_root

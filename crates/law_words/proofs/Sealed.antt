@@ -9,7 +9,7 @@ use Rattle.def_words.specs.Permissions.{cap_perms, has, unpacked, set_where, bit
 use Rattle.def_words.specs.Seals.{cap_seal, seal_type, is_unsealed, is_key_type}
 use Rattle.def_words.specs.Capability.{with_permission_bits, with_seal_field, is_inside, sealed_by, word_sealed, unsealed_by, bits_through}
 use Rattle.def_words.specs.Narrows.{Narrows}
-use Rattle.law_words.specs.Facts.{IsSealing, IsUnsealing}
+use Rattle.def_words.specs.Facts.{IsSealing, IsUnsealing}
 use Rattle.law_words.proofs.Bits.{within_is}
 use Rattle.law_words.proofs.Spellings.{all_below, below_holds}
 use Rattle.law_words.proofs.Words.{address_small, perm_perm, perm_seal, perm_low, seal_perm, seal_seal, seal_low, bounds_same, perms_same, perms_is, high_is, address_is}

@@ -1,2 +1,0 @@
--- What the laws say beyond the definitions of def_words.
-pub mod Facts

@@ -9,7 +9,7 @@ ghost use Rattle.def_words.specs.Derive.{derive, executable_root, memory_root, r
 ghost use Rattle.def_words.specs.LeastBounds.{align_mask_of, rounded_of, round_length_of};
 ghost use Rattle.def_words.specs.Permissions.{IsLegal, cap_perms, execute, global, load_data, load_global, load_mutable, memory_capability, normal_set, sealing, store_data, store_local, system_registers, unsealing, user};
 ghost use Rattle.def_words.specs.Seals.{cap_seal};
-ghost use Rattle.law_words.specs.Facts.{IsRoot, Spells};
+ghost use Rattle.def_words.specs.Facts.{IsRoot, Spells};
 
 /// The three roots: all addresses at every address, and all permissions of their forms.
 pub fn roots_hold_all()

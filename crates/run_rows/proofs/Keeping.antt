@@ -15,7 +15,7 @@ use Rattle.def_machine.specs.Objects.{Each, quarantine, placed_among, painted, i
 use Rattle.def_chunks.specs.declared.rows.Range.{Range}
 use Rattle.def_chunks.specs.Changes.{NoTagComes}
 use Rattle.def_chunks.specs.Heaps.{HeapRow, objects_of, Laid}
-use Rattle.law_chunks.specs.Kept.{KeepsUntagged, KeepsHeap}
+use Rattle.def_chunks.specs.Kept.{KeepsUntagged, KeepsHeap}
 use Rattle.law_chunks.proofs.Lays.{starts_low}
 use Rattle.law_chunks.proofs.Carves.{store_length}
 use Rattle.law_chunks.proofs.Kept.{cap_keeps, untag_keeps}

@@ -8,7 +8,7 @@ use Rattle.def_machine.specs.Memory.{is_marked_in}
 use Rattle.def_machine.specs.Objects.{Each, quarantine, painted, unpainted, is_painted_at}
 use Rattle.def_chunks.specs.declared.rows.Range.{Range}
 use Rattle.def_chunks.specs.Heaps.{Distinct}
-use Rattle.law_chunks.specs.Kept.{StandsIn, InOrder}
+use Rattle.def_chunks.specs.Kept.{StandsIn, InOrder}
 use Rattle.law_chunks.proofs.Rows.{each_more, quarantine_others}
 use Rattle.ct_heap.specs.Lookups.{spans_of, whole_of}
 use Rattle.run_rows.specs.Swept.{Held}

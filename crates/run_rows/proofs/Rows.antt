@@ -3,7 +3,7 @@ use Rattle.std.proofs.Common.{ℕ, ◌≡◌, ◌+◌, ◌≤◌, ◌<◌, inl, 
 use Rattle.law_lists.proofs.Tests.{bool_tells, le_tells, lt_tells, chosen}
 use Rattle.def_machine.specs.State.{Object}
 use Rattle.def_machine.specs.Objects.{Each, InChunk, quarantine, placed_among, painted, unpainted, is_painted_at}
-use Rattle.law_chunks.specs.Kept.{InOrder}
+use Rattle.def_chunks.specs.Kept.{InOrder}
 
 pub each_two : (P Q R : Object → Type 0) (rs : List Object) → ((r : Object) → P r → Q r → R r) → Each P rs → Each Q rs → Each R rs
 each_two P Q R [] both a b = tt

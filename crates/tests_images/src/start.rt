@@ -6,10 +6,10 @@ ghost use Rattle.std.specs.Prelude.{◌≡◌, length, IfOk};
 use crate::seen::{count_is, fewer, is, put_made};
 use ct_boot::{First, Start, boot};
 use ct_cap::{Cap, Posture, Shadow};
-use ct_entry::{Device, DeviceKind, Mode};
+use ct_entry::{Device, DeviceKind, Devices, Mode};
 use ct_image::{Image, ImageFault, accept};
+use ct_image_parts::{Code, Compartment, Export, Parts, Sealed, Shared, Slot, Thread, written};
 use ct_mem::{Memory, Plain};
-use ct_parts::{Code, Compartment, Export, Parts, Sealed, Shared, Slot, Thread, written};
 use ct_tables::{ExportRow, ImportRow, SlotKind};
 use def_refusals::NoMemory;
 use std::alloc::{AllocError, Global};
@@ -174,7 +174,7 @@ fn thread(alloc: Global, name: &str, stack: u32) -> Result<Thread, AllocError> {
 /// Puts the name and the lists of the shelf.
 fn put_lists(alloc: Global, parts: &mut Parts) -> Result<(), AllocError> {
     parts.name.push_str("shelf")?;
-    put_made(&mut parts.devices, uart(alloc))?;
+    put_made(&mut parts.devices.rows, uart(alloc))?;
     put_made(&mut parts.shared, ring(alloc))?;
     put_made(&mut parts.sealed, sealed(alloc))?;
     put_made(&mut parts.compartments, app(alloc))?;
@@ -194,7 +194,9 @@ fn shelf(alloc: Global) -> Result<Parts, AllocError> {
         trusted: 0x8000_02b0,
         heap: 0x8000_0500,
         name: String::new(alloc),
-        devices: Vec::new(alloc),
+        devices: Devices {
+            rows: Vec::new(alloc),
+        },
         shared: Vec::new(alloc),
         sealed: Vec::new(alloc),
         compartments: Vec::new(alloc),

@@ -8,7 +8,7 @@ use Rattle.ct_entry.specs.declared.rows.Entry.{Entry}
 use Rattle.ct_entry.specs.declared.rows.Gate.{Gate}
 use Rattle.def_memory.specs.Granules.{plain, nothing, cap_in}
 use Rattle.def_reach.specs.Roots.{no_gate}
-use Rattle.ct_exports.specs.Exports.{AreSorted, AreTogether, HeadLies, IsCallable, row_at, is_export_of, table_in, callee_of}
+use Rattle.ct_switch.specs.Exports.{AreSorted, AreTogether, HeadLies, IsCallable, row_at, is_export_of, table_in, callee_of}
 
 -- ---- gates
 

@@ -6,14 +6,14 @@ ghost use Rattle.def_profile.specs.declared.seals.TheConstants.{EXPORT_TYPE};
 ghost use Rattle.def_words.specs.Seals.{cap_seal};
 ghost use Rattle.def_memory.specs.Granules.{plain};
 ghost use Rattle.def_reach.specs.Roots.{root_of};
-ghost use Rattle.ct_exports.specs.Exports.{AreSorted, AreTogether, HeadLies, IsCallable, no_row, is_export_of};
+ghost use Rattle.ct_switch.specs.Exports.{AreSorted, AreTogether, HeadLies, IsCallable, no_row, is_export_of};
 ghost use Rattle.ct_switch.specs.Ready.{HasStack, IsReady, MayCall};
 
 use ct_areas::{Area, Thread};
 use ct_cap::Live;
 use ct_entry::{Entries, Entry, Gate};
-use ct_exports::{called, export_of, is_export_of, table_at};
 use ct_mem::Memory;
+use ct_switch::{called, export_of, is_export_of, table_at};
 use def_profile::layout::{AREA_HEAD, FRAME_SIZE, TABLE_HEAD};
 use def_profile::seals::EXPORT_TYPE;
 

@@ -4,9 +4,9 @@ ghost use Rattle.std.specs.Prelude.{◌≡◌, ◌+◌, ◌*◌, ◌≤◌, [], 
 ghost use Rattle.def_memory.specs.Granules.{plain};
 
 use crate::seen::is;
-use ct_areas::Area;
+use ct_areas::{Area, First, Fresh};
 use ct_cap::{Live, Posture, Trap};
-use ct_engine::{Called, Engine, First, Fresh, Heap, Region};
+use ct_engine::{Called, Engine, Heap, Region};
 use ct_entry::Entries;
 use ct_mem::Plain;
 use def_profile::traps::TAG_CODE;

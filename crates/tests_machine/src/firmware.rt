@@ -5,7 +5,7 @@ ghost use Rattle.std.specs.Prelude.{◌≡◌, ◌+◌, ◌≤◌, ◌<◌, ◌%
 ghost use Rattle.def_profile.specs.declared.limits.TheConstants.{RAM_END};
 ghost use Rattle.ct_areas.specs.Threads.{HasArea};
 
-use ct_areas::{Area, Thread};
+use ct_areas::{Area, First, Fresh, Thread};
 use ct_cap::{Live, Posture, Shadow, derive, shrink};
 use ct_entry::{Entries, Entry, Gate, Kind, Mode, Owner};
 use ct_mem::{Memory, Plain};
@@ -174,6 +174,16 @@ pub fn thread(
         source: 0,
     };
     let mut mem = Plain::new(alloc, size)?;
-    let t = Thread::new(&mut mem, code(0, CODE + 8, 0), regs, posture, 0, 4, area);
+    let fresh = Fresh {
+        first: First {
+            pcc: code(0, CODE + 8, 0),
+            regs,
+            posture,
+            actor: 0,
+            export: 4,
+        },
+        area,
+    };
+    let t = Thread::new(&mut mem, &fresh);
     Ok((mem, t))
 }

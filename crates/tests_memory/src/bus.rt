@@ -3,7 +3,7 @@
 
 use crate::seen::is;
 use ct_bus::Bus;
-use ct_entry::{Device, DeviceKind};
+use ct_entry::{Device, DeviceKind, Devices};
 use std::alloc::{AllocError, Global};
 use std::process::Abort;
 use std::test::Fail;
@@ -23,12 +23,12 @@ const DEVICES: [(DeviceKind, u32); 3] = [
     (DeviceKind::Gpio, 0x2000_0000),
 ];
 
-fn devices(alloc: Global) -> Result<Vec<Device>, AllocError> {
+fn devices(alloc: Global) -> Result<Devices, AllocError> {
     let mut rows = Vec::new(alloc);
     for (kind, base) in &DEVICES {
         rows.push(nameless(alloc, *kind, *base))?;
     }
-    Ok(rows)
+    Ok(Devices { rows })
 }
 
 /// Which addresses are a device's, and the whole of a time that no run comes to.

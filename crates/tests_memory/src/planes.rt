@@ -114,7 +114,7 @@ const NONE: [Next; 1] = [(0, 32, None)];
 
 fn see_next<M: Memory>(rt: &impl Abort, memory: &M, rows: &[Next]) {
     for (place, (from, to, wanted)) in rows.iter().enumerate() {
-        let found = memory.next_tagged(*from, *to) == *wanted;
+        let found = memory.next_tagged_below(*from, *to) == *wanted;
         at(rt, found, "row", place as u64);
     }
 }
@@ -234,7 +234,7 @@ fn chosen<M: Memory>(memory: &mut M, number: u64) -> (u64, Option<Cap>)
             (memory.marked(at) as u64, None)
         }
         _ => {
-            let next = memory.next_tagged(at + value % 8, to + value % 8);
+            let next = memory.next_tagged_below(at + value % 8, to + value % 8);
             (next.unwrap_or(1) as u64, None)
         }
     }

@@ -95,7 +95,7 @@ const SLICES: [(u32, u32); 4] = [(3, 24), (0, 24), (3, 48), (4_294_967_295, 64)]
 fn see_front<M: Memory>(rt: &impl Abort, memory: &M, front: &Front, end: u32) {
     let next = if end < 64 { Some(end) } else { None };
     at(rt, front.at() == end, "front", end as u64);
-    let found = memory.next_tagged(0, 64) == next;
+    let found = memory.next_tagged_below(0, 64) == next;
     at(rt, found, "next", end as u64);
     let found = front.finished(64) == (end == 64);
     at(rt, found, "finished", end as u64);

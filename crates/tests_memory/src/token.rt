@@ -6,9 +6,9 @@ use ct_token::Tokens;
 #[test]
 fn keys_open_their_tokens(rt: HostRuntime) {
     let mut tokens = Tokens::new(rt.alloc(), 64).expect(&rt, "tokens");
-    tokens.add(1, None);
-    tokens.add(2, Some(1));
-    tokens.add(3, None);
+    tokens.add_key(1);
+    tokens.add_token(2, 1);
+    tokens.add_key(3);
     is(&rt, tokens.opens(1, 2), "its key");
     is(&rt, !tokens.opens(3, 2), "another key");
     is(&rt, !tokens.opens(2, 2), "itself as key");

@@ -2,7 +2,7 @@
 
 use crate::seen::at;
 use ct_entry::{Act, Deed, Happened, Owned};
-use ct_trace::line_of;
+use ct_trace::line;
 use std::process::Abort;
 
 /// A deed of thread 1, compartment 0, by entry 7 or none.
@@ -20,7 +20,7 @@ fn deed(entry: u32, act: Act) -> Happened {
 
 /// The lines of a step.
 fn writes(rt: &impl Abort, happened: &Happened, step: u32, text: &str) {
-    let lines = line_of(happened, step);
+    let lines = line(happened, step);
     at(rt, lines.as_str() == text, "step", step as u64);
 }
 

@@ -4,7 +4,7 @@ use crate::samples::TINY_IMAGE;
 use ct_entry::End;
 use ct_image::{Image, accept};
 use ct_planes::Planes;
-use ct_running::Machine;
+use ct_run::Machine;
 use ct_top::ready;
 use def_step::Event;
 use std::process::Abort;

@@ -2,9 +2,9 @@
 //! docs/use/capabilities.md, and beside `set_address` over many words.
 
 use ct_cap::{
-    Bounds, Cap, Live, Perms, Shadow, clear_tag, derive, expand, set_address, set_bounds,
+    Bounds, Cap, Live, Perms, Shadow, clear_tag, derive, expand, raise, set_address, set_bounds,
+    turn,
 };
-use ct_counter::{raise, turn};
 use std::process::Abort;
 
 const MEMORY: u32 = 0x7E3C0100;

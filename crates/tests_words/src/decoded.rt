@@ -1,6 +1,6 @@
 //! Words that are kept, at addresses of one slot and of two.
 
-use ct_decoded::Decoded;
+use ct_decode::Decoded;
 use ct_isa::{Instr, shape};
 use def_step::Class;
 use std::process::Abort;

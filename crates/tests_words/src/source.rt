@@ -54,14 +54,14 @@ fn a_statement_and_its_line(rt: HostRuntime) -> Result<(), AsmFault> {
     assert!(rt; program.statements.len() == 2);
     let first = &program.statements[0];
     assert!(rt; first.line == 3);
-    assert!(rt; matches!(first.part, Part::Label { name: b"start" }));
+    assert!(rt; matches!(first.part.part(), Part::Label { name: b"start" }));
     let second = &program.statements[1];
     assert!(rt; second.line == 3);
     let number = Number {
         negative: true,
         magnitude: 3,
     };
-    match second.part {
+    match second.part.part() {
         Part::Store {
             operation,
             rs2,

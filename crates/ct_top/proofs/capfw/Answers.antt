@@ -1,8 +1,8 @@
-use Rattle.law_commands.proofs.Licences.{is_licensed}
-use Rattle.law_commands.proofs.Written.{run_written}
+use Rattle.law_program.proofs.Licences.{is_licensed}
+use Rattle.law_program.proofs.Written.{run_written}
 use Rattle.law_program.proofs.Deciding.{decides}
 use Rattle.law_program.proofs.Ending.{completes, demo_completes, misuse}
-use Rattle.law_commands.proofs.Safe.{is_safe}
+use Rattle.law_program.proofs.Safe.{is_safe}
 use Rattle.ct_top.proofs.capfw.Goals as goal
 
 pub returns-clause-decided : goal.returns-clause-decided

@@ -1,5 +1,5 @@
 use Rattle.std.proofs.Common.{refl, sym}
-use Rattle.ct_refusals.proofs.Endings.{misused}
+use Rattle.ct_commands.proofs.Endings.{misused}
 use Rattle.ct_top.proofs.command.Goals as goal
 
 pub returns-in-None : goal.returns-in-None

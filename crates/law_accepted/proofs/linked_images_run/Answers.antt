@@ -1,4 +1,4 @@
-use Rattle.law_link_limits.proofs.Whole.{faultless}
+use Rattle.law_link.proofs.Whole.{faultless}
 use Rattle.law_accepted.proofs.Running.{partitioned, confined, licensed}
 use Rattle.law_accepted.proofs.linked_images_run.Goals as goal
 

@@ -1,7 +1,7 @@
 use Rattle.std.proofs.Common.{[]}
-use Rattle.law_images.specs.Tiny.{tiny}
-use Rattle.law_linked.specs.Samples.{tiny_rows, board_rows, board_sources}
-use Rattle.law_link_limits.proofs.Whole.{faultless}
+use Rattle.law_image_samples.specs.Tiny.{tiny}
+use Rattle.law_link_samples.specs.Samples.{tiny_rows, board_rows, board_sources}
+use Rattle.law_link.proofs.Whole.{faultless}
 use Rattle.law_accepted.proofs.samples_are_accepted.Goals as goal
 
 pub returns : goal.returns

@@ -8,7 +8,7 @@ use Rattle.def_image.specs.Indexes.{index_checks}
 use Rattle.def_image.specs.Rights.{right_checks}
 use Rattle.def_image.specs.Parts.{PartsRow}
 use Rattle.def_image.specs.Spelling.{image_bytes, raw_of, spelled}
-use Rattle.law_images.specs.Tiny.{the_switch, the_uart, the_thread, with_switch, with_uart, with_thread}
+use Rattle.law_image_samples.specs.Tiny.{the_switch, the_uart, the_thread, with_switch, with_uart, with_thread}
 use Rattle.law_answers.proofs.Facts.{spelled_by}
 use Rattle.law_answers.proofs.index_answers.Goals as goal
 

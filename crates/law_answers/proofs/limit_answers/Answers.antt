@@ -3,7 +3,7 @@ use Rattle.def_image.specs.Checks.{first, walked}
 use Rattle.def_image.specs.Limits.{compartment_limits_by, device_limits, export_limits, gate_limits, header_limits, library_limits_by, limit_checks, name_checks, own_slot_limits, row_limits, sealed_limits, shared_limits, slot_limits, thread_limits_by}
 use Rattle.def_image.specs.Raw.{RawImage}
 use Rattle.def_image.specs.Spelling.{image_bytes, raw_of, spelled}
-use Rattle.law_images.specs.Tiny.{tiny, the_main, with_main}
+use Rattle.law_image_samples.specs.Tiny.{tiny, the_main, with_main}
 use Rattle.law_answers.proofs.Facts.{plain_by}
 use Rattle.law_answers.proofs.limit_answers.Goals as goal
 

@@ -8,7 +8,7 @@ use Rattle.def_image.specs.Indexes.{index_checks}
 use Rattle.def_image.specs.Rights.{right_checks}
 use Rattle.def_image.specs.Parts.{PartsRow}
 use Rattle.def_image.specs.Spelling.{image_bytes, raw_of, spelled}
-use Rattle.law_images.specs.Tiny.{tiny, app, with_app}
+use Rattle.law_image_samples.specs.Tiny.{tiny, app, with_app}
 use Rattle.law_answers.proofs.Facts.{spelled_by}
 use Rattle.law_answers.proofs.region_answers.Goals as goal
 

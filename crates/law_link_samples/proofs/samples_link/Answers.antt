@@ -4,14 +4,14 @@ use Rattle.def_words.specs.Permissions.{bit, set_where, form_of, packed}
 use Rattle.def_layout.specs.Placement.{placed, last_end}
 use Rattle.def_source.specs.Source.{program_of, line_of, row_line, line_tokens, head_of, directive_of, register_of, register_at, register_comma, address_at, two_registers, three_registers, two_registers_number, two_registers_target, register_number, register_target, register_name, register_address, one_register, one_number, one_target}
 use Rattle.def_object.specs.Object.{label_in, fault_in, slot_of, text_of, initial_of}
-use Rattle.def_description.specs.Tables.{kind_of, posture_of, library_posture_of, passes_of, service_of, members_of, outer_lists, inner_lists, form_names, righted_names, code_names, device_rights, shared_rights}
+use Rattle.def_desc.specs.Tables.{kind_of, posture_of, library_posture_of, passes_of, service_of, members_of, outer_lists, inner_lists, form_names, righted_names, code_names, device_rights, shared_rights}
 use Rattle.def_link.specs.Owners.{all_built}
 use Rattle.def_link.specs.Linked.{compartment_parts, library_parts, shared_parts, sealed_parts, thread_parts, parts_of, linked}
-use Rattle.def_description.specs.WellFormed.{first_fault}
-use Rattle.def_description.specs.Walk.{spots_of}
-use Rattle.law_description.specs.Samples.{tiny_of, board}
-use Rattle.law_linked.specs.Samples.{tiny_app, from_file}
-use Rattle.law_wellformed.proofs.Lawfuls.{value_lawful}
+use Rattle.def_desc.specs.WellFormed.{first_fault}
+use Rattle.def_desc.specs.Walk.{spots_of}
+use Rattle.law_desc.specs.Samples.{tiny_of, board}
+use Rattle.law_link_samples.specs.Samples.{tiny_app, from_file}
+use Rattle.law_desc.proofs.Lawfuls.{value_lawful}
 use Rattle.law_link_samples.proofs.samples_link.Goals as goal
 
 pub returns-clause-words : goal.returns-clause-words

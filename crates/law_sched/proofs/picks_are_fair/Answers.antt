@@ -1,5 +1,5 @@
 use Rattle.std.proofs.Common.{length}
-use Rattle.def_picks.specs.Records.{order_after}
+use Rattle.def_sched.specs.Records.{order_after}
 use Rattle.law_sched.proofs.Picks.{none_is_picked, idle_all, idle_at, no_pick_is_idle}
 use Rattle.law_sched.proofs.Records.{order_is, picked_is_fair, fair_is_picked}
 use Rattle.law_sched.proofs.picks_are_fair.Goals as goal

@@ -1,6 +1,6 @@
 use Rattle.std.proofs.Common.{ap, sym, arith}
-use Rattle.law_boot_words.proofs.Putting.{puts_sentry}
-use Rattle.law_boot_words.proofs.Stages.{empty_booting}
+use Rattle.law_boot.proofs.Putting.{puts_sentry}
+use Rattle.law_boot.proofs.Stages.{empty_booting}
 use Rattle.ct_boot.proofs.Made.{puts_at}
 use Rattle.ct_boot.proofs.Ranges.{filled, granule_at}
 use Rattle.ct_boot.proofs.booting.fill.Goals as goal

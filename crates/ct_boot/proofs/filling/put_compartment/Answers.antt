@@ -1,7 +1,7 @@
 use Rattle.std.proofs.Common.{◌≡◌, ◌+◌, ◌∙◌, length, ap, sym, subst, arith}
 use Rattle.def_image.specs.Members.{text_base, code_number}
-use Rattle.def_boot_words.specs.Booting.{PutsBytes}
-use Rattle.law_boot_words.proofs.Putting.{puts_text, puts_initial}
+use Rattle.def_boot.specs.Booting.{PutsBytes}
+use Rattle.law_boot.proofs.Putting.{puts_text, puts_initial}
 use Rattle.ct_boot.specs.Slots.{SlotsPut}
 use Rattle.ct_boot.proofs.Fits.{own_code_end}
 use Rattle.ct_boot.proofs.Made.{bytes_at, slots_put}

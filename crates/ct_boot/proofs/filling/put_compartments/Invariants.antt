@@ -1,5 +1,5 @@
-use Rattle.def_boot_words.specs.Booting.{Stage}
-use Rattle.def_boot_words.specs.Written.{InCompartment, OfFirst}
+use Rattle.def_boot.specs.Booting.{Stage}
+use Rattle.def_boot.specs.Written.{InCompartment, OfFirst}
 use Rattle.ct_boot.proofs.filling.put_compartments.Given as goal
 
 -- those so far are booted

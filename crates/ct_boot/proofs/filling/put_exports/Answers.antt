@@ -1,5 +1,5 @@
 use Rattle.std.proofs.Common.{◌+◌, ◌*◌, ◌<◌, length, refl, ap, arith}
-use Rattle.law_boot_words.proofs.Stages.{stage_range}
+use Rattle.law_boot.proofs.Stages.{stage_range}
 use Rattle.ct_boot.proofs.Ranges.{got_of, range_at}
 use Rattle.ct_boot.proofs.filling.put_exports.Goals as goal
 

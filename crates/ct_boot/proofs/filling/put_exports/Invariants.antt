@@ -1,5 +1,5 @@
 use Rattle.std.proofs.Common.{◌+◌, ◌*◌}
-use Rattle.def_boot_words.specs.Booting.{Stage, IsFrom}
+use Rattle.def_boot.specs.Booting.{Stage, IsFrom}
 use Rattle.ct_boot.proofs.filling.put_exports.Given as goal
 
 -- the rows so far are booted

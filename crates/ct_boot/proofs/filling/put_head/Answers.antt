@@ -1,6 +1,6 @@
 use Rattle.std.proofs.Common.{◌+◌, ◌∙◌, ap, sym, arith}
 use Rattle.ct_entry.specs.declared.rows.Owner.TheVariants.{Compartment}
-use Rattle.law_boot_words.proofs.Putting.{puts_code, puts_globals}
+use Rattle.law_boot.proofs.Putting.{puts_code, puts_globals}
 use Rattle.ct_boot.proofs.Fits.{table_end}
 use Rattle.ct_boot.proofs.Made.{puts_at, code_made_is, globals_made_are}
 use Rattle.ct_boot.proofs.Ranges.{both_granules, granule_at}

@@ -1,6 +1,6 @@
 use Rattle.std.proofs.Common.{◌≡◌, ◌+◌, ap, arith}
 use Rattle.def_image.specs.Members.{library_number}
-use Rattle.law_boot_words.proofs.Putting.{puts_library_text}
+use Rattle.law_boot.proofs.Putting.{puts_library_text}
 use Rattle.ct_boot.proofs.Fits.{library_end}
 use Rattle.ct_boot.proofs.Made.{library_slots_put}
 use Rattle.ct_boot.proofs.filling.put_library.Goals as goal

@@ -1,5 +1,5 @@
 use Rattle.std.proofs.Common.{◌∙◌, ap}
-use Rattle.law_boot_words.proofs.Putting.{puts_sealed}
+use Rattle.law_boot.proofs.Putting.{puts_sealed}
 use Rattle.ct_boot.proofs.Made.{bytes_at}
 use Rattle.ct_boot.proofs.filling.put_sealed.Goals as goal
 

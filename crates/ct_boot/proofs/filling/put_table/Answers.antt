@@ -1,7 +1,7 @@
 use Rattle.std.proofs.Common.{◌≡◌, ◌+◌, ◌*◌, ◌∙◌, Some, length, slice_get, refl, ap, sym, arith}
 use Rattle.def_image.specs.Members.{gate_address}
 use Rattle.def_image.specs.Spelling.{export_field}
-use Rattle.law_boot_words.proofs.Putting.{puts_export}
+use Rattle.law_boot.proofs.Putting.{puts_export}
 use Rattle.ct_boot.proofs.Fits.{table_end}
 use Rattle.ct_boot.proofs.Made.{bytes_at}
 use Rattle.ct_boot.proofs.filling.put_table.Goals as goal

@@ -1,5 +1,5 @@
 use Rattle.std.proofs.Common.{◌+◌, ◌*◌}
-use Rattle.def_boot_words.specs.Booting.{Stage, IsFrom}
+use Rattle.def_boot.specs.Booting.{Stage, IsFrom}
 use Rattle.ct_boot.proofs.putting.put_bytes.Given as goal
 
 -- the words so far are booted

@@ -1,7 +1,7 @@
 use Rattle.std.proofs.Common.{◌≡◌, drop}
 use Rattle.std.specs.List.{list_any}
 use Rattle.ct_entry.specs.declared.rows.Owner.{Owner}
-use Rattle.def_graph.specs.Reach.{same_owner}
+use Rattle.def_reach.specs.Reach.{same_owner}
 use Rattle.ct_graph.proofs.nodes.place_of.Given as goal
 
 abbrev pub invariant-loop-place : goal.invariant-loop-place

@@ -2,7 +2,7 @@ use Rattle.std.proofs.Common.{◌≡◌, true, None}
 use Rattle.def_image.specs.Checks.{first}
 use Rattle.def_image.specs.Limits.{limit_checks}
 use Rattle.def_image.specs.Accepted.{is_begun}
-use Rattle.ct_parts.specs.Converted.{parts_of}
+use Rattle.ct_image_parts.specs.Converted.{parts_of}
 use Rattle.ct_image.proofs.Answered.{image_is, refused_is, standing_is}
 use Rattle.ct_image.proofs.accepting.accept.Goals as goal
 

@@ -1,6 +1,6 @@
 use Rattle.std.proofs.Common.{◌≡◌, ◌≤◌, ◌++◌, drop}
 use Rattle.def_layout.specs.Placement as spec
-use Rattle.law_layout.specs.Lies.{AreSmall}
+use Rattle.def_layout.specs.Lies.{AreSmall}
 use Rattle.ct_layout.proofs.ends.placed.Given as goal
 
 abbrev pub invariant-loop-size : goal.invariant-loop-size

@@ -1,7 +1,7 @@
 use Rattle.std.proofs.Common.{◌≡◌, ◌+◌, take}
 use Rattle.def_link.specs.Owners.{numbered}
 use Rattle.def_link.specs.Slots.{export_gate}
-use Rattle.ct_objects.specs.Objects.{built_of}
+use Rattle.ct_link_objects.specs.Objects.{built_of}
 use Rattle.ct_link.proofs.gates.compartment_gates.Given as goal
 
 abbrev pub invariant-loop-export : goal.invariant-loop-export

@@ -1,5 +1,5 @@
 use Rattle.def_link.specs.Slots.{lexport_gate}
-use Rattle.ct_objects.specs.Objects.{built_of}
+use Rattle.ct_link_objects.specs.Objects.{built_of}
 use Rattle.ct_link.proofs.Stretches.{numbered_pushed}
 use Rattle.ct_link.proofs.gates.library_gates.Goals as goal
 

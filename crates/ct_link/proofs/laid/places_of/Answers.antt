@@ -1,6 +1,6 @@
 use Rattle.std.proofs.Common.{◌≡◌, ℕ, List, refl, sym, ap, subst}
-use Rattle.def_description.specs.declared.Ram.{Ram}
-use Rattle.def_description.specs.Rows.{DescRow}
+use Rattle.def_desc.specs.declared.Ram.{Ram}
+use Rattle.def_desc.specs.Rows.{DescRow}
 use Rattle.ct_layout.specs.Rows.{SizesRow, IsPlaceable}
 use Rattle.ct_link.specs.Laid.{sizes_with}
 use Rattle.ct_link.proofs.Bounds.{are_placeable}

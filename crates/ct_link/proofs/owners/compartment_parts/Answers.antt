@@ -1,5 +1,5 @@
 use Rattle.std.proofs.Common.{◌+◌, ◌<◌, List, length, refl, sym, ap, ◌∙◌, subst, arith}
-use Rattle.def_description.specs.Rows.{CompartmentRow, DescRow}
+use Rattle.def_desc.specs.Rows.{CompartmentRow, DescRow}
 use Rattle.def_link.specs.Linked.{compartment_parts}
 use Rattle.ct_link.specs.Rows.{IsSized, IsSmallOwner, row_entries}
 use Rattle.ct_link.proofs.Parts.{own_part_pushed}

@@ -1,5 +1,5 @@
 use Rattle.std.proofs.Common.{◌+◌, ◌<◌, List, length, refl, sym, ap, ◌∙◌, subst, arith}
-use Rattle.def_description.specs.Rows.{LibraryRow, DescRow}
+use Rattle.def_desc.specs.Rows.{LibraryRow, DescRow}
 use Rattle.def_link.specs.Linked.{library_parts}
 use Rattle.ct_link.specs.Rows.{IsSized, IsSmallLibrary, library_row_entries}
 use Rattle.ct_link.proofs.Parts.{lent_part_pushed}

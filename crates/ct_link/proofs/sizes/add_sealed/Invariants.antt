@@ -1,5 +1,5 @@
 use Rattle.std.proofs.Common.{◌≡◌, ◌++◌, length, map, take}
-use Rattle.def_description.specs.Rows.{SealedRow}
+use Rattle.def_desc.specs.Rows.{SealedRow}
 use Rattle.ct_link.proofs.sizes.add_sealed.Given as goal
 
 abbrev pub invariant-loop-sealed : goal.invariant-loop-sealed

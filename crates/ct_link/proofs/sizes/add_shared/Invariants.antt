@@ -1,5 +1,5 @@
 use Rattle.std.proofs.Common.{◌≡◌, ◌++◌, map, take}
-use Rattle.def_description.specs.Rows.{SharedRow}
+use Rattle.def_desc.specs.Rows.{SharedRow}
 use Rattle.ct_link.proofs.sizes.add_shared.Given as goal
 
 abbrev pub invariant-loop-shared : goal.invariant-loop-shared

@@ -1,5 +1,5 @@
 use Rattle.std.proofs.Common.{◌≡◌, ◌++◌, map, take}
-use Rattle.def_description.specs.Rows.{ThreadRow}
+use Rattle.def_desc.specs.Rows.{ThreadRow}
 use Rattle.ct_link.proofs.sizes.add_stacks.Given as goal
 
 abbrev pub invariant-loop-thread : goal.invariant-loop-thread

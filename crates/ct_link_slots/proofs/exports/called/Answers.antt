@@ -1,6 +1,6 @@
 use Rattle.std.proofs.Common.{◌≡◌, ◌≤◌, length, map, arith}
-use Rattle.def_description.specs.References.{export_name}
-use Rattle.def_description.specs.Rows.{ExportRow}
+use Rattle.def_desc.specs.References.{export_name}
+use Rattle.def_desc.specs.Rows.{ExportRow}
 use Rattle.def_link.specs.Slots.{index_of, export_from}
 use Rattle.ct_link_slots.specs.Exporters.{exporter}
 use Rattle.ct_link_slots.proofs.Names.{call_next}

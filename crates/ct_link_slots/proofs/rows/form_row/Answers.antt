@@ -2,7 +2,7 @@ use Rattle.std.proofs.Common.{◌≡◌, sym, ap, ◌∙◌}
 use Rattle.def_image.specs.declared.SlotKind.TheVariants as kind
 use Rattle.def_words.specs.Permissions.{packed}
 use Rattle.def_profile.specs.declared.rights.TheConstants.{SEALED_RIGHTS}
-use Rattle.def_description.specs.Named.{device_names, shared_names, sealed_names}
+use Rattle.def_desc.specs.Named.{device_names, shared_names, sealed_names}
 use Rattle.def_link.specs.Slots.{index_of, slot_row, form_row}
 use Rattle.ct_link_slots.proofs.rows.form_row.Goals as goal
 

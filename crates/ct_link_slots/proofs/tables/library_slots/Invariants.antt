@@ -1,6 +1,6 @@
 use Rattle.std.proofs.Common.{◌≡◌, map, take}
-use Rattle.def_description.specs.declared.tables.Form.TheVariants as form
-use Rattle.def_description.specs.Rows.{LimportRow}
+use Rattle.def_desc.specs.declared.tables.Form.TheVariants as form
+use Rattle.def_desc.specs.Rows.{LimportRow}
 use Rattle.def_link.specs.Slots.{slot, form_row}
 use Rattle.ct_link_slots.proofs.tables.library_slots.Given as goal
 

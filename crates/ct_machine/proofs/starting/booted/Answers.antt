@@ -5,8 +5,8 @@ use Rattle.ct_boot.specs.Launching.{launched}
 use Rattle.ct_machine.proofs.Starts.{few_limits, limits_are}
 use Rattle.ct_machine.proofs.starting.booted.Goals as goal
 
-pub launch-threads-requires-clause-few : goal.launch-threads-requires-clause-few
-launch-threads-requires-clause-few g c =
+pub launch-engine-requires-clause-few : goal.launch-engine-requires-clause-few
+launch-engine-requires-clause-few g c =
     let p = c.args.image.now in
     let are = limits_are p c.args.plan.now c.entries.result.now c.as_slice.result.now c.requires.plan c.entries.ensures.is (c.as_slice.ensures.value ∙ c.in-Ok.ensures) in
     subst (λ (xs : List ℕ). AreFew xs) (sym are) (few_limits p c.requires.sound)
@@ -15,4 +15,4 @@ pub returns-in-Ok-clause-launched : goal.returns-in-Ok-clause-launched
 returns-in-Ok-clause-launched g c =
     let p = c.args.image.now in
     let are = limits_are p c.args.plan.now c.entries.result.now c.as_slice.result.now c.requires.plan c.entries.ensures.is (c.as_slice.ensures.value ∙ c.in-Ok.ensures) in
-    subst (λ (xs : List ℕ). IfOk c.launch-threads.result (λ t. t ≡ launched p xs)) are c.launch-threads.ensures.launched
+    subst (λ (xs : List ℕ). IfOk c.launch-engine.result (λ t. t ≡ launched p xs)) are c.launch-engine.ensures.launched

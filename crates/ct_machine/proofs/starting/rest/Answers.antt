@@ -3,4 +3,4 @@ use Rattle.ct_machine.specs.Starting.{at_rest}
 use Rattle.ct_machine.proofs.starting.rest.Goals as goal
 
 pub returns-clause-bus : goal.returns-clause-bus
-returns-clause-bus c = c.in_ok-bus.ensures ∙ ap at_rest (c.deref.ensures.value ∙ ap (λ p. p.devices) c.parts.view_is)
+returns-clause-bus c = c.in_ok-bus.ensures ∙ ap at_rest (ap (λ p. p.devices) c.parts.view_is)

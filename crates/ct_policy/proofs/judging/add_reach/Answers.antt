@@ -1,7 +1,7 @@
 use Rattle.std.proofs.Common.{[], inl, refl, sym}
 use Rattle.std.proofs.lemmas.List.{append-nil}
 use Rattle.def_boot.specs.Gates.{entries_of}
-use Rattle.def_graph.specs.Reach.{Reached}
+use Rattle.def_reach.specs.Reach.{Reached}
 use Rattle.ct_policy.proofs.judging.add_reach.Goals as goal
 
 pub returns-in-None : goal.returns-in-None

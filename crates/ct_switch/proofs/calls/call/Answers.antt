@@ -2,7 +2,7 @@ use Rattle.std.proofs.Common.{◌≡◌, ◌*◌, ◌/◌, ◌∙◌, true, leng
 use Rattle.def_words.specs.declared.Cap.{Cap}
 use Rattle.def_step.specs.Switch.{Trapped, TooDeep, NoStack, Enters}
 use Rattle.ct_areas.specs.Threads.{thread_of}
-use Rattle.ct_exports.specs.declared.exports.Export.{Export}
+use Rattle.ct_switch.specs.declared.exports.Export.{Export}
 use Rattle.ct_switch.specs.declared.calls.Called.TheVariants as called
 use Rattle.ct_switch.specs.Calls.{decided, switch_in, given_in}
 use Rattle.ct_switch.proofs.Entering.{refused_so, enterable, given_same, call_told, call_thread, call_memory, call_row}

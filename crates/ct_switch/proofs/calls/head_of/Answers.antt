@@ -1,5 +1,5 @@
 use Rattle.std.proofs.Common.{◌≡◌, ◌*◌, length, subst, rules}
-use Rattle.ct_exports.specs.Exports.{AreTogether}
+use Rattle.ct_switch.specs.Exports.{AreTogether}
 use Rattle.ct_switch.proofs.Entering.{together_here}
 use Rattle.ct_switch.proofs.calls.head_of.Goals as goal
 

@@ -3,7 +3,7 @@ use Rattle.def_words.specs.declared.Cap.{Cap}
 use Rattle.def_reach.specs.Roots.{root_of}
 use Rattle.ct_areas.specs.Parts.{inner_frame}
 use Rattle.ct_areas.specs.Threads.{thread_of}
-use Rattle.ct_exports.specs.declared.exports.Export.{Export}
+use Rattle.ct_switch.specs.declared.exports.Export.{Export}
 use Rattle.ct_areas.specs.declared.frames.Saved.{Saved}
 use Rattle.ct_switch.specs.Calls.{handed}
 use Rattle.ct_switch.proofs.Leaving.{Answers, answers_are, answered_thread, answered_row}

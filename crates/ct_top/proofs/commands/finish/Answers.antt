@@ -1,5 +1,5 @@
 use Rattle.std.proofs.Common.{refl}
-use Rattle.ct_refusals.proofs.Endings.{at_once, due_by}
+use Rattle.ct_commands.proofs.Endings.{at_once, due_by}
 use Rattle.ct_top.proofs.Turning.{is_done}
 use Rattle.ct_top.proofs.commands.finish.Goals as goal
 

@@ -1,10 +1,10 @@
 use Rattle.std.proofs.Common.{◌≡◌, ◌∙◌, true, false, sym, []}
-use Rattle.def_description.specs.WellFormed.{WellFormed}
+use Rattle.def_desc.specs.WellFormed.{WellFormed}
 use Rattle.def_program.specs.Commands.{reads_image}
-use Rattle.ct_description.specs.Answers.{Refused}
-use Rattle.ct_refusals.proofs.Answered.{first_stops, image_done, description_refused, linked_done, source_stops}
-use Rattle.ct_refusals.proofs.Endings.{due_by}
-use Rattle.ct_words.specs.Forms.{command_of}
+use Rattle.ct_desc.specs.Answers.{Refused}
+use Rattle.ct_commands.proofs.Answered.{first_stops, image_done, description_refused, linked_done, source_stops}
+use Rattle.ct_commands.proofs.Endings.{due_by}
+use Rattle.ct_commands.specs.Forms.{command_of}
 use Rattle.ct_top.proofs.Linkable.{linkable}
 use Rattle.ct_top.proofs.Named.{given_by, refused_by}
 use Rattle.ct_top.proofs.Turning.{description_fault}

@@ -1,5 +1,5 @@
 use Rattle.std.proofs.Common.{refl, []}
-use Rattle.ct_refusals.proofs.Endings.{at_once, due_by, ends_by}
+use Rattle.ct_commands.proofs.Endings.{at_once, due_by, ends_by}
 use Rattle.ct_top.proofs.Turning.{image_parts, image_fault}
 use Rattle.ct_top.proofs.dialogue.of_image.Goals as goal
 

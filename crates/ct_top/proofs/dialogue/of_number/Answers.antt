@@ -1,8 +1,8 @@
 use Rattle.std.proofs.Common.{◌≡◌, ◌∙◌, List, ℕ, map, string_bytes, ap}
-use Rattle.def_description.specs.Reading.{description_of}
+use Rattle.def_desc.specs.Reading.{description_of}
 use Rattle.def_gen.specs.Description.{firmware}
 use Rattle.def_gen.specs.Sources.{sources}
-use Rattle.ct_words.specs.Forms.{command_for}
+use Rattle.ct_commands.specs.Forms.{command_for}
 use Rattle.ct_top.proofs.Generated.{rows_read, linkable, linked_number}
 use Rattle.ct_top.proofs.dialogue.of_number.Goals as goal
 

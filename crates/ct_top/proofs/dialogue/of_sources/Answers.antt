@@ -1,7 +1,7 @@
 use Rattle.std.proofs.Common.{refl, []}
 use Rattle.def_link.specs.Linked.{linked}
-use Rattle.ct_refusals.proofs.Endings.{at_once, due_by, ends_by}
-use Rattle.ct_words.specs.Forms.{command_for}
+use Rattle.ct_commands.proofs.Endings.{at_once, due_by, ends_by}
+use Rattle.ct_commands.specs.Forms.{command_for}
 use Rattle.ct_top.proofs.Turning.{linked_parts, link_fault}
 use Rattle.ct_top.proofs.dialogue.of_sources.Goals as goal
 

@@ -1,7 +1,7 @@
 use Rattle.std.proofs.Common.{◌≡◌, ◌∙◌, None, Some, sym}
 use Rattle.def_program.specs.Commands.{generated_by}
-use Rattle.ct_refusals.proofs.Answered.{number_done}
-use Rattle.ct_words.specs.Forms.{command_of}
+use Rattle.ct_commands.proofs.Answered.{number_done}
+use Rattle.ct_commands.specs.Forms.{command_of}
 use Rattle.ct_top.proofs.dialogue.perform.Goals as goal
 
 pub returns-in-Some : goal.returns-in-Some

@@ -1,6 +1,6 @@
 use Rattle.std.proofs.Common.{◌≡◌, ◌∙◌, false, sym}
 use Rattle.def_program.specs.Lines.{link_status, link_text}
-use Rattle.ct_refusals.proofs.Endings.{ends_with}
+use Rattle.ct_commands.proofs.Endings.{ends_with}
 use Rattle.ct_top.specs.Done.{IsRefusal, link_turn, wants_memory}
 use Rattle.ct_top.proofs.Turning.{link_due, link_last}
 use Rattle.ct_top.proofs.dialogue.refuse_link.Goals as goal

@@ -1,4 +1,4 @@
-use Rattle.ct_refusals.proofs.Endings.{due_by}
+use Rattle.ct_commands.proofs.Endings.{due_by}
 use Rattle.ct_top.proofs.Turning.{text_fault, text_judged}
 use Rattle.ct_top.proofs.policies.judge.Goals as goal
 

@@ -1,5 +1,5 @@
 use Rattle.std.proofs.Common.{refl, sym, inr}
-use Rattle.ct_refusals.proofs.Endings.{at_once}
+use Rattle.ct_commands.proofs.Endings.{at_once}
 use Rattle.ct_top.proofs.Booted.{none_playable}
 use Rattle.ct_top.proofs.Turning.{played}
 use Rattle.ct_top.proofs.runs.run_booted.Goals as goal

@@ -1,6 +1,6 @@
 use Rattle.law_program.proofs.Alike.{upgraded_alike}
 use Rattle.law_program.proofs.Upgraded.{happenings_alike}
-use Rattle.law_reports.proofs.Alike.{line_alike}
+use Rattle.law_program.proofs.ReportsAlike.{line_alike}
 use Rattle.law_program.proofs.beside.upgraded_images_run_alike.Goals as goal
 
 pub returns : goal.returns

@@ -1,12 +1,12 @@
 use Rattle.std.proofs.Common.{inr, [], ◌∷◌, None, Ok, Err, codes, drop, length, refl, sym, subst, take}
 use Rattle.std.specs.Fmt.{digits}
 use Rattle.ct_entry.specs.declared.rows.Owner.TheVariants.{Compartment}
-use Rattle.def_description.specs.Tables.{kind_of, posture_of, library_posture_of, passes_of, service_of}
+use Rattle.def_desc.specs.Tables.{kind_of, posture_of, library_posture_of, passes_of, service_of}
 use Rattle.def_link.specs.declared.LinkFault.TheVariants as fault
 use Rattle.def_program.specs.Commands.{Audit, Image, Run, file_of}
 use Rattle.def_program.specs.Turns.{Asks, FollowsBy, OfSources, source_names}
-use Rattle.law_images.specs.Tiny.{tiny}
-use Rattle.law_linked.specs.Samples.{tiny_rows, tiny_in, filed, tiny_source, unknown_mnemonic}
+use Rattle.law_image_samples.specs.Tiny.{tiny}
+use Rattle.law_link_samples.specs.Samples.{tiny_rows, tiny_in, filed, tiny_source, unknown_mnemonic}
 use Rattle.law_program.proofs.Sources.{of_rows, no_file, no_file_in, no_files, no_files_in, one, one_file, no_other}
 use Rattle.law_program.proofs.samples.samples_are_told.Goals as goal
 

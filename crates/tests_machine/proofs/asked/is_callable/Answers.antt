@@ -1,6 +1,6 @@
 use Rattle.std.proofs.Common.{◌≡◌, ◌≤◌, ◌<◌, ◌∙◌, length, sym, ap, arith, rules}
-use Rattle.ct_exports.specs.declared.exports.Export.{Export}
-use Rattle.ct_exports.specs.Exports.{callee_of}
+use Rattle.ct_switch.specs.declared.exports.Export.{Export}
+use Rattle.ct_switch.specs.Exports.{callee_of}
 use Rattle.tests_machine.proofs.Searches.{callable_so}
 use Rattle.tests_machine.proofs.asked.is_callable.Goals as goal
 

@@ -4,7 +4,7 @@ use Rattle.def_words.specs.declared.Cap.{Cap}
 use Rattle.def_words.specs.Seals.{cap_seal}
 use Rattle.def_reach.specs.Roots.{root_of}
 use Rattle.ct_areas.specs.Parts.{register_in}
-use Rattle.ct_exports.specs.Exports.{AreSorted, IsCallable}
+use Rattle.ct_switch.specs.Exports.{AreSorted, IsCallable}
 use Rattle.tests_machine.proofs.asked.may_call.Goals as goal
 
 pub names_callable-requires-clause-sorted : goal.names_callable-requires-clause-sorted

@@ -1,6 +1,6 @@
 use Rattle.std.proofs.Common.{◌≡◌, ◌∙◌, ap, subst, rules}
 use Rattle.def_reach.specs.Roots.{root_of}
-use Rattle.ct_exports.specs.Exports.{IsCallable}
+use Rattle.ct_switch.specs.Exports.{IsCallable}
 use Rattle.tests_machine.proofs.asked.names_callable.Goals as goal
 
 pub returns : goal.returns

@@ -4,7 +4,7 @@ use Rattle.std.proofs.lemmas.Bool.{both_ways}
 use Rattle.ct_entry.specs.Listed.{Listed}
 use Rattle.ct_entry.specs.declared.rows.Owner.{Owner}
 use Rattle.ct_entry.specs.declared.rows.Owner.TheVariants.{Compartment}
-use Rattle.def_graph.specs.Route.{Neighbours}
+use Rattle.def_reach.specs.Route.{Neighbours}
 use Rattle.ct_graph.specs.Nodes.{IsGraph, HasStep, NoStep}
 use Rattle.ct_graph.proofs.Graphs.{step_joins, no_step_apart}
 use Rattle.ct_graph.proofs.sharing.Graph.joins.Goals as goal

@@ -4,7 +4,7 @@ use Rattle.std.proofs.lemmas.Bool.{both_ways}
 use Rattle.ct_entry.specs.Listed.{Listed}
 use Rattle.ct_entry.specs.declared.rows.Owner.{Owner}
 use Rattle.ct_entry.specs.declared.rows.Owner.TheVariants.{Compartment}
-use Rattle.def_graph.specs.Reach.{has_entry, Reached}
+use Rattle.def_reach.specs.Reach.{has_entry, Reached}
 use Rattle.ct_graph.specs.Nodes.{stands_among, IsGraph, IsNear, NotNear, is_node}
 use Rattle.ct_graph.specs.declared.sharing.Ends.{Ends}
 use Rattle.ct_graph.proofs.Graphs.{rows_of_graph, near_reached, not_reached, trusted_reaches}

@@ -1,7 +1,7 @@
 use Rattle.std.proofs.Common.{sym, subst}
 use Rattle.def_image.specs.Parts.{PartsRow, upgraded}
 use Rattle.def_image.specs.Accepted.{IsFaultless}
-use Rattle.law_upgrade.proofs.Accepted.{stays}
+use Rattle.law_image.proofs.Accepted.{stays}
 use Rattle.ct_image.proofs.image.Image.upgraded.Goals as goal
 
 pub invariant_of-result : goal.invariant_of-result

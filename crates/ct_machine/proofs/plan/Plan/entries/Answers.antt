@@ -1,6 +1,6 @@
 use Rattle.std.proofs.Common.{subst, sym}
 use Rattle.ct_entry.specs.Listed.{Listed}
-use Rattle.ct_exports.specs.Exports.{AreSorted}
+use Rattle.ct_switch.specs.Exports.{AreSorted}
 use Rattle.law_callable.proofs.Rising.{image_sorted}
 use Rattle.ct_machine.proofs.plan.Plan.entries.Goals as goal
 

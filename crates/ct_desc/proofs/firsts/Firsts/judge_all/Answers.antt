@@ -1,0 +1,19 @@
+use Rattle.std.proofs.Common.{◌+◌, ◌≤◌, ◌∙◌, length, sym, ap, map, drop, arith}
+use Rattle.ct_desc_value.specs.Seen.{spot_view}
+use Rattle.ct_desc.specs.Judged.{after_kinds}
+use Rattle.ct_desc.proofs.Owners.{from_here, none_left}
+use Rattle.ct_desc.proofs.firsts.Firsts.judge_all.Goals as goal
+
+pub loop-spot-preserved : goal.loop-spot-preserved
+loop-spot-preserved c =
+    let l = c.loop-spot in
+    c.in_ok-judge.ensures (map spot_view (drop (l.spot-index + 1) c.args.spots.now))
+    ∙ ap (λ rest. after_kinds l.self (map spot_view rest)) (sym (from_here c.args.spots.now l.spot-index c.spot-item.result c.loop-spot-test.true c.spot-item.is))
+    ∙ l.invariant
+
+pub returns : goal.returns
+returns c =
+    let l = c.loop-spot in
+    let past = c.loop-spot-test.false in
+    let end : length c.args.spots.now ≤ l.spot-index = omega (arith, past) in
+    ap (λ rest. after_kinds l.self (map spot_view rest)) (sym (none_left c.args.spots.now l.spot-index end)) ∙ l.invariant

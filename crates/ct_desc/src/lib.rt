@@ -1,0 +1,85 @@
+//! A description is read exactly: `read` answers the rows that the bytes stand for exactly where they
+//! are a well-formed description, and otherwise the least fault that holds anywhere, at its first
+//! place (docs/use/description.md; definitions in def_desc).
+//!
+//! JSON is read by `serde_json`. The places of the value are walked once for F2 to F6, all of which are
+//! judged at a place before the next, and once for each of F7 to F9: members, limits and tables are
+//! judged in ct_desc_value, rows are read in ct_desc_rows, and names, references and addresses are judged here.
+#![tactic(auto)]
+
+mod addresses;
+mod firsts;
+mod judge;
+mod names;
+mod naming;
+mod references;
+mod rules;
+mod spaces;
+
+ghost use Rattle.std.specs.Prelude.{◌≡◌, Some, MatchResult};
+ghost use Rattle.def_desc.specs.WellFormed as spec;
+ghost use Rattle.def_desc.specs.WellFormed.{WellFormed};
+ghost use Rattle.ct_desc.specs.Answers.{Refused, Unread};
+
+use ct_desc_rows::Desc;
+use def_desc::{Fault, PartWord, Place};
+use serde_json::Value;
+use std::alloc::{AllocError, Global};
+
+/// Why a description is not read.
+#[derive(Drop)]
+pub enum DescFault {
+    /// The least fault that holds anywhere, by the number after its F, and its first place.
+    At {
+        number: u32,
+        part: PartWord,
+        index: u32,
+        item: u32,
+    },
+    /// Memory was wanted.
+    NoMemory,
+}
+
+impl From<AllocError> for DescFault {
+    ghost use Rattle.std.specs.Prelude.{◌≡◌};
+    ghost use Rattle.ct_desc.specs.declared.DescFault.TheVariants.{NoMemory};
+
+    ghost from_gives = { λ _ e. e ≡ NoMemory };
+
+    fn from(_: AllocError) -> DescFault {
+        DescFault::NoMemory
+    }
+}
+
+fn fault(number: u32, place: Place) -> Option<Fault>
+    ensures { result ≡ Some (spec.fault number place) }
+{
+    Some(Fault { number, place })
+}
+
+fn text_fault(e: serde_json::Error) -> DescFault
+    ensures { Unread e result }
+{
+    if e.is_memory() {
+        DescFault::NoMemory
+    } else {
+        DescFault::At {
+            number: 1,
+            part: PartWord::Firmware,
+            index: 0,
+            item: 0,
+        }
+    }
+}
+
+/// Reads a description (docs/use/description.md, "Faults"). Ok comes exactly of a well-formed
+/// description, with the rows that it stands for; `At` is exactly the least fault that holds
+/// anywhere, at its first place. `NoMemory` is want of memory, and may come of any bytes.
+pub fn read(alloc: Global, bytes: &[u8]) -> Result<Desc, DescFault>
+    ensures { MatchResult result (λ d. WellFormed bytes.now d) (λ e. Refused bytes.now e) }
+{
+    match Value::from_slice(alloc, bytes) {
+        Ok(value) => judge::read_value(alloc, &value),
+        Err(e) => Err(text_fault(e)),
+    }
+}

@@ -1,0 +1,200 @@
+//! F7: a reference to nothing. What may be named is collected once, each kind of name in a set.
+
+ghost use Rattle.std.specs.Prelude.{◌≡◌, [], ◌++◌, codes, map, string_bytes, IfOk, OnOk};
+ghost use Rattle.std.specs.List.{flat_map};
+ghost use Rattle.serde_json.specs.View.{view};
+ghost use Rattle.def_texts.specs.Names.{with_names};
+ghost use Rattle.def_desc.specs.Members as member;
+ghost use Rattle.def_desc.specs.References as spec;
+ghost use Rattle.def_desc.specs.WellFormed.{first_failing};
+ghost use Rattle.ct_desc_value.specs.Seen.{spot_view};
+
+use crate::names::Names;
+use ct_desc_rows::target_at;
+use ct_desc_value::Spot;
+use ct_desc_value::members::{list_at, text_or};
+use def_desc::{Form, PartWord, Place};
+use serde_json::Value;
+use std::alloc::{AllocError, Global};
+
+/// Adds the names of the elements of a list.
+fn add_names(names: &mut Names, alloc: Global, values: &[Value]) -> Result<(), AllocError>
+    ensures { OnOk result (names.new ≡ with_names names.old
+        (map (member.text_or (codes "name")) (map view values.now))) }
+{
+    for value in values {
+        names.add(alloc, text_or(value, "name"))?;
+    }
+    Ok(())
+}
+
+/// `owner.export`.
+fn export_name(alloc: Global, owner: &str, name: &str) -> Result<String, AllocError>
+    ensures { IfOk result (λ s. string_bytes s ≡ spec.export_name owner.now name.now) }
+{
+    let mut text = String::from_str(alloc, owner)?;
+    text.push_str(".")?;
+    text.push_str(name)?;
+    Ok(text)
+}
+
+fn add_exports(
+    names: &mut Names,
+    alloc: Global,
+    owner: &str,
+    exports: &[Value],
+) -> Result<(), AllocError>
+    ensures { OnOk result (names.new ≡ with_names names.old
+        (map (spec.export_name owner.now)
+        (map (member.text_or (codes "name")) (map view exports.now)))) }
+{
+    for export in exports {
+        let name = export_name(alloc, owner, text_or(export, "name"))?;
+        names.add(alloc, name.as_str())?;
+    }
+    Ok(())
+}
+
+/// Adds the exports of all owners of a list, each as `owner.export`.
+fn add_owners(names: &mut Names, alloc: Global, owners: &[Value]) -> Result<(), AllocError>
+    ensures { OnOk result (names.new ≡ with_names names.old
+        (flat_map spec.exports_in (map view owners.now))) }
+{
+    for owner in owners {
+        let exports = list_at(owner, "exports");
+        add_exports(names, alloc, text_or(owner, "name"), exports)?;
+    }
+    Ok(())
+}
+
+/// Names by what they name.
+#[derive(Drop)]
+struct Sets {
+    devices: Names,
+    shared: Names,
+    sealed: Names,
+    calls: Names,
+    libraries: Names,
+}
+
+impl Sets {
+    /// No names.
+    fn new(alloc: Global) -> Sets
+        ensures devices { result.devices ≡ [] }
+        ensures shared { result.shared ≡ [] }
+        ensures sealed { result.sealed ≡ [] }
+        ensures calls { result.calls ≡ [] }
+        ensures libraries { result.libraries ≡ [] }
+    {
+        Sets {
+            devices: Names::new(alloc),
+            shared: Names::new(alloc),
+            sealed: Names::new(alloc),
+            calls: Names::new(alloc),
+            libraries: Names::new(alloc),
+        }
+    }
+
+    /// Adds what may be named in a description.
+    fn fill(&mut self, alloc: Global, value: &Value) -> Result<(), AllocError>
+        ensures devices { OnOk result (self.new.devices
+            ≡ with_names self.old.devices (spec.names_at (codes "devices") (view value.now))) }
+        ensures shared { OnOk result (self.new.shared
+            ≡ with_names self.old.shared (spec.names_at (codes "shared") (view value.now))) }
+        ensures sealed { OnOk result (self.new.sealed
+            ≡ with_names self.old.sealed (spec.names_at (codes "sealed") (view value.now))) }
+        ensures calls { OnOk result (self.new.calls
+            ≡ with_names self.old.calls (spec.exports_at (codes "compartments") (view value.now))) }
+        ensures libraries { OnOk result (self.new.libraries
+            ≡ with_names self.old.libraries
+            (spec.exports_at (codes "libraries") (view value.now))) }
+    {
+        add_names(&mut self.devices, alloc, list_at(value, "devices"))?;
+        add_names(&mut self.shared, alloc, list_at(value, "shared"))?;
+        add_names(&mut self.sealed, alloc, list_at(value, "sealed"))?;
+        add_owners(&mut self.calls, alloc, list_at(value, "compartments"))?;
+        add_owners(&mut self.libraries, alloc, list_at(value, "libraries"))
+    }
+}
+
+/// What the imports and threads of a description may name.
+#[derive(Drop)]
+pub struct Named<'a> {
+    value: &'a Value,
+    sets: Sets,
+    ghost of_devices: { sets.devices
+        ≡ with_names [] (spec.names_at (codes "devices") (view value.now)) },
+    ghost of_shared: { sets.shared
+        ≡ with_names [] (spec.names_at (codes "shared") (view value.now)) },
+    ghost of_sealed: { sets.sealed
+        ≡ with_names [] (spec.names_at (codes "sealed") (view value.now)) },
+    ghost of_calls: { sets.calls
+        ≡ with_names [] (spec.exports_at (codes "compartments") (view value.now)) },
+    ghost of_libraries: { sets.libraries
+        ≡ with_names [] (spec.exports_at (codes "libraries") (view value.now)) },
+}
+
+impl<'a> Named<'a> {
+    /// What may be named in a description.
+    pub fn of(alloc: Global, value: &'a Value) -> Result<Named<'a>, AllocError>
+        ensures { IfOk result (λ n. n.value.now ≡ value.now) }
+    {
+        let mut sets = Sets::new(alloc);
+        match sets.fill(alloc, value) {
+            Ok(()) => Ok(Named { value, sets }),
+            Err(error) => {
+                drop(sets);
+                Err(error)
+            }
+        }
+    }
+
+    /// Whether a text names something of the description, by what it is to name.
+    #[tactic(auto, using(crate::proofs::Once::among_once))]
+    fn resolves(&self, form: Form, name: &str) -> bool
+        ensures { result ≡ spec.resolves (view self.now.value.now) form name.now }
+    {
+        match form {
+            Form::Device => self.sets.devices.has(name),
+            Form::Shared => self.sets.shared.has(name),
+            Form::Sealed => self.sets.sealed.has(name),
+            Form::Call => self.sets.calls.has(name),
+            Form::Service => true,
+            Form::Library => self.sets.libraries.has(name),
+        }
+    }
+
+    fn import_resolves(&self, import: &Value) -> bool
+        ensures { result ≡ spec.refers (view self.now.value.now) PartWord.Import (view import.now) }
+    {
+        match target_at(import) {
+            Some(target) => self.resolves(target.form, target.name),
+            None => true,
+        }
+    }
+
+    /// F7 doesn't hold at a place: what it names is there.
+    fn refers(&self, spot: &Spot) -> bool
+        ensures { result ≡ spec.refers_at (view self.now.value.now) (spot_view spot.now) }
+    {
+        match spot.place.part {
+            PartWord::Import => self.import_resolves(spot.value),
+            PartWord::Limport => self.resolves(Form::Library, text_or(spot.value, "library")),
+            PartWord::Thread => self.resolves(Form::Call, text_or(spot.value, "entry")),
+            _ => true,
+        }
+    }
+
+    /// The first place that names nothing.
+    pub fn first_unresolved(&self, spots: &[Spot]) -> Option<Place>
+        ensures { result
+            ≡ first_failing (spec.refers_at (view self.now.value.now)) (map spot_view spots.now) }
+    {
+        for spot in spots {
+            if !self.refers(spot) {
+                return Some(spot.place);
+            }
+        }
+        None
+    }
+}

@@ -1,0 +1,106 @@
+//! The names of each space, for F5: a name twice in its space. Each space is a set, so that this takes
+//! time in proportion to the names.
+
+ghost use Rattle.std.specs.Prelude.{◌≡◌, [], ◌∷◌, codes, IfOk, OnOk};
+ghost use Rattle.def_texts.specs.Names.{among};
+ghost use Rattle.def_desc.specs.Names as spec;
+
+use crate::names::Names;
+use def_desc::PartWord;
+use std::alloc::{AllocError, Global};
+use std::marker::Model;
+
+/// The names of each space so far. Slots and exports are those of one compartment or library.
+#[derive(Drop)]
+pub struct Spaces {
+    devices: Names,
+    shared: Names,
+    sealed: Names,
+    owners: Names,
+    slots: Names,
+    exports: Names,
+}
+
+impl Model for Spaces {
+    ghost use Rattle.def_desc.specs.Names.{Spaces as Rows};
+
+    ghost Value = { Rows };
+
+    ghost view = { λ m. record {
+      devices = m.devices;
+      shared = m.shared;
+      sealed = m.sealed;
+      owners = m.owners;
+      slots = m.slots;
+      exports = m.exports;
+    } };
+}
+
+/// The slots of a compartment before its imports: `switch`.
+fn first_slots(alloc: Global) -> Result<Names, AllocError>
+    ensures { IfOk result (λ n. n ≡ codes "switch" ∷ []) }
+{
+    let mut slots = Names::new(alloc);
+    slots.add(alloc, "switch")?;
+    Ok(slots)
+}
+
+impl Spaces {
+    /// No names.
+    pub fn new(alloc: Global) -> Spaces
+        ensures { result ≡ spec.no_names }
+    {
+        Spaces {
+            devices: Names::new(alloc),
+            shared: Names::new(alloc),
+            sealed: Names::new(alloc),
+            owners: Names::new(alloc),
+            slots: Names::new(alloc),
+            exports: Names::new(alloc),
+        }
+    }
+
+    fn add_compartment(&mut self, alloc: Global, name: &str) -> Result<bool, AllocError>
+        ensures twice { IfOk result (λ b. b ≡ among name.now self.old.owners) }
+        ensures added { OnOk result
+            (self.new ≡ spec.joined PartWord.Compartment name.now self.old) }
+    {
+        let twice = self.owners.add(alloc, name)?;
+        self.slots = first_slots(alloc)?;
+        self.exports = Names::new(alloc);
+        Ok(twice)
+    }
+
+    fn add_library(&mut self, alloc: Global, name: &str) -> Result<bool, AllocError>
+        ensures twice { IfOk result (λ b. b ≡ among name.now self.old.owners) }
+        ensures added { OnOk result
+            (self.new ≡ spec.joined PartWord.Library name.now self.old) }
+    {
+        let twice = self.owners.add(alloc, name)?;
+        self.slots = Names::new(alloc);
+        self.exports = Names::new(alloc);
+        Ok(twice)
+    }
+
+    /// Adds the name of a part to its space, and says whether it was there.
+    pub fn add(&mut self, alloc: Global, part: PartWord, name: &str) -> Result<bool, AllocError>
+        ensures twice { IfOk result
+            (λ b. b ≡ among name.now (spec.space_of part self.old)) }
+        ensures added { OnOk result
+            (self.new ≡ spec.joined part name.now self.old) }
+    {
+        match part {
+            PartWord::Firmware | PartWord::Ram => Ok(false),
+            PartWord::Device => self.devices.add(alloc, name),
+            PartWord::Shared => self.shared.add(alloc, name),
+            PartWord::Sealed => self.sealed.add(alloc, name),
+            PartWord::Compartment => self.add_compartment(alloc, name),
+            PartWord::Import | PartWord::Quota | PartWord::Key | PartWord::Limport => {
+                self.slots.add(alloc, name)
+            }
+            PartWord::Export | PartWord::Lexport => self.exports.add(alloc, name),
+            PartWord::Library => self.add_library(alloc, name),
+            PartWord::Thread => self.owners.add(alloc, name),
+        }
+    }
+}

@@ -1,0 +1,19 @@
+//! A description's value: its members by their kinds, its places in the order in which they are
+//! judged, and the three faults that tables of members decide (F2, F3 and F6 of
+//! docs/use/description.md, definitions in def_desc). Rows, names and references are read in
+//! ct_desc.
+#![tactic(auto)]
+
+mod digits;
+mod kinds;
+mod limits;
+mod listed;
+pub mod members;
+pub mod tables;
+mod walk;
+
+pub use digits::{bytes_of, word_of};
+pub use kinds::has_kinds;
+pub use limits::keeps_limits;
+pub use listed::has_only;
+pub use walk::{Spot, spots_of};

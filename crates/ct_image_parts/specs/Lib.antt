@@ -1,0 +1,4 @@
+pub mod Converted
+pub mod Written
+pub mod Back
+pub mod Places

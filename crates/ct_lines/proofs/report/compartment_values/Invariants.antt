@@ -1,7 +1,0 @@
-use Rattle.std.proofs.Common.{◌≡◌, map, take}
-use Rattle.serde_json.specs.View.{view}
-use Rattle.def_lines.specs.Report.{compartment_data}
-use Rattle.ct_lines.proofs.report.compartment_values.Given as goal
-
-abbrev pub invariant-loop-compartment : goal.invariant-loop-compartment
-invariant-loop-compartment l = map view l.values.items ≡ map compartment_data (take l.compartment-index l.compartments)

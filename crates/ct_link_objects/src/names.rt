@@ -1,0 +1,101 @@
+//! The names of an owner's slots, in slot order.
+
+ghost use Rattle.std.specs.Prelude.{◌≡◌, IfOk, OnOk, map};
+ghost use Rattle.def_desc.specs.Names as name;
+ghost use Rattle.def_desc.specs.Named.{slot_names, library_slot_names};
+ghost use Rattle.def_desc.specs.Rows.{ImportRow, QuotaRow, LimportRow};
+ghost use Rattle.def_desc.specs.Lawful.{AreNames};
+ghost use Rattle.ct_link_objects.specs.Slots.{with_slot, with_slots};
+
+use ct_asm::Names;
+use ct_desc_rows::{Compartment, Import, Library, LibraryImport, Quota, key_name};
+use std::alloc::{AllocError, Global};
+
+fn add(names: &mut Names, alloc: Global, name: &str) -> Result<(), AllocError>
+    ensures { OnOk result (names.new ≡ with_slot names.old name.now) }
+{
+    names.add(alloc, name)?;
+    Ok(())
+}
+
+fn add_imports(names: &mut Names, alloc: Global, imports: &[Import]) -> Result<(), AllocError>
+    ensures { OnOk result
+        (names.new ≡ with_slots names.old (map (λ (x : ImportRow). x.alias) imports.now)) }
+{
+    for import in imports {
+        add(names, alloc, import.alias.as_str())?;
+    }
+    Ok(())
+}
+
+fn add_quotas(names: &mut Names, alloc: Global, quotas: &[Quota]) -> Result<(), AllocError>
+    ensures { OnOk result
+        (names.new ≡ with_slots names.old (map (λ (q : QuotaRow). q.name) quotas.now)) }
+{
+    for quota in quotas {
+        add(names, alloc, quota.name.as_str())?;
+    }
+    Ok(())
+}
+
+fn add_keys(names: &mut Names, alloc: Global, keys: &[u64]) -> Result<(), AllocError>
+    ensures { OnOk result
+        (names.new ≡ with_slots names.old (map name.key_name keys.now)) }
+{
+    for key in keys {
+        let name = key_name(alloc, *key)?;
+        add(names, alloc, name.as_str())?;
+    }
+    Ok(())
+}
+
+/// Adds the names of a compartment's slots: `switch`, the imports, the quotas, the keys.
+fn add_slots(names: &mut Names, alloc: Global, compartment: &Compartment) -> Result<(), AllocError>
+    ensures { OnOk result (names.new ≡ with_slots names.old (slot_names compartment.now)) }
+{
+    add(names, alloc, "switch")?;
+    add_imports(names, alloc, compartment.imports.as_slice())?;
+    add_quotas(names, alloc, compartment.quotas.as_slice())?;
+    add_keys(names, alloc, compartment.keys.as_slice())?;
+    Ok(())
+}
+
+/// The names of a compartment's slots.
+pub(crate) fn names_of(alloc: Global, compartment: &Compartment) -> Result<Names, AllocError>
+    requires { AreNames (slot_names compartment.now) }
+    ensures { IfOk result (λ names. names ≡ slot_names compartment.now) }
+{
+    let mut names = Names::new(alloc);
+    match add_slots(&mut names, alloc, compartment) {
+        Ok(()) => Ok(names),
+        Err(error) => {
+            drop(names);
+            Err(error)
+        }
+    }
+}
+
+fn add_library_imports(
+    names: &mut Names,
+    alloc: Global,
+    imports: &[LibraryImport],
+) -> Result<(), AllocError>
+    ensures { OnOk result
+        (names.new ≡ with_slots names.old (map (λ (x : LimportRow). x.alias) imports.now)) }
+{
+    for import in imports {
+        add(names, alloc, import.alias.as_str())?;
+    }
+    Ok(())
+}
+
+/// The names of a library's slots: its imports.
+#[tactic(auto, using(crate::proofs::Slots::once_taken))]
+pub(crate) fn library_names_of(alloc: Global, library: &Library) -> Result<Names, AllocError>
+    requires { AreNames (library_slot_names library.now) }
+    ensures { IfOk result (λ names. names ≡ library_slot_names library.now) }
+{
+    let mut names = Names::new(alloc);
+    add_library_imports(&mut names, alloc, library.imports.as_slice())?;
+    Ok(names)
+}

@@ -1,0 +1,54 @@
+-- Rounds that tell nothing: slices of a sweep that has no work, each with a quiet step after it.
+use Rattle.std.specs.Prelude.{ℕ, zero, suc, ◌+◌, ◌≡◌, ◌<◌, ◌&&◌, ◌||◌, Bool, true, not, is_some, List, [], ◌∷◌, All, None}
+use Rattle.def_machine.specs.Objects.{has_quarantined}
+use Rattle.def_machine.specs.Platform.{MachineRow}
+use Rattle.def_machine.specs.State.{State, Counts}
+use Rattle.def_step.specs.declared.Event.{Event}
+use Rattle.def_step.specs.declared.Event.TheVariants.{Step, Sweep}
+use Rattle.def_step.specs.Events.{run, happens, happenings_of, end_of}
+use Rattle.ct_machine.specs.Going.{silence, one_more_sweep, steps_quietly}
+
+-- a sweep runs, or is to begin
+abbrev pub has_sweep : State → Bool
+has_sweep s = is_some s.front || has_quarantined s.objects
+
+-- no sweep has work, and the next step is quiet
+abbrev pub goes_on_quietly : MachineRow → Bool
+goes_on_quietly m = not (has_sweep m.state) && steps_quietly m
+
+-- so many rounds: a slice of a sweep and a step each
+abbrev pub rounds : ℕ → List Event
+rounds zero = []
+rounds (suc n) = Sweep ∷ Step ∷ rounds n
+
+-- the machine after so many of them
+abbrev pub after_rounds : MachineRow → ℕ → MachineRow
+after_rounds m n = record { board = m.board; state = run m.board m.state (rounds n) }
+
+-- whatever was counted
+abbrev pub with_counts : State → Counts → State
+with_counts s c = record s { counts = c }
+
+-- Board and counts are as they were, and so is whether a sweep has work.
+pub record StaysAside (m n : MachineRow) : Type 0 where
+  pub board : n.board ≡ m.board
+  pub counts : n.state.counts ≡ m.state.counts
+  pub sweep : has_sweep n.state ≡ has_sweep m.state
+
+-- One quiet round of machine m, which had come to no end, left machine n: where the sweep had no work it only counted.
+pub record WentRound (m n : MachineRow) : Type 0 where
+  pub is : (n.state, silence) ≡ happens m.board (one_more_sweep m.state) Step
+  pub board : n.board ≡ m.board
+  pub steps : n.state.counts.steps ≡ m.state.counts.steps + 1
+  pub sweeps : n.state.counts.sweeps ≡ m.state.counts.sweeps + 1
+  pub sweep : has_sweep n.state ≡ has_sweep m.state
+  pub going : end_of m.state ≡ None
+
+-- So many rounds of machine m left machine n. They told nothing; each was quiet, and began where the machine had come
+-- to no end.
+pub record WentRounds (m n : MachineRow) (count : ℕ) : Type 0 where
+  pub board : n.board ≡ m.board
+  pub state : n.state ≡ run m.board m.state (rounds count)
+  pub silent : All (λ h. h ≡ silence) (happenings_of m.board m.state (rounds count))
+  pub each : (k : ℕ) → k < count → goes_on_quietly (after_rounds m k) ≡ true
+  pub going : (k : ℕ) → k < count → end_of (after_rounds m k).state ≡ None

@@ -1,0 +1,106 @@
+//! Steps that tell nothing: one, and many with slices of a sweep that has no work.
+
+ghost use Rattle.std.specs.Prelude.{◌≡◌, ◌+◌, ◌≤◌, ◌<◌, IsTrue, None, true, false};
+ghost use Rattle.def_profile.specs.declared.limits.TheConstants.{MOST_STEPS};
+ghost use Rattle.def_events.specs.Guarded.{Guarded};
+ghost use Rattle.def_machine.specs.State.{Counts};
+ghost use Rattle.def_step.specs.Events.{end_of, happens, is_lawful, one_more_step};
+ghost use Rattle.def_step.specs.declared.Event.TheVariants as event;
+ghost use Rattle.ct_machine.specs.Going.{silence, steps_quietly};
+ghost use Rattle.ct_machine.specs.Quiet.{goes_on_quietly, has_sweep, with_counts, StaysAside, WentRound, WentRounds};
+
+use crate::parts::Parts;
+use ct_execute::execute_quietly;
+use ct_mem::Memory;
+
+impl<M: Memory + Drop> Parts<M> {
+    /// A step that isn't counted yet, exactly where no tick is pending, a thread runs, and `execute_quietly` carries
+    /// its instruction out: `true`, and the step tells nothing, whatever was counted. Else `false`, and nothing changes.
+    #[inline(always)]
+    fn go_quietly(&mut self) -> bool
+        requires { Guarded self.old }
+        ensures when { result ≡ steps_quietly self.old }
+        ensures is { result ≡ true → (c : Counts)
+            → (one_more_step (with_counts self.new.state c), silence)
+            ≡ happens self.old.board (with_counts self.old.state c) event.Step }
+        ensures same { result ≡ false → self.new.state ≡ self.old.state }
+        ensures aside { StaysAside self.old self.new }
+        ensures going { result ≡ true → end_of self.old.state ≡ None }
+    {
+        if self.pending {
+            return false;
+        }
+        match self.engine.running() {
+            Some(t) => execute_quietly(&mut self.engine, t, &mut self.decoded),
+            None => false,
+        }
+    }
+
+    /// A step exactly where no tick is pending, a thread runs, and `execute_quietly` carries its instruction out:
+    /// `true`, and the step tells nothing. Else `false`, and nothing changes.
+    #[inline(always)]
+    pub(crate) fn step_quietly(&mut self) -> bool
+        requires guarded { Guarded self.old }
+        requires lawful { IsTrue (is_lawful self.old.state event.Step) }
+        ensures when { result ≡ steps_quietly self.old }
+        ensures is { result ≡ true
+            → (self.new.state, silence) ≡ happens self.old.board self.old.state event.Step }
+        ensures same { result ≡ false → self.new.state ≡ self.old.state }
+        ensures board { self.new.board ≡ self.old.board }
+    {
+        if !self.go_quietly() {
+            return false;
+        }
+        self.count_step();
+        true
+    }
+
+    /// Whether a sweep runs, or is to begin.
+    #[inline(always)]
+    fn has_sweep(&self) -> bool
+        ensures { result ≡ has_sweep self.now.state }
+    {
+        self.engine.has_sweep()
+    }
+
+    /// A slice of a sweep that has no work, and a step, exactly where that is quiet: `true`. Else `false`, and nothing
+    /// changes.
+    #[inline(always)]
+    fn round_quietly(&mut self) -> bool
+        requires guarded { Guarded self.old }
+        requires steps { self.old.state.counts.steps < MOST_STEPS }
+        requires sweeps { self.old.state.counts.sweeps < MOST_STEPS }
+        ensures when { result ≡ steps_quietly self.old }
+        ensures went { result ≡ true → WentRound self.old self.new }
+        ensures same { result ≡ false → self.new.state ≡ self.old.state }
+        ensures board { self.new.board ≡ self.old.board }
+    {
+        if !self.go_quietly() {
+            return false;
+        }
+        self.count_sweep();
+        self.count_step();
+        true
+    }
+
+    /// Such rounds as long as no sweep has work and the step is quiet, at most `most`: how many.
+    pub(crate) fn run_quietly(&mut self, most: u32) -> u32
+        requires guarded { Guarded self.old }
+        requires steps { self.old.state.counts.steps + most ≤ MOST_STEPS }
+        requires sweeps { self.old.state.counts.sweeps + most ≤ MOST_STEPS }
+        ensures most { result ≤ most }
+        ensures went { WentRounds self.old self.new result }
+        ensures stops { result < most → goes_on_quietly self.new ≡ false }
+        ensures guarded { Guarded self.new }
+    {
+        if self.has_sweep() {
+            return 0;
+        }
+        for made in 0..most {
+            if !self.round_quietly() {
+                return made;
+            }
+        }
+        most
+    }
+}

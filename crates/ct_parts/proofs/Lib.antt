@@ -1,5 +1,0 @@
-pub mod OnOks
-pub mod Told
-pub mod NameTexts
-pub mod Rows
-pub mod Backs

@@ -1,3 +1,0 @@
-pub mod Converted
-pub mod Written
-pub mod Back

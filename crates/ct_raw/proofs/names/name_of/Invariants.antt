@@ -1,6 +1,0 @@
-use Rattle.std.proofs.Common.{◌≡◌}
-use Rattle.ct_raw.proofs.Unbroken.{Unbroken}
-use Rattle.ct_raw.proofs.names.name_of.Given as goal
-
-abbrev pub invariant-loop-index : goal.invariant-loop-index
-invariant-loop-index l = Unbroken l.index l.field

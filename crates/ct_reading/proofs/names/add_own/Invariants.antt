@@ -1,9 +1,0 @@
-use Rattle.std.proofs.Common.{◌≡◌, ◌++◌, map, drop}
-use Rattle.def_description.specs.Rows.{CompartmentRow}
-use Rattle.def_program.specs.Turns.{files_in}
-use Rattle.ct_reading.specs.Whole.{texts}
-use Rattle.ct_reading.proofs.names.add_own.Given as goal
-
-abbrev pub invariant-loop-row : goal.invariant-loop-row
-invariant-loop-row l =
-    texts l.names.items ++ files_in (map (λ (x : CompartmentRow). x.code) (drop l.row-index l.rows)) ≡ texts l.fn.names.items ++ files_in (map (λ (x : CompartmentRow). x.code) l.rows)

@@ -1,4 +1,0 @@
-pub mod Texts
-pub mod Endings
-pub mod Due
-pub mod Answered

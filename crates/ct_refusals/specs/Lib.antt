@@ -1,4 +1,0 @@
-pub mod Closing
-pub mod Settled
-pub mod Stopped
-pub mod Ended

@@ -1,4 +1,0 @@
-pub mod Spanned
-pub mod Asked
-pub mod Adding
-pub mod Firsts

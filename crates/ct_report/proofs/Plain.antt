@@ -1,0 +1,84 @@
+-- The report has no number with a point, so its text is its compact text.
+use Rattle.std.proofs.Common.{◌≡◌, ℕ, ◌+◌, List, [], ◌∷◌, Bool, true, false, ◌||◌, refl, map, length}
+use Rattle.ct_entry.specs.declared.rows.Entry.{Entry}
+use Rattle.ct_entry.specs.declared.rows.Kind.{Kind}
+use Rattle.ct_entry.specs.declared.rows.Kind.TheVariants.{Code, Globals, Stack, Device, Shared, Sealed, Call, Library, Service, Quota, Key, Export}
+use Rattle.ct_entry.specs.declared.rows.Owner.{Owner}
+use Rattle.ct_entry.specs.declared.rows.Owner.TheVariants as owner
+use Rattle.ct_entry.specs.Listed.{DeviceRow, Listed}
+use Rattle.serde_json.specs.View.{items_of}
+use Rattle.serde_json.specs.Written.{has_float, items_have_float}
+use Rattle.def_image.specs.Parts.{CodeRow, CompartmentRow, ThreadRow, PartsRow}
+use Rattle.def_report.specs.Edges.{edges}
+use Rattle.def_report.specs.Labels.{Label, labels_of}
+use Rattle.def_report.specs.Lines.{Line, data_of, export_line_data, line_data, numbered}
+use Rattle.def_report.specs.Report.{compartment_data, device_data, edge_data, library_data, thread_data, data_over}
+
+or_false : (a b : Bool) → a ≡ false → b ≡ false → (a || b) ≡ false
+or_false true b here there = here
+or_false false b here there = there
+
+export_plain : (o : Owner) (l : Line) → has_float (export_line_data o l) ≡ false
+export_plain owner.Trusted l = refl
+export_plain (owner.Compartment n) l = refl
+export_plain (owner.Library n) l = refl
+export_plain (owner.Thread n) l = refl
+
+data_plain : (k : Kind) (l : Line) → has_float (data_of k l) ≡ false
+data_plain Code l = refl
+data_plain Globals l = refl
+data_plain Stack l = refl
+data_plain Device l = refl
+data_plain Shared l = refl
+data_plain Sealed l = refl
+data_plain Call l = refl
+data_plain Library l = refl
+data_plain Service l = refl
+data_plain Quota l = refl
+data_plain Key l = refl
+data_plain Export l = export_plain l.entry.owner l
+
+numbered_plain : (n : ℕ) (rs : List Entry) (ls : List Label) → items_have_float (items_of (numbered n rs ls)) ≡ false
+numbered_plain n [] ls = refl
+numbered_plain n (r ∷ rs) [] = refl
+numbered_plain n (r ∷ rs) (l ∷ ls) =
+    let line : Line = record { number = n; entry = r; label = l } in
+    or_false (has_float (line_data line)) (items_have_float (items_of (numbered (n + 1) rs ls))) (data_plain r.kind line) (numbered_plain (n + 1) rs ls)
+
+compartments_plain : (cs : List CompartmentRow) → items_have_float (items_of (map compartment_data cs)) ≡ false
+compartments_plain [] = refl
+compartments_plain (c ∷ cs) = compartments_plain cs
+
+libraries_plain : (cs : List CodeRow) → items_have_float (items_of (map library_data cs)) ≡ false
+libraries_plain [] = refl
+libraries_plain (c ∷ cs) = libraries_plain cs
+
+devices_plain : (xs : List DeviceRow) → items_have_float (items_of (map device_data xs)) ≡ false
+devices_plain [] = refl
+devices_plain (x ∷ xs) = devices_plain xs
+
+edges_plain : (xs : List (ℕ × ℕ)) → items_have_float (items_of (map edge_data xs)) ≡ false
+edges_plain [] = refl
+edges_plain (x ∷ xs) = edges_plain xs
+
+threads_plain : (p : PartsRow) (ts : List ThreadRow) → items_have_float (items_of (map (thread_data p) ts)) ≡ false
+threads_plain p [] = refl
+threads_plain p (t ∷ ts) = threads_plain p ts
+
+six_false : (a b c d e f : Bool) → a ≡ false → b ≡ false → c ≡ false → d ≡ false → e ≡ false → f ≡ false → (a || (b || (c || (d || (e || (f || false)))))) ≡ false
+six_false a b c d e f ha hb hc hd he hf =
+    or_false a (b || (c || (d || (e || (f || false))))) ha
+    (or_false b (c || (d || (e || (f || false)))) hb
+    (or_false c (d || (e || (f || false))) hc (or_false d (e || (f || false)) hd (or_false e (f || false) he (or_false f false hf refl)))))
+
+pub report_plain : (p : PartsRow) (e : Listed) → has_float (data_over p e) ≡ false
+unfolding data_over
+report_plain p e = six_false
+    (items_have_float (items_of (map compartment_data p.compartments)))
+    (items_have_float (items_of (map device_data p.devices)))
+    (items_have_float (items_of (map edge_data (edges e (length p.compartments)))))
+    (items_have_float (items_of (numbered 1 e.rows (labels_of p))))
+    (items_have_float (items_of (map library_data p.libraries)))
+    (items_have_float (items_of (map (thread_data p) p.threads)))
+    (compartments_plain p.compartments) (devices_plain p.devices) (edges_plain (edges e (length p.compartments)))
+    (numbered_plain 1 e.rows (labels_of p)) (libraries_plain p.libraries) (threads_plain p p.threads)

@@ -1,8 +1,0 @@
-use Rattle.std.proofs.Common.{◌≡◌, map, take}
-use Rattle.serde_json.specs.View.{view}
-use Rattle.def_description.specs.Members.{text_of}
-use Rattle.def_description.specs.Reading.{hexadecimal_word}
-use Rattle.ct_rows.proofs.reading.words_of.Given as goal
-
-abbrev pub invariant-loop-value : goal.invariant-loop-value
-invariant-loop-value l = l.all.items ≡ map (λ w. hexadecimal_word (text_of w)) (map view (take l.value-index l.values))

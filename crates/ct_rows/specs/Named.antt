@@ -1,7 +1,0 @@
--- What contracts see of what an import names.
-use Rattle.def_description.specs.Rows.{Target as TargetRow}
-use Rattle.def_description.specs.References.{target}
-use Rattle.ct_rows.specs.declared.targets.Target.{Target}
-
-abbrev pub named : Target → TargetRow
-named t = target t.form t.name.now

@@ -1,0 +1,7 @@
+pub mod Bursts
+pub mod Pieces
+pub mod Coming
+pub mod Inputs
+pub mod Ticking
+pub mod Going
+pub mod Passing

@@ -1,0 +1,31 @@
+use Rattle.std.proofs.Common.{arith}
+use Rattle.ct_run.proofs.rounds.pass_quietly.Goals as goal
+
+pub run_quietly-requires-clause-steps : goal.run_quietly-requires-clause-steps
+run_quietly-requires-clause-steps g c =
+    let bare = c.bare_steps.ensures.most in
+    let few = c.rounds_left.ensures.few in
+    let same = c.requires.steps in
+    let limit = c.requires.limit in
+    omega (arith, bare, few, same, limit)
+
+pub run_quietly-requires-clause-sweeps : goal.run_quietly-requires-clause-sweeps
+run_quietly-requires-clause-sweeps g c =
+    let bare = c.bare_steps.ensures.most in
+    let few = c.rounds_left.ensures.few in
+    let same = c.requires.sweeps in
+    let limit = c.requires.limit in
+    omega (arith, bare, few, same, limit)
+
+pub returns : goal.returns
+returns g c =
+    let most = c.run_quietly.ensures.most in
+    let bare = c.bare_steps.ensures.most in
+    let few = c.rounds_left.ensures.few in
+    let early = c.rounds_left.ensures.early in
+    record {
+      went = c.run_quietly.ensures.went;
+      few = omega (arith, most, bare, few);
+      early = omega (arith, most, bare, early);
+      bare = λ k lt. c.bare_steps.ensures.none k (omega (arith, lt, most));
+    }

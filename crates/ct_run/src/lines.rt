@@ -1,0 +1,77 @@
+//! The lines of an event, and the summary, each by one write.
+
+ghost use Rattle.std.specs.Prelude.{◌≡◌, unwrap_or};
+ghost use Rattle.ct_entry.specs.declared.acts.End.TheVariants.{Limit};
+ghost use Rattle.def_port.specs.Writes.{WriteAnswers};
+ghost use Rattle.def_step.specs.Events.{end_of};
+ghost use Rattle.def_trace.specs.Trace.{trace_line};
+ghost use Rattle.def_program.specs.Runs.{last_line};
+
+use ct_entry::{End, Happened};
+use ct_machine::Machine;
+use ct_mem::Memory;
+use ct_port::{Sink, WriteFailed};
+use ct_trace::{Line, line, summary};
+
+/// Writes a line that isn't empty.
+#[tactic(auto, using(ct_port::proofs::Pieces::wrote_nothing))]
+fn write_line<S: Sink>(line: &Line, sink: &mut S) -> Result<(), WriteFailed>
+    ensures { WriteAnswers (S.shows sink.old) (S.shows sink.new) line.now.bytes result }
+{
+    if line.is_empty() {
+        return Ok(());
+    }
+    sink.write(line.as_str().as_bytes())
+}
+
+/// Writes the lines of something that happened.
+#[inline(never)]
+fn write_all<S: Sink>(happened: &Happened, number: u32, sink: &mut S) -> Result<(), WriteFailed>
+    ensures { WriteAnswers (S.shows sink.old) (S.shows sink.new)
+        (trace_line number happened.now) result }
+{
+    write_line(&line(happened, number), sink)
+}
+
+/// Writes the lines of what happened with the step of this number. Where nothing happened no line is
+/// made.
+#[tactic(auto, unfolding(def_trace::specs::Trace::trace_line), using(ct_port::proofs::Pieces::wrote_nothing))]
+pub(crate) fn write_happened<S: Sink>(
+    happened: &Happened,
+    number: u32,
+    sink: &mut S,
+) -> Result<(), WriteFailed>
+    ensures { WriteAnswers (S.shows sink.old) (S.shows sink.new)
+        (trace_line number happened.now) result }
+{
+    match happened.deed {
+        Some(_) => write_all(happened, number, sink),
+        None => match happened.off {
+            Some(_) => write_all(happened, number, sink),
+            None => Ok(()),
+        },
+    }
+}
+
+/// How a run ends here.
+fn end_here<M: Memory + Drop>(machine: &Machine<M>) -> End
+    ensures { result ≡ unwrap_or (end_of machine.now.state) Limit }
+{
+    match machine.ended() {
+        Some(end) => end,
+        None => End::Limit,
+    }
+}
+
+/// Writes the summary.
+pub(crate) fn write_last<M: Memory + Drop, S: Sink>(
+    machine: &Machine<M>,
+    sink: &mut S,
+) -> Result<(), WriteFailed>
+    ensures { WriteAnswers (S.shows sink.old) (S.shows sink.new)
+        (last_line machine.now.state) result }
+{
+    let totals = machine.totals(end_here(machine));
+    let line = summary(&totals);
+    sink.write(line.as_str().as_bytes())
+}

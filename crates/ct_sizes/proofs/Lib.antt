@@ -1,3 +1,0 @@
-pub mod Sized
-pub mod Walked
-pub mod Ones

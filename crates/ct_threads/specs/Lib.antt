@@ -1,0 +1,5 @@
+pub mod Kept
+pub mod Rows
+pub mod Handling
+pub mod Steps
+pub mod Starts

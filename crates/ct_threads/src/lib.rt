@@ -1,0 +1,22 @@
+//! One thread over raw memory: its row and its area, and what stands in RAM at an address.
+//!
+//! A row that is kept (specs/Kept) has its area in RAM, where nothing but what was saved isn't a plain word. Contracts
+//! say what a start, a stop, a pick, a call, a frame's end and an error handler's begin make of the row, of the thread
+//! of the machine's state and of memory, of which nothing is hidden. docs/use/machine.md tells the layout in prose.
+#![tactic(auto)]
+
+mod accesses;
+mod calls;
+mod fetching;
+mod handling;
+mod registers;
+mod starting;
+mod turns;
+
+pub use accesses::access;
+pub use calls::{call_row, end_row, return_row};
+pub use fetching::{next, word_at};
+pub use handling::{handle_row, value_of};
+pub use registers::{branch_row, filter_row, jump_row, may_fetch, put_row, read, read_ref};
+pub use starting::begin;
+pub use turns::{pick_row, stop_row};

@@ -1,4 +1,0 @@
-pub mod Accesses
-pub mod Lines
-pub mod Named
-pub mod Runs

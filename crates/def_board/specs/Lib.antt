@@ -1,2 +1,0 @@
-pub mod Wired
-pub mod Inside

@@ -1,3 +1,0 @@
-pub mod Comes
-pub mod Results
-pub mod Calling

@@ -1,0 +1,14 @@
+pub mod Rows
+pub mod Members
+pub mod Tables
+pub mod Walk
+pub mod Kinds
+pub mod Names
+pub mod Limits
+pub mod References
+pub mod Reading
+pub mod Addresses
+pub mod WellFormed
+pub mod Named
+pub mod Lawful
+pub mod Described

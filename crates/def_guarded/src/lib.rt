@@ -1,3 +1,0 @@
-//! All that a machine's type keeps, as one record. Definitions alone, in specs/; docs/claims/confinement.md tells the
-//! same in prose.
-#![tactic(auto)]

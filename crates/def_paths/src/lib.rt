@@ -1,2 +1,0 @@
-//! Whether a path leads from an owner to a compartment. Definitions alone, in specs/.
-#![tactic(auto)]

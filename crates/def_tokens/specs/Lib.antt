@@ -1,3 +1,0 @@
-pub mod Everywhere
-pub mod Tokened
-pub mod Opening

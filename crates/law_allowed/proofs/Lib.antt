@@ -1,6 +1,0 @@
-pub mod Once
-pub mod Named
-pub mod Imports
-pub mod Accesses
-pub mod Runs
-pub mod Lines

@@ -1,5 +1,0 @@
-use Rattle.law_allowed.proofs.Lines.{held_over_runs, kept_over_runs}
-use Rattle.law_allowed.proofs.policies_hold_over_runs.Goals as goal
-
-pub returns : goal.returns
-returns c = record { lines = kept_over_runs; device = held_over_runs }

@@ -1,6 +1,0 @@
-mod Grants
-mod Starting
-mod Deriving
-mod Entries
-mod Tags
-mod Fixing

@@ -1,5 +1,0 @@
-use Rattle.law_boot_places.proofs.Tags.{counter_tags, granule_tags, register_tags}
-use Rattle.law_boot_places.proofs.tags_stand.Goals as goal
-
-pub returns : goal.returns
-returns c = record { granules = granule_tags; registers = register_tags; counters = counter_tags }

@@ -1,4 +1,0 @@
-pub mod Contents
-pub mod Rooting
-pub mod Loading
-pub mod Whole

@@ -1,4 +1,0 @@
-pub mod Givens
-pub mod Pushes
-pub mod Pops
-pub mod Cleans

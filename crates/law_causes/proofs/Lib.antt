@@ -1,5 +1,0 @@
-mod Allocations
-mod Services
-mod Tokens
-mod Statuses
-mod Waking

@@ -1,5 +1,0 @@
-use Rattle.law_commands.proofs.Lawful.{until_lawful, booted_lawful}
-use Rattle.law_commands.proofs.runs_are_lawful.Goals as goal
-
-pub returns : goal.returns
-returns c = record { uncounted = until_lawful; booted = booted_lawful }

@@ -1,3 +1,0 @@
-pub mod Appended
-pub mod Counted
-pub mod Devices

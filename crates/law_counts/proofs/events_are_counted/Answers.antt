@@ -1,5 +1,0 @@
-use Rattle.law_counts.proofs.Counted.{event_kinds, run_kinds}
-use Rattle.law_counts.proofs.events_are_counted.Goals as goal
-
-pub returns : goal.returns
-returns c = record { one = event_kinds; all = run_kinds }

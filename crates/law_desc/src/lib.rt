@@ -1,0 +1,9 @@
+//! Laws of descriptions: what is due on samples, and that what a lawful description says is well formed.
+//! Functions with empty bodies whose contracts are the laws.
+#![tactic(auto)]
+
+mod answers;
+mod samples;
+mod wellformed;
+
+pub use wellformed::well_formed_is_lawful;

@@ -1,5 +1,0 @@
-//! Laws of descriptions over their definitions alone.
-#![tactic(auto)]
-
-mod answers;
-mod samples;

@@ -1,0 +1,5 @@
+use Rattle.law_events.proofs.BlankEvents.{event_blank}
+use Rattle.law_events.proofs.blank.events_blank.Goals as goal
+
+pub returns : goal.returns
+returns c = event_blank

@@ -1,0 +1,87 @@
+//! Laws of native routines, as they are written: *Clean calls* of the switch and of returns, *Fresh objects* of an
+//! allocation, and that the routines of switcher and heap keep a state confined, with all that stands beside.
+
+ghost use Rattle.std.specs.Prelude.{◌≡◌, ℕ, List, ◌∷◌, Some, None, false};
+ghost use Rattle.ct_entry.specs.declared.acts.Act.TheVariants.{Call, Allocate};
+ghost use Rattle.def_confined.specs.Keeps.{Keeps};
+ghost use Rattle.def_confined.specs.Partitioned.{Partitioned};
+ghost use Rattle.def_hidden.specs.Hidden.{Blank};
+ghost use Rattle.def_machine.specs.Frames.{ended_with, returned, unwound};
+ghost use Rattle.def_machine.specs.Image.{Image, root};
+ghost use Rattle.def_machine.specs.State.{State, Frame, thread};
+ghost use Rattle.def_step.specs.Quotas.{allocate, free, remaining};
+ghost use Rattle.def_step.specs.Routines.{Leaves, switch, sleep, yield, wait, wake};
+ghost use Rattle.def_step.specs.Tokens.{token_key, token_new, token_open, token_free};
+ghost use Rattle.def_confined.specs.Facts.{Facts, RootsAway};
+ghost use Rattle.def_safety.specs.Clean.{CleanEntry, CleanReturn};
+ghost use Rattle.def_safety.specs.Fresh.{HandsOut, AsMade, AsKey, AsToken};
+ghost use Rattle.def_events.specs.Stands.{RoutineKeeps};
+
+/// What each routine comes to stands: a trap is one that may be told; what it leaves is confined, with all
+/// that stands beside; and what it did, a call, an allocation or a free, is licensed as a deed of its caller's.
+pub fn routines_stand()
+    ensures switch { (i : Image) (s : State) (t : ℕ)
+        → Partitioned i → Facts i → Keeps i s → s.running ≡ Some t → RoutineKeeps i s t (switch i s t) }
+    ensures back { (i : Image) (s : State) (t : ℕ)
+        → Partitioned i → Keeps i s → s.running ≡ Some t
+        → RoutineKeeps i s t (Leaves (returned i s t (thread s t).frames) None) }
+    ensures rests { (i : Image) (s : State) (t : ℕ)
+        → Partitioned i → Keeps i s → s.running ≡ Some t
+        → RoutineKeeps i s t (yield s t) × RoutineKeeps i s t (sleep s t) }
+    ensures waits { (i : Image) (s : State) (t : ℕ)
+        → Partitioned i → Keeps i s → s.running ≡ Some t → RoutineKeeps i s t (wait i s t) }
+    ensures wakes { (i : Image) (s : State) (t : ℕ)
+        → Partitioned i → Keeps i s → s.running ≡ Some t → RoutineKeeps i s t (wake i s t) }
+    ensures allocate { (i : Image) (s : State) (t : ℕ)
+        → Partitioned i → Facts i → Keeps i s → s.running ≡ Some t → RoutineKeeps i s t (allocate i s t) }
+    ensures free { (i : Image) (s : State) (t : ℕ)
+        → Partitioned i → Facts i → Keeps i s → s.running ≡ Some t → RoutineKeeps i s t (free i s t) }
+    ensures remaining { (i : Image) (s : State) (t : ℕ)
+        → Partitioned i → Facts i → Keeps i s → s.running ≡ Some t → RoutineKeeps i s t (remaining i s t) }
+    ensures seals { (i : Image) (s : State) (t : ℕ)
+        → Partitioned i → Facts i → Keeps i s → s.running ≡ Some t
+        → RoutineKeeps i s t (token_key i s t) × RoutineKeeps i s t (token_new i s t) }
+    ensures opens { (i : Image) (s : State) (t : ℕ)
+        → Partitioned i → Keeps i s → s.running ≡ Some t → RoutineKeeps i s t (token_open s t) }
+    ensures token_free { (i : Image) (s : State) (t : ℕ)
+        → Partitioned i → Facts i → Keeps i s → s.running ≡ Some t → RoutineKeeps i s t (token_free i s t) }
+{}
+
+/// A call through an export that passes plain values enters its callee clean.
+pub fn entries_clean()
+    ensures { (i : Image) (s after : State) (t entry export : ℕ)
+        → Partitioned i → Facts i → Keeps i s → s.running ≡ Some t
+        → switch i s t ≡ Leaves after (Some (entry, Call export)) → (root i export).passes ≡ false
+        → CleanEntry i s t export after }
+{}
+
+/// A return of a frame whose export passes plain values, and the end of any frame with a value or by an unwind, lead to
+/// its caller clean.
+pub fn returns_clean()
+    ensures back { (i : Image) (s : State) (t : ℕ) (f g : Frame) (gs : List Frame)
+        → (thread s t).frames ≡ f ∷ g ∷ gs → (root i f.export).passes ≡ false
+        → CleanReturn i s t f (returned i s t (f ∷ g ∷ gs)) }
+    ensures value { (i : Image) (s : State) (t value : ℕ) (f g : Frame) (gs : List Frame)
+        → (thread s t).frames ≡ f ∷ g ∷ gs
+        → CleanReturn i s t f (ended_with i s t value (f ∷ g ∷ gs)) }
+    ensures unwind { (i : Image) (s : State) (t : ℕ) (f g : Frame) (gs : List Frame)
+        → (thread s t).frames ≡ f ∷ g ∷ gs
+        → CleanReturn i s t f (unwound i s t (f ∷ g ∷ gs)) }
+{}
+
+/// An allocation that tells its deed hands out a fresh object, at the least lawful place: as it is, as a key
+/// or as a token.
+pub fn objects_fresh()
+    ensures objects { (i : Image) (s after : State) (t entry number base long live : ℕ)
+        → Partitioned i → RootsAway i → Keeps i s → Blank i s
+        → allocate i s t ≡ Leaves after (Some (entry, Allocate number base long live))
+        → HandsOut i s number base long (AsMade s t after) }
+    ensures keys { (i : Image) (s after : State) (t entry number base long live : ℕ)
+        → Partitioned i → RootsAway i → Keeps i s → Blank i s
+        → token_key i s t ≡ Leaves after (Some (entry, Allocate number base long live))
+        → HandsOut i s number base long (AsKey s t after) }
+    ensures tokens { (i : Image) (s after : State) (t entry number base long live : ℕ)
+        → Partitioned i → RootsAway i → Keeps i s → Blank i s
+        → token_new i s t ≡ Leaves after (Some (entry, Allocate number base long live))
+        → HandsOut i s number base long (AsToken s t after) }
+{}

@@ -1,0 +1,4 @@
+pub mod Small
+pub mod Starting
+pub mod Loosely
+pub mod Apart

@@ -1,4 +1,0 @@
-pub mod Written
-pub mod Entered
-pub mod Begins
-pub mod Whole

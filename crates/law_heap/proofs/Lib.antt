@@ -1,4 +1,0 @@
-pub mod Quarantines
-pub mod Allocates
-pub mod Frees
-pub mod Holding

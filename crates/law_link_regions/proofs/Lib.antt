@@ -1,5 +1,0 @@
-pub mod Texts
-pub mod Builts
-pub mod Orders
-pub mod Placings
-pub mod Lying

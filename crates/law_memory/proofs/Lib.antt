@@ -1,4 +1,0 @@
-pub mod Authorities
-pub mod Stores
-pub mod Loading
-pub mod Filtering

@@ -1,5 +1,0 @@
-use Rattle.law_needed.proofs.Leaving.{before_loosely, after_not_loosely}
-use Rattle.law_needed.proofs.joined_frames_needed.Goals as goal
-
-pub returns : goal.returns
-returns c = record { before = before_loosely; after = after_not_loosely }

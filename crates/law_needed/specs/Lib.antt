@@ -1,2 +1,0 @@
-pub mod Loosely
-pub mod Apart

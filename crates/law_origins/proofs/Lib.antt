@@ -1,5 +1,0 @@
-pub mod Values
-pub mod Changes
-pub mod Numbered
-pub mod Routines
-pub mod Events

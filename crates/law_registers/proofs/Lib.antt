@@ -1,4 +1,0 @@
-pub mod Derives
-pub mod Filters
-pub mod Keying
-pub mod Moves

@@ -1,0 +1,16 @@
+use Rattle.std.proofs.Common.{refl}
+use Rattle.std.specs.Fmt.{digits}
+use Rattle.serde_json.proofs.OnLiterals.{serde_json_on_literals}
+use Rattle.def_boot.specs.Entries.{entry_rows}
+use Rattle.def_boot.specs.Gates.{gates_of, entries_of}
+use Rattle.def_reach.specs.Roots.{gate_for, root_of}
+use Rattle.def_words.specs.Permissions.{bit, set_where, unpacked}
+use Rattle.def_report.specs.Edges.{are_joined, edges}
+use Rattle.def_report.specs.Labels.{labels_of, service_name}
+use Rattle.def_report.specs.Rights.{rights_text}
+use Rattle.def_report.specs.Report.{data_over, report_data, report_line}
+use Rattle.law_report.proofs.tiny_reported.Goals as goal
+
+pub returns : goal.returns
+unfolding serde_json_on_literals digits entry_rows gates_of entries_of gate_for root_of bit set_where unpacked are_joined edges labels_of service_name rights_text data_over report_data report_line
+returns c = refl

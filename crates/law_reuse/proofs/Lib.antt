@@ -1,5 +1,0 @@
-pub mod Same
-pub mod Sweeping
-pub mod Waiting
-pub mod Gone
-pub mod Charging

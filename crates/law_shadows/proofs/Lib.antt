@@ -1,2 +1,0 @@
-mod Strips
-mod Alikes

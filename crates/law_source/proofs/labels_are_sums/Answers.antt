@@ -1,8 +1,0 @@
-use Rattle.law_source.proofs.Labelled.{label_placed, no_label}
-use Rattle.law_source.proofs.labels_are_sums.Goals as goal
-
-pub returns-clause-some : goal.returns-clause-some
-returns-clause-some c = label_placed
-
-pub returns-clause-none : goal.returns-clause-none
-returns-clause-none c = no_label

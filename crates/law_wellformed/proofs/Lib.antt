@@ -1,9 +1,0 @@
-pub mod Lists
-pub mod Walked
-pub mod Members
-pub mod Spaces
-pub mod Addressed
-pub mod Referring
-pub mod Naming
-pub mod Parts
-pub mod Lawfuls
