@@ -19,7 +19,7 @@ SURFACE = {
     "ct_capstep": "capstep",
     "def_source": "AsmFault Statement Part",
     "ct_source": "Program CompactStatement CompactPart CompactTarget CompactNumber statements",
-    "ct_asm": "Object Names undeclared assemble Object::find",
+    "ct_asm": "Object Names undeclared assemble Object::of_text Object::find",
     "ct_entry": "Owner Comp Kind Entry Mode Gate Entries Act Deed Owned Happened End Totals DeviceKind Device "
                 "Devices",
     "ct_mem": "Memory Memory::size Memory::load Memory::store Memory::load_cap Memory::store_cap Memory::zero "
@@ -47,7 +47,7 @@ SURFACE = {
                "Heap::quarantined Heap::paint Heap::flush Heap::find",
     "ct_token": "Tokens Tokens::new Tokens::add_key Tokens::add_token Tokens::drop_row Tokens::is_key Tokens::opens opened",
     "ct_revoke": "Front sweep_all Front::idle Front::running Front::at Front::begin Front::slice Front::finished Front::end",
-    "ct_switch": "Thread Area Called Thread::new save resume call return_to_caller unwind end_with",
+    "ct_switch": "Thread Area First Fresh Called Thread::new save resume call return_to_caller unwind end_with",
     "ct_handler": "Start record_at write_record fresh answer",
     "ct_sched": "Sched Status Sched::new Sched::pick Sched::tick Sched::sleep Sched::wait Sched::wake Sched::end "
                 "Sched::status",

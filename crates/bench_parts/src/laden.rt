@@ -26,9 +26,19 @@ impl Model for Laden {
 
     ghost Value = { LadenRow };
 
-    ghost view = { λ l. record { heap = l.heap; granules = l.mem; quotas = l.quotas; made = l.made } };
+    ghost view = { λ l. record {
+      heap = l.heap;
+      granules = l.mem;
+      quotas = l.quotas;
+      made = l.made;
+    } };
 
-    ghost invariant = { λ l. IsLaden (record { heap = l.heap; granules = l.mem; quotas = l.quotas; made = l.made }) };
+    ghost invariant = { λ l. IsLaden (record {
+      heap = l.heap;
+      granules = l.mem;
+      quotas = l.quotas;
+      made = l.made;
+    }) };
 }
 
 impl Laden {

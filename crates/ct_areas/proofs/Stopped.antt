@@ -34,7 +34,7 @@ get_rest : (cs : List Cap) (i : ℕ) (z : Cap) → get_or (drop 1 cs) i z ≡ ge
 get_rest [] i z = refl
 get_rest (c ∷ cs) i z = let next : i + 1 ≡ suc i = omega arith in rw next refl
 
-rest_length : (cs : List Cap) → length cs ≡ 16 → length (drop 1 cs) ≡ 15
+pub rest_length : (cs : List Cap) → length cs ≡ 16 → length (drop 1 cs) ≡ 15
 rest_length [] h = absurd (omega (arith, h))
 rest_length (c ∷ cs) h = omega (arith, h)
 

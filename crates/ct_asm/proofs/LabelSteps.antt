@@ -1,5 +1,7 @@
 -- The table of labels, one statement further along a source.
-use Rattle.std.proofs.Common.{◌≡◌, ℕ, ◌+◌, List, [], ◌∷◌, ◌++◌, Option, Some, None, is_some, Bool, true, false, cond, refl, sym, ap, ◌∙◌}
+use Rattle.std.proofs.Common.{◌≡◌, ℕ, ◌+◌, List, [], ◌∷◌, ◌++◌, Option, Some, None, is_some, is_none, Bool, true, false, cond, refl, sym, ap, ◌∙◌, subst}
+use Rattle.std.proofs.lemmas.Bool.Decides.{Decides-eqb}
+use mathlib.Core.Path.{fun_ext}
 use Rattle.std.specs.Str.{bytes_eq}
 use Rattle.std.proofs.lemmas.Slice.Eq.{bytes_eq-Decides}
 use Rattle.def_source.specs.declared.parts.Statement.{Statement}
@@ -8,8 +10,8 @@ use Rattle.def_source.specs.declared.parts.Part.TheVariants as part
 use Rattle.def_source.specs.Source.{Name, Statements, or_else}
 use Rattle.def_object.specs.declared.Label.{Label}
 use Rattle.def_object.specs.declared.Place.{Place}
-use Rattle.def_object.specs.Object.{advanced, offset, label_from, is_label}
-use Rattle.ct_asm.specs.Labels.{label_named, noted}
+use Rattle.def_object.specs.Object.{Labels, advanced, offset, label_from, is_label, second_fault, start}
+use Rattle.ct_asm.specs.Labels.{label_named, noted, is_new, IsFirst, AreFirst}
 
 -- a row at the end is found where no row before it has the name
 named_last : (q n : Name) (l : Label) (rows : List (Name × Label)) → label_named q (rows ++ (n, l) ∷ []) ≡ or_else (label_named q rows) (cond (bytes_eq q n) (Some l) None)
@@ -53,3 +55,39 @@ label_further q rows rows' p p' k x xs all whole cut grown next so_far =
     ∙ ap (λ o. or_else (label_named q (noted rows p k x.part)) (label_from q o (k + 1) xs)) next
     ∙ one_statement q rows p k x.part (label_from q (advanced p x.part) (k + 1) xs)
     ∙ sym (ap (λ ss. or_else (label_named q rows) (label_from q p k ss)) cut) ∙ so_far
+
+-- a label whose name isn't there yet is the first of its name
+first_here : (rows : List (Name × Label)) (p : Place) (k : ℕ) (x : Statement Name) (xs all : Statements) (labels : Name → Option Label) → all ≡ x ∷ xs → is_new rows x.part ≡ true
+    → ((q : Name) → or_else (label_named q rows) (label_from q p k all) ≡ labels q) → IsFirst labels k x.part
+first_here rows p k x xs all labels cut new whole = by x.part refl new
+  where
+    absent : (o : Option Label) → is_none o ≡ true → o ≡ None
+    absent None e = refl
+    absent (Some z) e = absurd (let no : false ≡ true = e in cc)
+
+    by : (y : Part Name) → x.part ≡ y → is_new rows y ≡ true → IsFirst labels k y
+    by (part.Label a) is none =
+        let label : Label = record { section = p.section; offset = offset p; index = k } in
+        let later = label_from a (advanced p x.part) (k + 1) xs in
+        let here : labels a ≡ Some label =
+        sym (whole a) ∙ ap (λ o. or_else o (label_from a p k all)) (absent (label_named a rows) none) ∙ ap (label_from a p k) cut
+        ∙ ap (λ y. cond (is_label a y) (Some label) later) is ∙ ap (λ b. cond b (Some label) later) ((bytes_eq-Decides a a).1 refl) in
+        ap (second_fault k) here ∙ ap (λ b. cond b None (Some 5)) ((Decides-eqb k k).1 refl)
+    by y is none = tt
+
+-- where all labels from a statement on are the first of their names, so are those from the next one on
+pub first_further : (rows : List (Name × Label)) (p : Place) (k : ℕ) (x : Statement Name) (xs all whole : Statements) (labels : Name → Option Label) → all ≡ x ∷ xs → is_new rows x.part ≡ true
+    → ((q : Name) → or_else (label_named q rows) (label_from q p k all) ≡ labels q) → (AreFirst labels k all → AreFirst labels 0 whole) → AreFirst labels (k + 1) xs → AreFirst labels 0 whole
+first_further rows p k x xs all whole labels cut new found so later = so (subst (AreFirst labels k) (sym cut) (first_here rows p k x xs all labels cut new found, later))
+
+-- at the end, all labels of the table are the first of their names
+pub first_whole : (rows : List (Name × Label)) (p : Place) (k : ℕ) (rest all : Statements) → rest ≡ [] → ((q : Name) → or_else (label_named q rows) (label_from q p k rest) ≡ label_from q start 0 all)
+    → (AreFirst (λ q. label_from q start 0 all) k rest → AreFirst (λ q. label_from q start 0 all) 0 all) → AreFirst (λ q. label_named q rows) 0 all
+first_whole rows p k rest all ended whole first =
+    let same : (q : Name) → label_named q rows ≡ label_from q start 0 all =
+    λ q. sym (alone (label_named q rows)) ∙ ap (λ ss. or_else (label_named q rows) (label_from q p k ss)) (sym ended) ∙ whole q in
+    subst (λ (l : Labels). AreFirst l 0 all) (sym (fun_ext same)) (first (subst (AreFirst (λ q. label_from q start 0 all) k) (sym ended) tt))
+  where
+    alone : (o : Option Label) → or_else o None ≡ o
+    alone None = refl
+    alone (Some l) = refl

@@ -1,5 +1,5 @@
 -- One statement further along a source.
-use Rattle.std.proofs.Common.{◌≡◌, ℕ, ◌+◌, ◌*◌, ◌<◌, List, ◌∷◌, ◌++◌, length, drop, get_or, Option, Some, None, Bool, true, false, ◌&&◌, cond, nat_le, refl, sym, ap, ◌∙◌, drop-cons, add-one, arith, append_assoc}
+use Rattle.std.proofs.Common.{◌≡◌, ℕ, ◌+◌, ◌<◌, List, ◌∷◌, ◌++◌, length, drop, get_or, Option, Some, None, Bool, true, false, ◌&&◌, cond, refl, sym, ap, ◌∙◌, drop-cons, add-one, arith, append_assoc}
 use Rattle.std.proofs.lemmas.Bool.{and_parts}
 use Rattle.def_source.specs.declared.parts.Statement.{Statement}
 use Rattle.def_source.specs.declared.parts.Part.{Part}
@@ -88,7 +88,7 @@ bytes_step wanted labels slots front front' p p' x xs all whole cut grown next s
     ∙ append_assoc front (section_bytes wanted labels slots p x.part) (bytes_from wanted labels slots (advanced p x.part) xs)
     ∙ sym (ap (λ ss. front ++ bytes_from wanted labels slots p ss) cut) ∙ so_far
 
-neither : (a b : Option Fault) → lesser a b ≡ None → (a ≡ None) × (b ≡ None)
+pub neither : (a b : Option Fault) → lesser a b ≡ None → (a ≡ None) × (b ≡ None)
 neither None b e = (refl, e)
 neither (Some a) None e = cc e
 neither (Some a) (Some b) e = by_test (is_least a b) e
@@ -97,11 +97,11 @@ neither (Some a) (Some b) e = by_test (is_least a b) e
     by_test true e = cc e
     by_test false e = cc e
 
-no_number : (line : ℕ) (o : Option ℕ) → on_line line o ≡ None → o ≡ None
+pub no_number : (line : ℕ) (o : Option ℕ) → on_line line o ≡ None → o ≡ None
 no_number line None e = refl
 no_number line (Some n) e = cc e
 
-either_none : (a b : Option ℕ) → or_else a b ≡ None → (a ≡ None) × (b ≡ None)
+pub either_none : (a b : Option ℕ) → or_else a b ≡ None → (a ≡ None) × (b ≡ None)
 either_none None b e = (refl, e)
 either_none (Some a) b e = cc e
 

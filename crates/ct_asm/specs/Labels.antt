@@ -1,10 +1,10 @@
 -- The labels that a table holds, and the first of a name.
-use Rattle.std.specs.Prelude.{◌≡◌, ◌≤◌, ℕ, List, [], ◌∷◌, Option, Some, None, is_some, ◌++◌, if◌then◌else◌}
+use Rattle.std.specs.Prelude.{◌≡◌, ◌≤◌, ◌+◌, ℕ, List, [], ◌∷◌, Option, Some, None, Bool, true, is_some, is_none, ◌++◌, if◌then◌else◌}
 use Rattle.std.specs.Str.{bytes_eq}
 use Rattle.def_source.specs.Source.{Name, Statements}
 use Rattle.def_object.specs.declared.Label.{Label}
 use Rattle.def_object.specs.declared.Place.{Place}
-use Rattle.def_object.specs.Object.{offset, limit, fault_in, label_in, text_of, initial_of}
+use Rattle.def_object.specs.Object.{Labels, offset, limit, second_fault, fault_in, label_in, text_of, initial_of}
 use Rattle.def_source.specs.declared.AsmFault.{AsmFault}
 use Rattle.def_source.specs.declared.AsmFault.TheVariants.{At, NoMemory}
 use Rattle.def_source.specs.declared.parts.Part.{Part}
@@ -14,12 +14,30 @@ abbrev pub label_named : Name → List (Name × Label) → Option Label
 label_named name [] = None
 label_named name (row ∷ rows) = if bytes_eq name row.0 then Some row.1 else label_named name rows
 
--- the rows after a statement at a place, which is number k: a label goes last, unless its name is there
+-- the rows with a label, which goes last, unless its name is there
+abbrev pub with_label : List (Name × Label) → Name → Label → List (Name × Label)
+with_label rows name label = if is_some (label_named name rows) then rows else rows ++ (name, label) ∷ []
+
+-- the rows after a statement at a place, which is number k
 abbrev pub noted : List (Name × Label) → Place → ℕ → Part Name → List (Name × Label)
 noted rows p k (part.Label name) =
-    if is_some (label_named name rows) then rows
-    else rows ++ (name, record { section = p.section; offset = offset p; index = k }) ∷ []
+    with_label rows name (record { section = p.section; offset = offset p; index = k })
 noted rows p k _ = rows
+
+-- whether a statement is no label whose name is there
+abbrev pub is_new : List (Name × Label) → Part Name → Bool
+is_new rows (part.Label name) = is_none (label_named name rows)
+is_new rows _ = true
+
+-- a statement, number k, that is no label but the first of its name
+abbrev pub IsFirst : Labels → ℕ → Part Name → Type 0
+IsFirst labels k (part.Label name) = second_fault k (labels name) ≡ None
+IsFirst labels k _ = Unit {0}
+
+-- statements, of which the first is number k
+abbrev pub AreFirst : Labels → ℕ → Statements → Type 0
+AreFirst labels k [] = Unit {0}
+AreFirst labels k (s ∷ ss) = IsFirst labels k s.part × AreFirst labels (k + 1) ss
 
 -- an object: its bytes, and the labels that it keeps
 pub record Assembled : Type 0 where

@@ -5,7 +5,7 @@ ghost use Rattle.def_source.specs.Source as source;
 ghost use Rattle.def_object.specs.Object as object;
 ghost use Rattle.ct_source.specs.Views.{target_view, statements_view};
 ghost use Rattle.ct_source.specs.Compact.{compact_part};
-ghost use Rattle.ct_asm.specs.Labels.{label_named};
+ghost use Rattle.ct_asm.specs.Labels.{label_named, IsFirst, AreFirst};
 
 use crate::labels::Labels;
 use crate::places::{START, advanced, offset, size_at};
@@ -91,13 +91,26 @@ fn second_fault(k: u64, label: Option<Label>) -> Option<u32>
     }
 }
 
-/// What a statement refers to, or what it defines again.
-fn reference_fault(labels: &Labels, k: u64, at: u128, part: CompactPart<'_>) -> Option<u32>
+/// What a statement refers to, or what it defines again; no name that stands once is looked up.
+fn reference_fault(
+    labels: &Labels,
+    distinct: bool,
+    k: u64,
+    at: u128,
+    part: CompactPart<'_>,
+) -> Option<u32>
+    requires { distinct ≡ true → IsFirst (λ n. label_named n labels.now) k (compact_part part) }
     ensures { result
         ≡ object.reference_fault (λ n. label_named n labels.now) k at (compact_part part.entry) }
 {
     match part {
-        CompactPart::Label { name } => second_fault(k, labels.get(name)),
+        CompactPart::Label { name } => {
+            if distinct {
+                None
+            } else {
+                second_fault(k, labels.get(name))
+            }
+        }
         CompactPart::Branch { target, .. }
         | CompactPart::IfZero { target, .. }
         | CompactPart::IfNotZero { target, .. } => {
@@ -128,14 +141,22 @@ fn size_fault(at: u128, part: CompactPart<'_>) -> Option<u32>
 }
 
 /// The least number of what a statement breaks.
-fn statement_fault(labels: &Labels, place: Place, k: u64, part: CompactPart<'_>) -> Option<u32>
+fn statement_fault(
+    labels: &Labels,
+    distinct: bool,
+    place: Place,
+    k: u64,
+    part: CompactPart<'_>,
+) -> Option<u32>
+    requires first { distinct ≡ true
+        → IsFirst (λ n. label_named n labels.now) k (compact_part part) }
     requires fit { source.numbers_fit (compact_part part) ≡ true }
     requires text { place.text < 2 ^ 100 }
     requires initial { place.initial < 2 ^ 100 }
     ensures { result
         ≡ object.statement_fault (λ n. label_named n labels.now) place k (compact_part part.entry) }
 {
-    match reference_fault(labels, k, offset(place), part) {
+    match reference_fault(labels, distinct, k, offset(place), part) {
         Some(number) => Some(number),
         None => size_fault(offset(place), part),
     }
@@ -168,10 +189,16 @@ fn on_line(line: u32, number: Option<u32>) -> Option<Fault>
     }
 }
 
-/// The least fault of all statements.
+/// The least fault of all statements; `distinct` says that no label stands twice.
 #[tactic(auto, using(crate::proofs::Walks::next_fits))]
-pub(crate) fn least_fault(labels: &Labels, statements: &[CompactStatement<'_>]) -> Option<Fault>
-    requires { source.IsLawful (statements_view statements.now) }
+pub(crate) fn least_fault(
+    labels: &Labels,
+    distinct: bool,
+    statements: &[CompactStatement<'_>],
+) -> Option<Fault>
+    requires lawful { source.IsLawful (statements_view statements.now) }
+    requires first { distinct ≡ true
+        → AreFirst (λ n. label_named n labels.now) 0 (statements_view statements.now) }
     ensures { result
         ≡ object.fault_from (λ n. label_named n labels.now) object.start 0
         (statements_view statements.now) }
@@ -179,7 +206,10 @@ pub(crate) fn least_fault(labels: &Labels, statements: &[CompactStatement<'_>]) 
     let mut place = START;
     let mut least = None;
     for (k, s) in statements.iter().enumerate() {
-        let fault = on_line(s.line, statement_fault(labels, place, k as u64, s.part));
+        let fault = on_line(
+            s.line,
+            statement_fault(labels, distinct, place, k as u64, s.part),
+        );
         least = lesser(least, fault);
         place = advanced(place, s.part);
     }

@@ -1,7 +1,7 @@
 //! A table of labels, each by the first place of its name.
 
-ghost use Rattle.std.specs.Prelude.{◌≡◌, ◌++◌, ◌∷◌, [], OnOk, IfNone, None};
-ghost use Rattle.ct_asm.specs.Labels.{label_named};
+ghost use Rattle.std.specs.Prelude.{◌≡◌, [], OnOk, IfOk, is_none};
+ghost use Rattle.ct_asm.specs.Labels.{label_named, with_label};
 
 use def_object::Label;
 use indexmap::IndexMap;
@@ -41,13 +41,19 @@ impl Labels {
         self.table.get(name).copied()
     }
 
-    /// Adds a label whose name isn't there.
-    pub fn add(&mut self, alloc: Global, name: &[u8], label: Label) -> Result<(), AllocError>
-        requires { label_named name.now self.old ≡ None }
-        ensures { OnOk result (self.new ≡ self.old ++ (name.now, label) ∷ []) }
+    /// Adds a label, unless its name is there, and says whether it was added.
+    pub fn add(&mut self, alloc: Global, name: &[u8], label: Label) -> Result<bool, AllocError>
+        ensures added { OnOk result (self.new ≡ with_label self.old name.now label) }
+        ensures new { IfOk result (λ new. new ≡ is_none (label_named name.now self.old)) }
     {
         let key = Vec::from_slice(alloc, name)?;
-        self.table.insert(key, label)?;
-        Ok(())
+        match self.table.insert(key, label)? {
+            None => Ok(true),
+            Some(first) => {
+                let key = Vec::from_slice(alloc, name)?;
+                self.table.insert(key, first)?;
+                Ok(false)
+            }
+        }
     }
 }

@@ -1,6 +1,6 @@
 //! The object of statements.
 
-ghost use Rattle.std.specs.Prelude.{◌≡◌, ◌<◌, ◌^◌, IfOk, IfErr};
+ghost use Rattle.std.specs.Prelude.{◌≡◌, ◌<◌, ◌^◌, [], IfOk, IfErr};
 ghost use Rattle.def_source.specs.Source.{IsLawful};
 ghost use Rattle.ct_source.specs.Views.{statements_view};
 ghost use Rattle.def_object.specs.Object.{text_offset};
@@ -36,6 +36,17 @@ impl Model for Object {
 }
 
 impl Object {
+    /// The object of a text alone, with no initial bytes and no labels.
+    pub fn of_text(alloc: Global, text: Vec<u8>) -> Object
+        ensures { result ≡ record { text = text.items; init = []; labels = [] } }
+    {
+        Object {
+            text,
+            init: Vec::new(alloc),
+            labels: Labels::new(alloc),
+        }
+    }
+
     /// The offset of a label of the text; None exactly where the text has none of that name.
     pub fn find(&self, label: &str) -> Option<u32>
         ensures { result ≡ text_offset (label_named label.now self.now.labels) }
@@ -62,10 +73,11 @@ pub(crate) fn assembled(
     ensures ok { IfOk result (λ o. IsAssembled (statements_view statements.now) slots.now o) }
     ensures err { IfErr result (λ e. RefusesStatements e (statements_view statements.now)) }
 {
-    let Ok(labels) = labels_of(alloc, statements) else {
+    let Ok(found) = labels_of(alloc, statements) else {
         return Err(AsmFault::NoMemory);
     };
-    if let Some(fault) = least_fault(&labels, statements) {
+    let labels = found.labels;
+    if let Some(fault) = least_fault(&labels, found.distinct, statements) {
         return Err(AsmFault::At {
             number: fault.number,
             line: fault.line,

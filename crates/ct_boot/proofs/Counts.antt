@@ -1,6 +1,6 @@
 -- The numbers of an image's entries are sums over the members before.
 use Rattle.std.proofs.Common.{ℕ, zero, suc, ◌≡◌, ◌+◌, ◌<◌, ◌≤◌, List, [], ◌∷◌, length, take, Some, slice_get, All, refl, arith}
-use Rattle.std.specs.Prelude.{slice_index_or}
+use Rattle.law_lists.proofs.Places.{all_there}
 use Rattle.def_profile.specs.declared.limits.TheConstants.{MOST_COMPARTMENT_ENTRIES, MOST_LIBRARY_ENTRIES}
 use Rattle.def_image.specs.Parts.{CodeRow, CompartmentRow, ThreadRow, PartsRow}
 use Rattle.def_image.specs.Members.{number_in, compartment_entries, library_entries, first_stack, stack_number}
@@ -8,14 +8,6 @@ use Rattle.def_image.specs.Sizes.{sum_of}
 use Rattle.def_image.specs.Sound.{Sound}
 
 -- ---- lists
-
-pub there : {A : Type 0} (xs : List A) (k : ℕ) (d : A) → k < length xs → slice_get xs k ≡ Some (slice_index_or xs k d)
-there [] k d lt = absurd (omega (arith, lt))
-there (x ∷ xs) zero d lt = refl
-there (x ∷ xs) (suc k) d lt = there xs k d (omega (arith, lt))
-
-pub all_there : {A : Type 0} (P : A → Type 0) (xs : List A) → ((i : ℕ) (x : A) → slice_get xs i ≡ Some x → P x) → All P xs
-all_there P xs one = λ k d lt. one k (slice_index_or xs k d) (there xs k d lt)
 
 pub taken : {A : Type 0} (xs : List A) (n i : ℕ) (x : A) → slice_get (take n xs) i ≡ Some x → slice_get xs i ≡ Some x
 taken xs zero i x is = cc

@@ -3,7 +3,7 @@ use Rattle.std.proofs.Common.{ℕ, zero, suc, true, cond, ◌≡◌, ◌+◌, �
 use Rattle.std.specs.Prelude.{slice_index_or}
 use Rattle.std.proofs.Math.ListN.{set}
 use Rattle.std.proofs.lemmas.Option.{slice_get-map}
-use Rattle.std.proofs.lemmas.List.{length-map}
+use Rattle.std.proofs.lemmas.List.{length-map, take_all}
 use Rattle.ct_entry.specs.declared.rows.Owner.TheVariants.{Compartment}
 use Rattle.def_words.specs.declared.Cap.{Cap}
 use Rattle.def_words.specs.declared.Posture.{Posture}
@@ -16,11 +16,11 @@ use Rattle.def_boot.specs.Boot.{boot_state, first_thread, first_threads, first_p
 use Rattle.def_boot.specs.Contents.{boot_granules}
 use Rattle.def_boot.specs.Entries.{code_row}
 use Rattle.def_boot.specs.Made.{entry_cap_as, boot_cap_of}
-use Rattle.law_boot.proofs.Putting.{compartment_is}
 use Rattle.ct_areas.specs.declared.thread.First.{First}
 use Rattle.ct_boot.specs.declared.start.Kept.{Kept}
 use Rattle.ct_boot.specs.Starts.{start_of, starts_of, first_start}
 use Rattle.ct_boot.proofs.Made.{code_made_is}
+use Rattle.law_image.proofs.Sounds.{compartment_is}
 
 starts_in : (p : PartsRow) (n : ℕ) (xs : List ThreadRow) (t : ℕ) (x : ThreadRow) → slice_get xs t ≡ Some x → slice_get (map start_of (first_threads p n xs)) t ≡ Some (start_of (first_thread p (n + t) x))
 starts_in p n [] t x is = cc
@@ -65,14 +65,8 @@ fill_next f rows zs i z e is lt =
     let up : i + 1 ≡ suc i = omega arith in
     subst (λ m. map f (take m (set rows i z)) ≡ take m zs) (sym up) (fill_suc f rows zs i z e is lt)
 
-take_all : {A : Type 0} (zs : List A) (n : ℕ) → length zs ≤ n → take n zs ≡ zs
-take_all [] zero le = refl
-take_all [] (suc n) le = refl
-take_all (z ∷ zs) zero le = absurd (omega (arith, le))
-take_all (z ∷ zs) (suc n) le = ap (λ v. z ∷ v) (take_all zs n (omega (arith, le)))
-
 pub fill_done : (p : PartsRow) (xs : List First) (n : ℕ) → xs ≡ take n (starts_of p) → length p.threads ≤ n → xs ≡ starts_of p
-fill_done p xs n e le = e ∙ take_all (starts_of p) n (let count = start_count p in omega (arith, count, le))
+fill_done p xs n e le = e ∙ take_all n (starts_of p) (let count = start_count p in omega (arith, count, le))
 
 taken_at : {A : Type 0} (xs : List A) (n i : ℕ) (d : A) → i < length (take n xs) → slice_get (take n xs) i ≡ Some (slice_index_or xs i d)
 taken_at xs zero i d lt = absurd (omega (arith, lt))

@@ -8,7 +8,7 @@ use Rattle.def_image.specs.Regions.{table_size, table_length}
 use Rattle.def_image.specs.Sound.{Sound, CodeFits}
 use Rattle.def_boot.specs.Fits.{Lies}
 use Rattle.law_boot.proofs.Lying.{own_there, library_there, stack_there}
-use Rattle.law_boot.proofs.Making.{length_above}
+use Rattle.law_layout.proofs.Placing.{size_fits}
 
 ends : (p : PartsRow) → Sound p → (base size : ℕ) → Lies p base size → base + size ≤ RAM_END
 ends p s base size lies =
@@ -29,7 +29,7 @@ library_end p s l c is = code_end c (s.library l c is).code (ends p s c.base c.l
 pub table_end : (p : PartsRow) → Sound p → (b : ℕ) (c : CompartmentRow) → slice_get p.compartments b ≡ Some c → c.table + 16 + 16 * length c.code.exports ≤ RAM_END
 table_end p s b c is =
     let end = ends p s c.table (table_length c) (own_there p s b c is).table in
-    let long = length_above (table_size c.code) in
+    let long = size_fits (table_size c.code) in
     omega (arith, end, long)
 
 pub gate_end : (p : PartsRow) → Sound p → (b j : ℕ) (c : CompartmentRow) (x : GateRow) → slice_get p.compartments b ≡ Some c → slice_get c.code.exports j ≡ Some x → gate_address c j < RAM_END

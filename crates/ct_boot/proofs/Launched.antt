@@ -1,6 +1,7 @@
 -- The engine that starts over booted memory, with its heap.
 use Rattle.std.proofs.Common.{ℕ, ◌≡◌, ◌+◌, ◌-◌, ◌*◌, ◌≤◌, ◌<◌, inl, inr, true, cond, nat_le, nat_lt, List, [], ◌∷◌, length, Some, slice_index_or, refl, sym, ap, ◌∙◌, subst, arith}
 use Rattle.law_lists.proofs.Tests.{both_left, both_right, eq_tells}
+use Rattle.law_lists.proofs.Places.{present}
 use Rattle.std.proofs.lemmas.Bool.{leb-true, ltb-true}
 use Rattle.def_memory.specs.declared.Granule.{Granule}
 use Rattle.def_memory.specs.Granules.{plain, cap_in}
@@ -13,7 +14,6 @@ use Rattle.def_image.specs.Sound.{Sound}
 use Rattle.def_boot.specs.Boot.{boot_state, first_thread, image_of}
 use Rattle.def_boot.specs.Contents.{boot_cap, content_at, granules_in, region_at}
 use Rattle.def_boot.specs.Made.{return_sentry}
-use Rattle.law_boot.proofs.Blocks.{present}
 use Rattle.law_boot.proofs.Found.{found, none_there}
 use Rattle.law_boot.proofs.Contents.{booted_in}
 use Rattle.law_started.proofs.Granules.{same_granule, granules_end}
@@ -26,8 +26,9 @@ use Rattle.ct_engine.specs.Starts.{AreFresh, MayHold, MayStart, started}
 use Rattle.ct_heap.specs.Effects.{Empty, accounts_for, empty}
 use Rattle.ct_boot.specs.Launching.{areas_begin, areas_end, fresh_of, heap_range, launched}
 use Rattle.ct_boot.specs.Placed.{ArePlaced, AreFirst}
-use Rattle.ct_boot.proofs.Standing.{stacks_lie, laid, threads_are, areas_are_of, areas_count, threads_count, area_is, thread_is}
+use Rattle.ct_boot.proofs.Standing.{stacks_lie, laid, threads_are, areas_are_of, areas_count, area_is}
 use Rattle.ct_boot.proofs.Placing.{stack_lies, ends_are, begins_are, ram_is, first_region, ends_in, ends_in_ram, begin_low, begin_even, are_placed}
+use Rattle.law_started.proofs.Starting.{rows_start, threads_count}
 
 module _ (p : PartsRow) (s : Sound p) where
   -- ---- the region reads as zero
@@ -133,7 +134,7 @@ module _ (p : PartsRow) (limits : List ℕ) where
   thread_there t lt =
       let found = present p.threads t lt in (
         found.0,
-        thread_is p 0 p.threads t found.0 found.1,
+        rows_start p 0 p.threads t found.0 found.1,
         ap (λ (a : Area). a.stack + a.stack_length) (area_is p (areas_begin p) p.threads t found.0 found.1),
       )
 

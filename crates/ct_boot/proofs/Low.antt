@@ -1,7 +1,7 @@
 -- The set that bits spell goes by the lowest six of them.
-use Rattle.std.proofs.Common.{ℕ, zero, suc, ◌≡◌, ◌+◌, ◌*◌, ◌/◌, ◌%◌, ◌^◌, ◌<◌, ◌≤◌, ◌==◌, ◌&&◌, ◌||◌, Bool, cond, List, [], ◌∷◌, length, refl, ap, ◌∙◌, sym, arith}
+use Rattle.std.proofs.Common.{ℕ, zero, suc, ◌≡◌, ◌+◌, ◌*◌, ◌/◌, ◌%◌, ◌^◌, ◌<◌, ◌≤◌, ◌==◌, ◌&&◌, ◌||◌, Bool, cond, List, [], ◌∷◌, length, refl, ap, ◌∙◌, arith}
 use Rattle.law_lists.proofs.Tests.{chosen}
-use Rattle.def_words.specs.Permissions.{bit, global, among, gathered, set_where, Form, forms, sealing_form, is_spelled_by, first_spelling, is_flagged, is_told, unpacked}
+use Rattle.def_words.specs.Permissions.{bit, global, among, gathered, set_where, Form, forms, is_spelled_by, first_spelling, is_flagged, is_told, unpacked}
 
 -- the bits of the lowest six
 bit_low : (bits k : ℕ) → k < 6 → bit (bits % 64) k ≡ bit bits k

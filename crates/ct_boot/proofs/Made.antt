@@ -18,9 +18,10 @@ use Rattle.def_image.specs.Sound.{Names}
 use Rattle.law_boot.proofs.Standing.{compartment_of, library_of, stack_of}
 use Rattle.def_boot.specs.Booting.{BootPuts}
 use Rattle.def_boot.specs.Booting.{PutsBytes}
-use Rattle.law_boot.proofs.Putting.{compartment_is, library_is, puts_slot, puts_library_slot}
+use Rattle.law_boot.proofs.Putting.{puts_slot, puts_library_slot}
 use Rattle.ct_boot.proofs.Fits.{gate_end}
 use Rattle.ct_boot.specs.Slots.{slot_cap, SlotsPut}
+use Rattle.law_image.proofs.Sounds.{compartment_is, library_is}
 
 pub code_is : (p : PartsRow) (b : ℕ) (c : CompartmentRow) → slice_get p.compartments b ≡ Some c → entry_cap_as executable_root (code_number p b) (code_row (Compartment b) c.code) c.code.base 0 ≡ boot_cap_of p (code_number p b)
 code_is p b c is = sym (compartment_of p b c is).code.made_is

@@ -3,6 +3,7 @@ use Rattle.std.proofs.Common.{ℕ, ◌≡◌, ◌+◌, ◌%◌, ◌≤◌, ◌<�
 use Rattle.std.proofs.lemmas.List.{length-map}
 use Rattle.std.proofs.lemmas.Option.{slice_get_within}
 use Rattle.law_lists.proofs.Tests.{lt_tells}
+use Rattle.law_lists.proofs.Places.{present}
 use Rattle.def_reach.specs.Roots.{Root, root_of}
 use Rattle.def_machine.specs.Image as image
 use Rattle.def_machine.specs.Image.{stack_base, stack_top, trusted_end}
@@ -13,11 +14,9 @@ use Rattle.def_image.specs.Laid.{IsRegion}
 use Rattle.def_image.specs.Sound.{Sound}
 use Rattle.def_boot.specs.Boot.{image_of}
 use Rattle.def_boot.specs.Gates.{entries_of}
-use Rattle.law_boot.proofs.Blocks.{present}
 use Rattle.law_boot.proofs.Standing.{stack_of}
 use Rattle.law_boot.proofs.Lying.{trusted_there}
 use Rattle.law_boot.proofs.Lying as lying
-use Rattle.law_boot.proofs.Making.{length_above}
 use Rattle.law_boot.proofs.Own.{stack_entry_is}
 use Rattle.law_boot.proofs.Sets.{no_way}
 use Rattle.law_boot.proofs.Regions.{stack_there}
@@ -29,6 +28,7 @@ use Rattle.ct_engine.specs.Seen.{region_of}
 use Rattle.ct_boot.specs.Launching.{area_from, areas_of, areas_begin, areas_end}
 use Rattle.ct_boot.specs.Placed.{IsPlaced, ArePlaced}
 use Rattle.ct_boot.proofs.Standing.{begin_in, room_of, area_lies, area_is, areas_count, frames_are, begins}
+use Rattle.law_layout.proofs.Placing.{size_fits}
 
 -- ---- the region
 
@@ -80,7 +80,7 @@ module _ (p : PartsRow) (s : Sound p) where
 
   -- the areas stand in the trusted region
   pub ends_in : areas_end p ≤ p.trusted + trusted_length p
-  ends_in = let long = length_above (trusted_size p.threads) in omega (arith, long)
+  ends_in = let long = size_fits (trusted_size p.threads) in omega (arith, long)
 
   pub ends_in_ram : areas_end p ≤ p.ram + p.size
   ends_in_ram =

@@ -1,14 +1,13 @@
 -- Ranges of RAM that are booted, one granule or one range after another.
 use Rattle.std.proofs.Common.{ℕ, ◌≡◌, ◌+◌, ◌*◌, ◌%◌, ◌<◌, ◌≤◌, ◌⊎◌, inl, inr, List, length, Some, slice_get, sym, ap, ◌∙◌, subst, arith}
 use Rattle.std.specs.Prelude.{slice_index_or}
-use Rattle.std.proofs.lemmas.Option.{slice_get_within}
+use Rattle.std.proofs.lemmas.Option.{slice_get_within, slice_get-get_or}
 use Rattle.def_memory.specs.declared.Granule.{Granule}
 use Rattle.def_image.specs.Parts.{CompartmentRow, PartsRow}
 use Rattle.def_boot.specs.Booting.{Booting, Stage, IsFrom}
 use Rattle.def_boot.specs.Written.{InCode, InTable, InInitial, InCompartment, InSealed, OfFirst, OfAny}
 use Rattle.def_boot.specs.Contents.{boot_granules}
 use Rattle.law_boot.proofs.Stages.{stage_none, stage_then, stage_as, stage_granule, stage_one, whole}
-use Rattle.ct_boot.proofs.Counts.{there}
 
 pub empty_range : (p : PartsRow) (gs : List Granule) (low high : ℕ) → high ≤ low → Booting p gs → Stage p gs gs (IsFrom low high)
 empty_range p gs low high order h = stage_none p gs (IsFrom low high) h (λ x f. let a = f.0 in let b = f.1 in omega (arith, a, b, order))
@@ -45,7 +44,7 @@ granule_at p a b low from h start = subst (λ z. Stage p a b (λ x. x ≡ z)) (s
 
 -- what an index reads is there
 pub got_of : {A : Type 0} (xs ys : List A) (k : ℕ) (x : A) → xs ≡ ys → k < length ys → x ≡ slice_index_or xs k x → slice_get ys k ≡ Some x
-got_of xs ys k x same lt read = there ys k x lt ∙ ap (λ z. Some z) (sym (read ∙ ap (λ zs. slice_index_or zs k x) same))
+got_of xs ys k x same lt read = slice_get-get_or ys k x lt ∙ ap (λ z. Some z) (sym (read ∙ ap (λ zs. slice_index_or zs k x) same))
 
 -- ---- all of RAM
 

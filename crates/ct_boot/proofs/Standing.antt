@@ -7,7 +7,6 @@ use Rattle.def_profile.specs.Areas.{area_length}
 use Rattle.def_profile.specs.declared.limits.TheConstants.{RAM_END}
 use Rattle.def_machine.specs.Image.{areas_size}
 use Rattle.def_machine.specs.Objects.{Each}
-use Rattle.def_machine.specs.State.{nobody}
 use Rattle.def_image.specs.Parts.{ThreadRow, PartsRow}
 use Rattle.def_image.specs.Sizes.{sum_of}
 use Rattle.def_image.specs.Regions.{area_size}
@@ -81,10 +80,6 @@ pub areas_count : (p : PartsRow) (at : ℕ) (xs : List ThreadRow) → length (ar
 areas_count p at [] = refl
 areas_count p at (x ∷ xs) = ap (λ n. suc n) (areas_count p (at + area_size x) xs)
 
-pub threads_count : (p : PartsRow) (n : ℕ) (xs : List ThreadRow) → length (first_threads p n xs) ≡ length xs
-threads_count p n [] = refl
-threads_count p n (x ∷ xs) = ap (λ k. suc k) (threads_count p (n + 1) xs)
-
 -- where area t begins, after those before it
 abbrev pub begin_in : ℕ → List ThreadRow → ℕ → ℕ
 begin_in at xs t = at + areas_size (take t (frames_in xs))
@@ -99,17 +94,6 @@ area_is p at (y ∷ ys) zero x is =
 area_is p at (y ∷ ys) (suc t) x is =
     let begin : begin_in (at + area_size y) ys t ≡ begin_in at (y ∷ ys) (suc t) = omega arith in
     area_is p (at + area_size y) ys t x is ∙ ap (λ n. area_from p n x) begin
-
-pub thread_is : (p : PartsRow) (n : ℕ) (xs : List ThreadRow) (t : ℕ) (x : ThreadRow) → slice_get xs t ≡ Some x
-    → slice_index_or (first_threads p n xs) t nobody ≡ first_thread p (n + t) x
-thread_is p n [] t x is = cc
-thread_is p n (y ∷ ys) zero x is =
-    let same : y ≡ x = cc in
-    let number : n ≡ n + 0 = omega arith in
-    ap (λ z. first_thread p n z) same ∙ ap (λ k. first_thread p k x) number
-thread_is p n (y ∷ ys) (suc t) x is =
-    let number : n + 1 + t ≡ n + suc t = omega arith in
-    thread_is p (n + 1) ys t x is ∙ ap (λ k. first_thread p k x) number
 
 pub frames_are : (xs : List ThreadRow) (t : ℕ) (x : ThreadRow) → slice_get xs t ≡ Some x → slice_index_or (frames_in xs) t 0 ≡ x.frames
 frames_are [] t x is = cc

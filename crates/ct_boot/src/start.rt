@@ -16,7 +16,7 @@ use std::marker::Model;
 /// What is kept of a thread's start. Its c1 is the return sentry, as each thread's, and all but c1,
 /// the stack in c2 and the globals in c3 are zero.
 #[derive(Clone, Copy, Drop)]
-pub struct Kept {
+pub(crate) struct Kept {
     pub(crate) pcc: Cap,
     pub(crate) stack: Cap,
     pub(crate) globals: Cap,

@@ -8,16 +8,7 @@ use Rattle.law_lists.proofs.Tests.{lt_tells}
 use Rattle.def_words.specs.Authority.{one_if_less, corner_of, middle, base_of, top_of, exponent_of, base_field, top_field}
 use Rattle.law_words.proofs.Back.{Units, apart, at_most_one, block_units, exponent_kinds}
 use Rattle.law_words.proofs.Fields.{corner_sum, unit_low, unit_high, wrap_33, base_back, top_back}
-
--- of a word with these fields at an address
-abbrev base_at : ℕ → ℕ → ℕ → ℕ
-base_at e B a = corner_of a e B 0 (one_if_less (middle a e) B) % 2 ^ 32
-
-abbrev top_at : ℕ → ℕ → ℕ → ℕ → ℕ
-top_at e B T a = corner_of a e T (one_if_less T B) (one_if_less (middle a e) B) % 2 ^ 33
-
-abbrev Same : ℕ → ℕ → ℕ → ℕ → ℕ → Type 0
-Same e B T a x = (base_at e B x ≡ base_at e B a) × (top_at e B T x ≡ top_at e B T a)
+use Rattle.law_words.proofs.Lowered.{base_at, top_at, Same, wide_base, wide_top, widest}
 
 from_units : (e B T a x : ℕ) → Units e B T (base_at e B a) (top_at e B T a) → base_at e B a ≤ x → x ≤ top_at e B T a → top_at e B T a ≤ 2 ^ 32 → Same e B T a x
 from_units e B T a x u low high fits =
@@ -89,20 +80,6 @@ usual e B T a x small a_small hb ht low high fits =
           let down : one_if_less (middle a e) B ≡ 0 = rw t.0 refl in
           from_units e B T a x (its_block e B T a (one_if_less T B) 0 small a_small hb ht refl down (omega arith) (omega (arith, t.1)) close) low high fits)
     ]
-
--- the widest bounds are the same at each address
-wide_base : (B a down : ℕ) → B < 512 → down ≤ 1 → corner_of a WIDEST_EXPONENT B 0 down % 2 ^ 32 ≡ B % 256 * 2 ^ 24
-wide_base B a down hb hd = omega (arith, hb, hd)
-
-wide_top : (T a up down : ℕ) → T < 512 → up ≤ 1 → down ≤ 1 → corner_of a WIDEST_EXPONENT T up down % 2 ^ 33 ≡ T * 2 ^ 24
-wide_top T a up down ht hu hd = omega (arith, ht, hu, hd)
-
-widest : (B T a x : ℕ) → B < 512 → T < 512 → Same WIDEST_EXPONENT B T a x
-widest B T a x hb ht = (
-  wide_base B x (one_if_less (middle x 24) B) hb (at_most_one (middle x 24) B) ∙ sym (wide_base B a (one_if_less (middle a 24) B) hb (at_most_one (middle a 24) B)),
-  wide_top T x (one_if_less T B) (one_if_less (middle x 24) B) ht (at_most_one T B) (at_most_one (middle x 24) B)
-      ∙ sym (wide_top T a (one_if_less T B) (one_if_less (middle a 24) B) ht (at_most_one T B) (at_most_one (middle a 24) B)),
-)
 
 by_fields : (e B T a x : ℕ) → (e ≤ LAST_EXPONENT) ⊎ (e ≡ WIDEST_EXPONENT) → a < 2 ^ 32 → B < 512 → T < 512
     → base_at e B a ≤ x → x ≤ top_at e B T a → top_at e B T a ≤ 2 ^ 32 → Same e B T a x

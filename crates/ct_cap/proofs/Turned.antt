@@ -1,6 +1,6 @@
 -- A capability at another address inside its bounds.
 use Rattle.std.proofs.Common.{ℕ, ◌^◌, ◌<◌, ◌≤◌, ◌≡◌, ◌==◌, ◌&&◌, nat_le, true, inl, inr, refl, ap, sym, ◌∙◌}
-use Rattle.std.proofs.lemmas.Bool.{leb-true, and_parts}
+use Rattle.std.proofs.lemmas.Bool.{leb-true, and_parts, eq-eqb}
 use Rattle.law_lists.proofs.Tests.{both_left, both_right, eq_tells}
 use Rattle.def_words.specs.declared.Cap.{Cap}
 use Rattle.def_words.specs.declared.Bounds.{Bounds}
@@ -8,6 +8,7 @@ use Rattle.def_words.specs.Authority.{base_of, bounds_of, cap_address, cap_base,
 use Rattle.def_words.specs.Capability.{cap_of, is_range_inside, is_representable, with_address, word_at}
 use Rattle.def_words.specs.Seals.{cap_seal}
 use Rattle.law_words.proofs.Words.{address_small, bounds_is, word_whole}
+use Rattle.law_words.proofs.Lowered.{own_bounds, representable}
 use Rattle.ct_cap.proofs.Inside.{inside}
 
 -- its bounds don't reach past the last address, and the address lies in them or at their top
@@ -28,9 +29,6 @@ stays_by c a small is =
       fits = leb-true (cap_top c) (2 ^ 32) (both_right (is_range_inside c a a) (nat_le (cap_top c) (2 ^ 32)) is);
     }
 
-own_bounds : (c : Cap) → cap_bounds c ≡ bounds_of (cap_high c) (cap_address c)
-own_bounds c = bounds_is c (cap_high c) (cap_address c) (address_small c) (word_whole c)
-
 pub bounds_stay : (c d : Cap) (a : ℕ) → Stays c a → d.word ≡ word_of (cap_high c) a → cap_bounds d ≡ cap_bounds c
 bounds_stay c d a s is =
     let own = own_bounds c in
@@ -41,15 +39,6 @@ bounds_stay c d a s is =
     ∙ ap (λ n. record { exponent = (bounds_of (cap_high c) a).exponent; base = n; top = top_of (cap_high c) a }) same.0
     ∙ ap (λ n. record { exponent = (bounds_of (cap_high c) a).exponent; base = base_of (cap_high c) (cap_address c); top = n }) same.1
     ∙ sym own
-
-equal_to_itself : (n : ℕ) → (n == n) ≡ true
-equal_to_itself n = elim (eq_tells n n) [ inl t ↦ t.0 | inr t ↦ absurd (t.1 refl) ]
-
-representable : (c d : Cap) → cap_bounds d ≡ cap_bounds c → ((cap_base d == cap_base c) && (cap_top d == cap_top c)) ≡ true
-representable c d same =
-    ap (λ (b : Bounds). (b.base == cap_base c) && (b.top == cap_top c)) same
-    ∙ ap (λ b. b && (cap_top c == cap_top c)) (equal_to_itself (cap_base c))
-    ∙ equal_to_itself (cap_top c)
 
 pub turned : (c d : Cap) (a : ℕ) → Stays c a → c.tag ≡ true → cap_seal c ≡ 0 → d ≡ record c { word = word_at c a } → d ≡ with_address c a
 unfolding with_address

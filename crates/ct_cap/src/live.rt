@@ -63,8 +63,16 @@ impl Model for Live {
 }
 
 /// The capability decoded.
-#[tactic(auto, unfolding(def_words::specs::Authority::cap_bounds, def_words::specs::Permissions::cap_perms, def_words::specs::Seals::cap_seal))]
 pub fn expand(c: Cap) -> Live
+    ensures { result ≡ c }
+{
+    decoded(c)
+}
+
+/// The same where it is used, so that what is known of the word needn't be decoded in a run.
+#[tactic(auto, unfolding(def_words::specs::Authority::cap_bounds, def_words::specs::Permissions::cap_perms, def_words::specs::Seals::cap_seal))]
+#[inline(always)]
+fn decoded(c: Cap) -> Live
     ensures { result ≡ c }
 {
     let high = high_of(c.word);
@@ -145,10 +153,11 @@ fn type_of(executes: bool, field: u32) -> u32
 }
 
 /// A capability of this tag and word decoded; an untagged one comes from nowhere.
+#[inline(always)]
 pub(crate) fn made(tag: bool, word: u64, shadow: Shadow) -> Live
     ensures { result ≡ cap_of tag word shadow }
 {
-    expand(cap_of(tag, word, shadow))
+    decoded(cap_of(tag, word, shadow))
 }
 
 /// The same word with another tag.
@@ -165,6 +174,7 @@ pub(crate) fn retagged(l: Live, tag: bool) -> Live
 
 /// A capability of another high word with the same bounds. These are not decoded anew, and its
 /// permissions are at hand.
+#[inline(always)]
 pub(crate) fn respelled(l: Live, tag: bool, high: u32, perms: Perms, from: Shadow) -> Live
     requires bounds { high % 2 ^ 22 ≡ cap_high l % 2 ^ 22 }
     requires rights { perms.0 ≡ unpacked (permission_bits high) }

@@ -7,8 +7,8 @@ ghost use Rattle.def_words.specs.Loaded.{attenuated};
 ghost use Rattle.def_words.specs.Permissions.{global, load_global, load_mutable, removed, store_data};
 
 use crate::bounding::set_bounds_exact;
+use crate::counter::{raise, turn};
 use crate::live::{Live, made, with_seal};
-use crate::pointing::{add_address, set_address};
 use crate::rights::{and_perms, narrowed};
 use crate::words;
 use ct_perm::Permission;
@@ -76,7 +76,8 @@ pub fn open(l: Live) -> Live
 pub fn link(pcc: Live, before: Posture) -> Live
     ensures { result ≡ linked pcc before }
 {
-    let next = add_address(pcc, 4);
+    let mut next = pcc;
+    raise(&mut next, 4);
     let field = if before.off {
         RETURN_DISABLE
     } else {
@@ -94,6 +95,7 @@ pub fn link(pcc: Live, before: Posture) -> Live
 /// A capability made from a root's high word: exact bounds, a part of the root's permissions, an
 /// address, and a type where that isn't 0.
 #[tactic(auto, unfolding(def_words::specs::Derive::derive))]
+#[inline(always)]
 pub fn derive(
     high: u32,
     base: u32,
@@ -105,9 +107,10 @@ pub fn derive(
 ) -> Live
     ensures { result ≡ derive high base length set address kind from }
 {
-    let root = made(true, words::word_of(high, 0), from);
-    let bounded = set_bounds_exact(set_address(root, base), length);
-    let placed = set_address(and_perms(bounded, set), address);
+    let mut root = made(true, words::word_of(high, 0), from);
+    turn(&mut root, base);
+    let mut placed = and_perms(set_bounds_exact(root, length), set);
+    turn(&mut placed, address);
     if kind == 0 {
         placed
     } else {

@@ -12,6 +12,7 @@ use crate::words::{high_of, with_permission_bits};
 /// The tag stays exactly where the source is tagged and unsealed: a sealed source loses it whatever
 /// the mask is. Mask bits above the twelve don't count.
 #[tactic(auto, unfolding(def_words::specs::Capability::masked))]
+#[inline(always)]
 pub fn and_perms(l: Live, mask: u32) -> Live
     ensures { result ≡ masked l mask }
 {
@@ -28,6 +29,7 @@ pub fn clear_tag(l: Live) -> Live
 
 /// The capability with another tag and only the permissions that a mask has too, as far as a form
 /// spells them. Where none goes the word stays.
+#[inline(always)]
 pub(crate) fn narrowed(l: Live, tag: bool, mask: u32) -> Live
     ensures { result ≡ cap_of tag (word_with_set l (bit_and (cap_perms l) mask)) l.shadow }
 {

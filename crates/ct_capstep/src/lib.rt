@@ -8,7 +8,7 @@ mod numbers;
 
 ghost use Rattle.std.specs.Prelude.{IsTrue, MatchResult, false, true, ◌||◌, ◌≡◌};
 ghost use Rattle.def_profile.specs.declared.traps.TheConstants.{PCC_REGISTER, SYSTEM_REGISTER_CODE};
-ghost use Rattle.def_words.specs.Capability.{with_address};
+ghost use Rattle.def_words.specs.Capability.{masked, raised, sealed_by, unsealed_by, with_address, with_bounds, with_exact_bounds};
 ghost use Rattle.def_words.specs.Traps.{capability_trap};
 ghost use Rattle.def_instr.specs.Shapes.{is_capability, is_system};
 ghost use Rattle.def_capstep.specs.Results.{capability_result};
@@ -54,7 +54,55 @@ fn placed(x: &Live, address: u32) -> Live
     l
 }
 
-/// The same of an instruction that is no access of system registers, from the capabilities where they stand.
+/// A capability with its address raised, by the address rule.
+#[inline(never)]
+fn moved(x: &Live, by: u32) -> Live
+    ensures { result ≡ raised x.now by }
+{
+    add_address(*x, by)
+}
+
+/// A capability with its bounds from its address to a length, rounded outwards.
+#[inline(never)]
+fn bounded(x: &Live, length: u32) -> Live
+    ensures { result ≡ with_bounds x.now length }
+{
+    set_bounds(*x, length)
+}
+
+/// The same, untagged where the bounds were rounded.
+#[inline(never)]
+fn bounded_exactly(x: &Live, length: u32) -> Live
+    ensures { result ≡ with_exact_bounds x.now length }
+{
+    set_bounds_exact(*x, length)
+}
+
+/// A capability with no more permissions than a mask's.
+#[inline(never)]
+fn narrowed(x: &Live, mask: u32) -> Live
+    ensures { result ≡ masked x.now mask }
+{
+    and_perms(*x, mask)
+}
+
+/// A capability sealed by a key.
+#[inline(never)]
+fn sealed(x: &Live, key: &Live) -> Live
+    ensures { result ≡ sealed_by x.now key.now }
+{
+    seal(*x, *key)
+}
+
+/// A sealed capability opened by a key.
+#[inline(never)]
+fn unsealed(x: &Live, key: &Live) -> Live
+    ensures { result ≡ unsealed_by x.now key.now }
+{
+    unseal(*x, *key)
+}
+
+/// What `capstep` gives of an instruction that is no access of system registers, from capabilities where they stand.
 #[tactic(auto, unfolding(def_capstep::specs::Results::capability_result))]
 #[inline(always)]
 pub fn derived(i: Instr, x: &Live, y: &Live, pcc: &Live) -> Live
@@ -62,17 +110,17 @@ pub fn derived(i: Instr, x: &Live, y: &Live, pcc: &Live) -> Live
     ensures { result ≡ capability_result i x.now y.now pcc.now }
 {
     match i {
-        Instr::AuiPcc { immediate, .. } => add_address(*pcc, upper_offset(immediate)),
-        Instr::AuiCgp { immediate, .. } => add_address(*x, upper_offset(immediate)),
+        Instr::AuiPcc { immediate, .. } => moved(pcc, upper_offset(immediate)),
+        Instr::AuiCgp { immediate, .. } => moved(x, upper_offset(immediate)),
         Instr::CIncAddr { .. } => placed(x, x.address().wrapping_add(y.address())),
         Instr::CIncAddrImm { immediate, .. } => placed(x, x.address().wrapping_add(immediate)),
         Instr::CSetAddr { .. } => placed(x, y.address()),
-        Instr::CSetBounds { .. } => set_bounds(*x, y.address()),
-        Instr::CSetBoundsImm { immediate, .. } => set_bounds(*x, immediate),
-        Instr::CSetBoundsExact { .. } => set_bounds_exact(*x, y.address()),
-        Instr::CAndPerm { .. } => and_perms(*x, y.address()),
-        Instr::CSeal { .. } => seal(*x, *y),
-        Instr::CUnseal { .. } => unseal(*x, *y),
+        Instr::CSetBounds { .. } => bounded(x, y.address()),
+        Instr::CSetBoundsImm { immediate, .. } => bounded(x, immediate),
+        Instr::CSetBoundsExact { .. } => bounded_exactly(x, y.address()),
+        Instr::CAndPerm { .. } => narrowed(x, y.address()),
+        Instr::CSeal { .. } => sealed(x, y),
+        Instr::CUnseal { .. } => unsealed(x, y),
         Instr::CSetHigh { .. } => with_high(*x, y.address()),
         Instr::CMove { .. } => *x,
         Instr::CClearTag { .. } => clear_tag(*x),

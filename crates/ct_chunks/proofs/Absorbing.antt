@@ -1,5 +1,5 @@
 -- Joining, chunk by chunk.
-use Rattle.std.proofs.Common.{ℕ, ◌≡◌, ◌+◌, ◌-◌, ◌*◌, ◌/◌, ◌%◌, ◌^◌, ◌<◌, ◌≤◌, ◌⊎◌, inl, inr, ◌&&◌, ◌||◌, Bool, true, false, not, cond, nat_eq, List, [], ◌∷◌, ◌++◌, length, refl, sym, ap, ◌∙◌, arith, subst}
+use Rattle.std.proofs.Common.{ℕ, ◌≡◌, ◌+◌, ◌-◌, ◌*◌, ◌/◌, ◌%◌, ◌^◌, ◌<◌, ◌≤◌, ◌⊎◌, inl, inr, ◌&&◌, ◌||◌, Bool, true, false, cond, nat_eq, List, [], ◌∷◌, ◌++◌, length, refl, sym, ap, ◌∙◌, arith, subst}
 use Rattle.std.proofs.lemmas.List.{append_assoc, append-nil}
 use Rattle.law_lists.proofs.Tests.{bool_tells, eq_tells}
 use Rattle.def_words.specs.declared.Cap.{Cap}
@@ -9,14 +9,14 @@ use Rattle.def_memory.specs.Accesses.{stored_cap}
 use Rattle.def_chunks.specs.declared.heads.TheConstants.{NO_CHUNK}
 use Rattle.def_chunks.specs.declared.rows.Range.{Range}
 use Rattle.def_chunks.specs.declared.rows.Head.{Head}
-use Rattle.def_chunks.specs.Chunks.{Chunk, is_free, total, first_free, head_of, head_at, head_in, Lays, Starts, IsChunk, AreChunks, NoneTouch}
+use Rattle.def_chunks.specs.Chunks.{Chunk, total, first_free, head_of, head_at, head_in, Lays, Starts, IsChunk, AreChunks, NoneTouch}
 use Rattle.def_chunks.specs.Tiles.{chunks, TiledBy, Tiled, TilesSettled}
-use Rattle.def_chunks.specs.Changes.{free_chunk, leaves, gap, joined, released, linked, InUse, Spared, KeepsRest, OnlyHeads}
-use Rattle.def_chunks.specs.Gaps.{NoFree, IsLastFree, LastFree}
+use Rattle.def_chunks.specs.Changes.{free_chunk, leaves, gap, joined, released, linked, KeepsRest, OnlyHeads}
+use Rattle.def_chunks.specs.Gaps.{NoFree, LastFree}
 use Rattle.law_chunks.proofs.Lays.{lays_same, lays_both, lays_join, free_both, none_first, unlinked, relinked, total_both, first_stays, are_split, are_join, total_even, starts_low, starts_high, starts_even}
-use Rattle.law_chunks.proofs.Reading.{Sits, sits_by, chunks_are, head_tells}
+use Rattle.law_chunks.proofs.Reading.{chunks_are, head_tells}
 use Rattle.law_chunks.proofs.Carves.{head_other, head_same, store_length, free_state, not_none}
-use Rattle.law_chunks.proofs.Joins.{gap_total, joined_total, joined_are, joined_apart, stays_used}
+use Rattle.law_chunks.proofs.Joins.{gap_total, joined_apart, stays_used}
 use Rattle.law_chunks.proofs.Spares.{starts_second, starts_first, starts_split, starts_there, keeps_same, keeps_then, keeps_store, head_loose, heads_same, heads_then, heads_store}
 use Rattle.ct_chunks.specs.declared.joining.Last.{Last}
 use Rattle.ct_chunks.specs.Joins.{goes, touches, absorbed, last_after, first_after, Absorbs, Visits}

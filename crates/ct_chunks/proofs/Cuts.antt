@@ -104,7 +104,7 @@ take_keeps r gs ms hs at size next before bsize two h t is_one is_two =
 
 -- ---- and write heads alone
 
-become : (r : Range) (gs : List Granule) (at : ℕ) (s : ChunkStands r gs at) (f : Chunk → List Chunk) → Tiled r gs → replaced at f r.base (chunks r gs) ≡ s.above ++ (f s.chunk ++ s.below)
+pub become : (r : Range) (gs : List Granule) (at : ℕ) (s : ChunkStands r gs at) (f : Chunk → List Chunk) → Tiled r gs → replaced at f r.base (chunks r gs) ≡ s.above ++ (f s.chunk ++ s.below)
 become r gs at s f h = let k = sits r gs at h s in ap (replaced at f r.base) s.whole ∙ replaced_is f at r.base s.above s.chunk s.below k.above_are s.place
 
 pub split_heads : (r : Range) (gs ms hs : List Granule) (ds : List Chunk) (at size first next one two : ℕ) → Tiled r gs → FreeStands r gs at size next → first % 8 ≡ 0

@@ -1,22 +1,23 @@
 -- Painting, chunk by chunk.
-use Rattle.std.proofs.Common.{ℕ, ◌≡◌, ◌+◌, ◌-◌, ◌*◌, ◌/◌, ◌%◌, ◌^◌, ◌<◌, ◌≤◌, ◌⊎◌, inl, inr, Bool, true, false, cond, nat_eq, List, [], ◌∷◌, ◌++◌, map, length, refl, sym, ap, ◌∙◌, arith, subst}
+use Rattle.std.proofs.Common.{ℕ, ◌≡◌, ◌+◌, ◌-◌, ◌*◌, ◌/◌, ◌%◌, ◌^◌, ◌<◌, ◌≤◌, ◌⊎◌, inl, inr, Bool, true, false, nat_eq, List, [], ◌∷◌, ◌++◌, length, refl, sym, ap, ◌∙◌, arith, subst}
 use Rattle.std.proofs.lemmas.List.{append_assoc, append-nil}
-use Rattle.law_lists.proofs.Tests.{bool_tells, eq_tells}
+use Rattle.law_lists.proofs.Tests.{eq_tells}
 use Rattle.def_memory.specs.declared.Granule.{Granule}
 use Rattle.def_memory.specs.Granules.{plain, granule_at}
 use Rattle.law_granules.proofs.Lists.{cap_rest}
 use Rattle.def_memory.specs.Accesses.{stored_cap}
 use Rattle.def_chunks.specs.declared.rows.Range.{Range}
 use Rattle.def_chunks.specs.declared.rows.Head.{Head}
-use Rattle.def_chunks.specs.Chunks.{Chunk, is_free, total, first_free, head_at, head_in, Starts, IsChunk, AreChunks, NoneTouch}
+use Rattle.def_chunks.specs.Chunks.{Chunk, is_free, total, first_free, head_at, head_in, Starts, AreChunks, NoneTouch}
 use Rattle.def_chunks.specs.Tiles.{chunks, Tiled, TilesSettled}
-use Rattle.def_chunks.specs.Changes.{replaced, in_state, painted_chunk, all_painted, InUse, Spared, KeepsRest, OnlyHeads}
+use Rattle.def_chunks.specs.Changes.{replaced, in_state, painted_chunk, all_painted, InUse, KeepsRest, OnlyHeads}
 use Rattle.def_chunks.specs.Gaps.{ChunkStands, UsedStands}
 use Rattle.def_chunks.specs.declared.heads.TheConstants.{NO_CHUNK}
 use Rattle.law_chunks.proofs.Lays.{total_both, are_split}
-use Rattle.law_chunks.proofs.Reading.{Sits, sits, head_tells, replaced_is}
+use Rattle.law_chunks.proofs.Reading.{sits, head_tells}
 use Rattle.law_chunks.proofs.Joins.{painted_free, painted_size, all_painted_apart}
 use Rattle.law_chunks.proofs.Spares.{in_use_split, in_use_first, in_use_second, starts_second, starts_there, keeps_same, keeps_then, keeps_store, head_loose, spared_more, heads_same}
+use Rattle.ct_chunks.proofs.Cuts.{become}
 
 -- ---- one head
 
@@ -72,9 +73,6 @@ pub record Paints (r : Range) (gs hs : List Granule) (at : ℕ) : Type 0 where
   pub chunks_are : chunks r hs ≡ replaced at (λ c. painted_chunk c ∷ []) r.base (chunks r gs)
   pub keeps : KeepsRest r (chunks r gs) gs hs
 
-at_chunk : (r : Range) (gs : List Granule) (at : ℕ) (s : ChunkStands r gs at) (f : Chunk → List Chunk) → Tiled r gs → replaced at f r.base (chunks r gs) ≡ s.above ++ (f s.chunk ++ s.below)
-at_chunk r gs at s f h = let k = sits r gs at h s in ap (replaced at f r.base) s.whole ∙ replaced_is f at r.base s.above s.chunk s.below k.above_are s.place
-
 pub paints_it : (r : Range) (gs hs : List Granule) (at : ℕ) → Tiled r gs → ChunkStands r gs at → (head_in (head_at gs r.ram at)).state ≡ 2 → Tiled r hs → chunks r hs ≡ replaced at (in_state 3) r.base (chunks r gs) → KeepsRest r (chunks r gs) gs hs → Paints r gs hs at
 paints_it r gs hs at h s is tiled now keeps =
     let t = tells r gs at s h in
@@ -83,7 +81,7 @@ paints_it r gs hs at h s is tiled now keeps =
     let same : in_state 3 s.chunk ≡ painted_chunk s.chunk ∷ [] = rw test refl in
     record {
       tiled = tiled;
-      chunks_are = now ∙ at_chunk r gs at s (in_state 3) h ∙ ap (λ (l : List Chunk). s.above ++ (l ++ s.below)) same ∙ sym (at_chunk r gs at s (λ c. painted_chunk c ∷ []) h);
+      chunks_are = now ∙ become r gs at s (in_state 3) h ∙ ap (λ (l : List Chunk). s.above ++ (l ++ s.below)) same ∙ sym (become r gs at s (λ c. painted_chunk c ∷ []) h);
       keeps = keeps;
     }
 
@@ -94,7 +92,7 @@ paints_none r gs at h s not =
     let same : s.chunk ∷ [] ≡ painted_chunk s.chunk ∷ [] = rw test refl in
     record {
       tiled = h;
-      chunks_are = s.whole ∙ ap (λ (l : List Chunk). s.above ++ (l ++ s.below)) same ∙ sym (at_chunk r gs at s (λ c. painted_chunk c ∷ []) h);
+      chunks_are = s.whole ∙ ap (λ (l : List Chunk). s.above ++ (l ++ s.below)) same ∙ sym (become r gs at s (λ c. painted_chunk c ∷ []) h);
       keeps = keeps_same r (chunks r gs) gs gs refl;
     }
 
@@ -181,7 +179,7 @@ painting_step r gs hs ks left size w some size_is tiled is keeps elsewhere = ste
         let size_c : size ≡ c.size = size_is ∙ (tells r hs at s w.tiled).size in
         let wide = k.shape.some in
         let next : chunks r ks ≡ all_painted (w.above ++ c ∷ []) ++ cs =
-        is ∙ at_chunk r hs at s (λ x. painted_chunk x ∷ []) w.tiled
+        is ∙ become r hs at s (λ x. painted_chunk x ∷ []) w.tiled
         ∙ sym (append_assoc (all_painted w.above) (painted_chunk c ∷ []) cs) ∙ ap (λ (l : List Chunk). l ++ cs) (sym (map_both w.above (c ∷ []))) in
         let more : (p : ℕ) → InUse p r.base (chunks r gs) → InUse p r.base (chunks r hs) = λ p used.
         subst (InUse p r.base) (sym now) (elim (in_use_split p r.base w.above (c ∷ cs) (subst (InUse p r.base) whole used)) [

@@ -1,5 +1,5 @@
 -- A walk along the list of free chunks.
-use Rattle.std.proofs.Common.{ℕ, ◌≡◌, ◌+◌, ◌-◌, ◌*◌, ◌/◌, ◌%◌, ◌^◌, ◌<◌, ◌≤◌, ◌⊎◌, inl, inr, Bool, true, false, cond, nat_eq, List, [], ◌∷◌, ◌++◌, length, refl, sym, ap, ◌∙◌, arith, subst}
+use Rattle.std.proofs.Common.{ℕ, ◌≡◌, ◌+◌, ◌-◌, ◌*◌, ◌/◌, ◌%◌, ◌^◌, ◌<◌, ◌≤◌, ◌⊎◌, inl, inr, Bool, true, false, List, [], ◌∷◌, ◌++◌, length, refl, sym, ap, ◌∙◌, arith, subst}
 use Rattle.std.proofs.lemmas.List.{append_assoc}
 use Rattle.law_lists.proofs.Tests.{bool_tells}
 use Rattle.def_memory.specs.declared.Granule.{Granule}
@@ -7,11 +7,11 @@ use Rattle.def_chunks.specs.declared.heads.TheConstants.{NO_CHUNK}
 use Rattle.def_chunks.specs.declared.rows.Range.{Range}
 use Rattle.def_chunks.specs.declared.rows.Gap.{Gap}
 use Rattle.def_chunks.specs.declared.rows.Head.{Head}
-use Rattle.def_chunks.specs.Chunks.{Chunk, is_free, total, first_free, head_of, head_at, head_in, IsChunk, AreChunks}
-use Rattle.def_chunks.specs.Tiles.{chunks, TiledBy, Tiled}
-use Rattle.def_chunks.specs.Gaps.{HasRoomAt, NoFree, IsLastFree, LastFree, ChunkStands, FreeStands, FreeLinked, IsGap, NoGap}
-use Rattle.law_chunks.proofs.Lays.{total_both, are_split}
-use Rattle.law_chunks.proofs.Reading.{Sits, sits, head_tells}
+use Rattle.def_chunks.specs.Chunks.{Chunk, is_free, total, first_free, head_of, head_at, head_in}
+use Rattle.def_chunks.specs.Tiles.{chunks, Tiled}
+use Rattle.def_chunks.specs.Gaps.{HasRoomAt, NoFree, LastFree, ChunkStands, FreeLinked, IsGap, NoGap}
+use Rattle.law_chunks.proofs.Lays.{total_both}
+use Rattle.law_chunks.proofs.Reading.{sits, head_tells}
 use Rattle.law_chunks.proofs.Places.{room_low, room_split}
 use Rattle.ct_chunks.specs.Multiples.{up}
 use Rattle.ct_chunks.proofs.Multiples.{up_least, up_above, up_even}

@@ -13,7 +13,7 @@ use def_chunks::heads::{FREE, NO_CHUNK, PAINTED};
 
 /// The last free chunk so far, by its offset, with its size; `NO_CHUNK` where there is none.
 #[derive(Clone, Copy, Drop)]
-pub struct Last {
+pub(crate) struct Last {
     pub offset: u32,
     pub size: u32,
 }

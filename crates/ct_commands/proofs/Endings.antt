@@ -1,5 +1,5 @@
 -- From what was read and written to the answer of the call.
-use Rattle.std.proofs.Common.{◌≡◌, ℕ, true, false, List, [], ◌∷◌, ◌++◌, Option, Some, None, refl, sym, subst, inl, inr}
+use Rattle.std.proofs.Common.{◌≡◌, ℕ, true, false, List, [], ◌∷◌, ◌++◌, Some, None, refl, sym, subst, inl, inr}
 use Rattle.def_port.specs.Bytes.{FaultsRose, SinkView}
 use Rattle.def_port.specs.Told.{FolderView}
 use Rattle.def_program.specs.declared.Status.{Status}

@@ -1,7 +1,7 @@
 -- From what a read gave to what its caller is told, and the loop over several names.
 use Rattle.std.proofs.Common.{◌≡◌, ℕ, ◌+◌, ◌<◌, ◌≤◌, inl, inr, List, [], ◌∷◌, ◌++◌, length, take, min, refl, sym, ap, ◌∙◌, subst, arith}
 use Rattle.std.proofs.lemmas.List.{length-take, take_all}
-use Rattle.def_port.specs.Told.{Told, Silent, Absent, File, FileGives, Call, FolderView, TellsSame}
+use Rattle.def_port.specs.Told.{Told, Silent, Absent, File, FileGives, FolderView, TellsSame}
 use Rattle.def_port.specs.Bytes.{FaultsRose}
 use Rattle.def_port.specs.Reads.{Reads}
 use Rattle.def_program.specs.Calls.{Exceeds, FileHolds, IsFile, IsLarge, most}

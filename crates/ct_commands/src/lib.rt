@@ -5,8 +5,8 @@
 mod files;
 mod lines;
 mod names;
+mod path_line;
 mod refusing;
-mod sentences;
 mod why;
 mod words;
 mod writing;

@@ -45,6 +45,6 @@ pub fn line(
         Some(to) => to,
         None => return Ok(None),
     };
-    let text = crate::sentences::between(alloc, parts, graph, from, Comp(to))?;
+    let text = crate::path_line::between(alloc, parts, graph, from, Comp(to))?;
     Ok(Some(text))
 }

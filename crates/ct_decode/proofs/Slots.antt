@@ -1,5 +1,6 @@
 -- What is written into a slot is what its word says.
-use Rattle.std.proofs.Common.{ℕ, zero, suc, ◌≡◌, ◌∙◌, List, length, replicate, ◌<◌, slice_set, slice_index_or, subst, sym, ap}
+use Rattle.std.proofs.Common.{ℕ, zero, suc, ◌≡◌, ◌∙◌, List, length, replicate, ◌<◌, slice_set, slice_index_or, subst, sym, ap, nat_eq, true}
+use Rattle.std.proofs.lemmas.Bool.{eqb-true}
 use Rattle.std.proofs.lemmas.List.{get_or_read_under, length-set, length-replicate}
 use Rattle.ct_loadstore.specs.Shapes.{IsShape}
 use Rattle.ct_decode.specs.declared.reading.Reading.{Reading}
@@ -22,6 +23,12 @@ kept_read rows i r h new = record {
 
 pub row_read : (rows : List Reading) (i : ℕ) (x : Reading) → AreRead rows → i < SLOTS → x ≡ slice_index_or rows i x → IsRead x
 row_read rows i x h inside is = subst IsRead (sym (get_or_read_under rows i SLOTS x (reading_of 0) is inside (sym h.size))) (h.each i)
+
+-- what a slot holds whose word is this one
+pub held : (rows : List Reading) (i word : ℕ) (x : Reading) → AreRead rows → i < SLOTS → x ≡ slice_index_or rows i x → nat_eq x.word word ≡ true
+    → slice_index_or rows i (reading_of 0) ≡ reading_of word
+held rows i word x h inside is same =
+    sym (get_or_read_under rows i SLOTS x (reading_of 0) is inside (sym h.size)) ∙ (row_read rows i x h inside is).is ∙ ap reading_of (eqb-true x.word word same)
 
 of_copies : {A : Type 0} (P : A → Type 0) (n k : ℕ) (x z : A) → P x → P z → P (slice_index_or (replicate n x) k z)
 of_copies P zero k x z here past = past

@@ -1,6 +1,6 @@
 //! The words that were met last.
 
-ghost use Rattle.std.specs.Prelude.{ℕ, ◌≡◌, ◌<◌, IfOk};
+ghost use Rattle.std.specs.Prelude.{ℕ, ◌≡◌, ◌==◌, ◌<◌, IfOk, true};
 ghost use Rattle.ct_loadstore.specs.Shapes.{IsShape};
 ghost use Rattle.ct_decode.specs.declared.decoded.TheConstants.{SLOTS};
 ghost use Rattle.ct_decode.specs.Reading.{slot_for, reading_of, slot_of, AreRegisters, IsRead};
@@ -83,9 +83,18 @@ impl Decoded {
     pub fn keep(&mut self, at: u32, word: u32)
         ensures { slot_for self.new at ≡ reading_of word }
     {
-        if self.rows[slot_of(at)].word != word {
+        if !self.holds(at, word) {
             self.fill(at, word);
         }
+    }
+
+    /// Whether an address's slot holds what this word says.
+    #[inline(always)]
+    pub fn holds(&self, at: u32, word: u32) -> bool
+        ensures when { result ≡ ((slot_for self.now at).word == word) }
+        ensures is { result ≡ true → slot_for self.now at ≡ reading_of word }
+    {
+        self.rows[slot_of(at)].word == word
     }
 
     /// What an address's slot holds: what the word says that was met last at any address of the slot, or word 0 where

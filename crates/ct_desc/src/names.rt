@@ -9,7 +9,7 @@ use std::marker::Model;
 
 /// Names, each once, which are looked up in constant time.
 #[derive(Drop)]
-pub struct Names {
+pub(crate) struct Names {
     set: IndexSet<String>,
 }
 

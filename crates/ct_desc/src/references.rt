@@ -119,7 +119,7 @@ impl Sets {
 
 /// What the imports and threads of a description may name.
 #[derive(Drop)]
-pub struct Named<'a> {
+pub(crate) struct Named<'a> {
     value: &'a Value,
     sets: Sets,
     ghost of_devices: { sets.devices

@@ -16,7 +16,7 @@ use def_image::taken::SERVICES_TAKEN;
 
 /// A rule that is judged at each place by what stands there.
 #[derive(Clone, Copy, PartialEq, Eq, Drop)]
-pub enum Rule {
+pub(crate) enum Rule {
     /// F8: rights are listed for their kind.
     Rights,
     /// F9: services are listed.

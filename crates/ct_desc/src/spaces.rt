@@ -12,7 +12,7 @@ use std::marker::Model;
 
 /// The names of each space so far. Slots and exports are those of one compartment or library.
 #[derive(Drop)]
-pub struct Spaces {
+pub(crate) struct Spaces {
     devices: Names,
     shared: Names,
     sealed: Names,

@@ -1,7 +1,7 @@
 //! A description's value: its members by their kinds, its places in the order in which they are
 //! judged, and the three faults that tables of members decide (F2, F3 and F6 of
-//! docs/use/description.md, definitions in def_desc). Rows, names and references are read in
-//! ct_desc.
+//! docs/use/description.md, definitions in def_desc). Rows are read in ct_desc_rows, names and
+//! references in ct_desc.
 #![tactic(auto)]
 
 mod digits;

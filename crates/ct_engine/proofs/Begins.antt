@@ -1,6 +1,7 @@
 -- Threads that start one after another.
 use Rattle.std.proofs.Common.{ℕ, zero, suc, ◌≡◌, ◌+◌, ◌*◌, ◌<◌, ◌≤◌, inl, inr, true, false, List, [], ◌∷◌, ◌++◌, length, map, take, drop, Option, None, refl, sym, ap, ◌∙◌, arith, subst}
 use Rattle.std.proofs.Math.ListN.{get_or}
+use Rattle.std.proofs.lemmas.List.{drop_all, take_all, map_push}
 use Rattle.law_lists.proofs.Tests.{lt_tells}
 use Rattle.def_words.specs.declared.Cap.{Cap}
 use Rattle.def_memory.specs.declared.Granule.{Granule}
@@ -60,10 +61,6 @@ fresh_ends ram size from to (f ∷ fs) h =
     let low = h.0 in
     let rest = fresh_ends ram size (f.area.trusted + f.area.trusted_length) to fs h.3 in
     omega (arith, low, rest)
-
-map_last : {A B : Type 0} (k : A → B) (xs : List A) (x : A) → map k (xs ++ x ∷ []) ≡ map k xs ++ k x ∷ []
-map_last k [] x = refl
-map_last k (y ∷ ys) x = ap (λ zs. k y ∷ zs) (map_last k ys x)
 
 -- where the areas of those that started end
 abbrev pub end_of : ℕ → List Fresh → ℕ
@@ -143,9 +140,9 @@ begun_next g was gs hs ts t done todo f b touches kept place same =
           hidden_is g k (omega (arith, from, low, base, l)) (omega (arith, high, base, h)))
           ∙ b.memory;
       threads = threads_last hs 0 ts t ∙ ap (λ xs. xs ++ thread_of hs false t ∷ []) (threads ∙ b.threads)
-          ∙ ap (λ x. map (λ u. first_of u) done ++ x ∷ []) same ∙ sym (map_last (λ u. first_of u) done f);
-      places = map_last (λ (u : row.Thread). u.area) ts t ∙ ap (λ xs. xs ++ t.area ∷ []) b.places
-          ∙ ap (λ a. map (λ (u : Fresh). u.area) done ++ a ∷ []) place ∙ sym (map_last (λ (u : Fresh). u.area) done f);
+          ∙ ap (λ x. map (λ u. first_of u) done ++ x ∷ []) same ∙ sym (map_push (λ u. first_of u) done f);
+      places = map_push (λ (u : row.Thread). u.area) ts t ∙ ap (λ xs. xs ++ t.area ∷ []) b.places
+          ∙ ap (λ a. map (λ (u : Fresh). u.area) done ++ a ∷ []) place ∙ sym (map_push (λ (u : Fresh). u.area) done f);
       areas = subst (λ n. AreasFrom g.ram hs None 0 g.trusted n (ts ++ t ∷ [])) to last;
       clear = λ k lo hi. (let after : f.area.trusted + f.area.trusted_length ≤ g.ram + 8 * k = subst (λ n. n ≤ g.ram + 8 * k) end lo in
           outside (8 * length was) f.area gs hs k has touches (inr (omega (arith, after, base)))
@@ -164,18 +161,6 @@ drop_next : {A : Type 0} (xs : List A) (i : ℕ) (d : A) → i < length xs → d
 drop_next [] i d lt = absurd (omega (arith, lt))
 drop_next (x ∷ xs) zero d lt = refl
 drop_next (x ∷ xs) (suc i) d lt = let next : suc i + 1 ≡ suc (i + 1) = omega arith in rw next (drop_next xs i d (omega (arith, lt)))
-
-take_whole : {A : Type 0} (xs : List A) (n : ℕ) → length xs ≤ n → take n xs ≡ xs
-take_whole [] zero le = refl
-take_whole [] (suc n) le = refl
-take_whole (x ∷ xs) zero le = absurd (omega (arith, le))
-take_whole (x ∷ xs) (suc n) le = ap (λ ys. x ∷ ys) (take_whole xs n (omega (arith, le)))
-
-drop_whole : {A : Type 0} (xs : List A) (n : ℕ) → length xs ≤ n → drop n xs ≡ []
-drop_whole [] zero le = refl
-drop_whole [] (suc n) le = refl
-drop_whole (x ∷ xs) zero le = absurd (omega (arith, le))
-drop_whole (x ∷ xs) (suc n) le = drop_whole xs n (omega (arith, le))
 
 -- so many of them started
 abbrev pub BegunTo : Region → List Granule → List Granule → List row.Thread → List Fresh → ℕ → Type 0
@@ -198,8 +183,8 @@ begun_step g was gs hs ts us t fs i f b lt is touches kept place same added =
 
 begun_all : (g : Region) (was gs : List Granule) (ts : List row.Thread) (fs : List Fresh) (i : ℕ) → BegunTo g was gs ts fs i → length fs ≤ i → Begun g was gs ts fs []
 begun_all g was gs ts fs i b le =
-    subst (λ (xs : List Fresh). Begun g was gs ts fs xs) (drop_whole fs i le)
-    (subst (λ (xs : List Fresh). Begun g was gs ts xs (drop i fs)) (take_whole fs i le) b)
+    subst (λ (xs : List Fresh). Begun g was gs ts fs xs) (drop_all i fs le)
+    (subst (λ (xs : List Fresh). Begun g was gs ts xs (drop i fs)) (take_all i fs le) b)
 
 pub have_begun : (g : Region) (was gs : List Granule) (ts : List row.Thread) (fs : List Fresh) (i : ℕ) → BegunTo g was gs ts fs i → length fs ≤ i
     → HaveBegun g was gs ts fs

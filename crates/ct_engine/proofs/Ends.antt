@@ -11,7 +11,8 @@ use Rattle.ct_threads.specs.Kept.{IsKept}
 use Rattle.ct_engine.specs.declared.rows.Rows.{Rows}
 use Rattle.ct_engine.specs.Kept.{AreasFrom, IsEngine}
 use Rattle.ct_engine.proofs.Lists.{OthersRun}
-use Rattle.ct_engine.proofs.Whole.{itself, other, runs_it, areas_turn, some_is, none_is}
+use Rattle.ct_engine.proofs.Whole.{other, runs_it, areas_turn, some_is, none_is}
+use Rattle.law_moves.proofs.Slices.{is_itself}
 
 pub area_of_row : (ts : List row.Thread) (t : ℕ) (d : Area) (r : row.Thread) → t < length ts → get_or (map (λ (u : row.Thread). u.area) ts) t d ≡ (get_or ts t r).area
 area_of_row [] t d r lt = absurd (omega (arith, lt))
@@ -33,7 +34,7 @@ call_areas gs hs rows t r q holds runs is touches place kept =
 -- ---- the running thread goes on or ends
 
 pub number_is : (more : Bool) (t : ℕ) → is_number (cond more (Some t) None) t ≡ more
-number_is true t = itself t
+number_is true t = is_itself t
 number_is false t = refl
 
 pub goes_or_ends : (run : Option ℕ) (t : ℕ) (more : Bool) → run ≡ Some t → OthersRun run (cond more (Some t) None) t

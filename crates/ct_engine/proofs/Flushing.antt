@@ -22,9 +22,9 @@ use Rattle.ct_engine.specs.Seen.{Seen, threads_of, engine_view, hidden}
 use Rattle.ct_engine.specs.Kept.{AreasFrom, IsEngine}
 use Rattle.def_confined.specs.Stale.{NotStale, SavedClean, StoppedClean}
 use Rattle.ct_engine.specs.Sweeps.{NoneLeft}
-use Rattle.ct_engine.proofs.Whole.{itself}
 use Rattle.ct_engine.proofs.Away.{hidden_cases}
 use Rattle.ct_engine.proofs.Stacks.{hidden_place}
+use Rattle.law_moves.proofs.Slices.{is_itself}
 
 -- ---- one granule
 
@@ -120,7 +120,7 @@ abbrev Stops : Option ℕ → ℕ → Type 0
 Stops run n = run ≡ Some n → ⊥
 
 not_running : (run : Option ℕ) (n : ℕ) → is_number run n ≡ false → Stops run n
-not_running run n e = λ is. let clash : true ≡ false = sym (ap (λ o. is_number o n) is ∙ itself n) ∙ e in cc
+not_running run n e = λ is. let clash : true ≡ false = sym (ap (λ o. is_number o n) is ∙ is_itself n) ∙ e in cc
 
 areas_clean : (objects : List Object) (ram : ℕ) (gs : List Granule) (run : Option ℕ) (n from to : ℕ) (ts : List row.Thread) → AreasFrom ram gs run n from to ts
     → ((t : ℕ) → Each (SavedClean objects) (get_or (threads_of gs run n ts) t nobody).frames)

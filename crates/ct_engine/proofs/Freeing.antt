@@ -2,7 +2,7 @@
 use Rattle.std.proofs.Common.{ℕ, zero, suc, ◌≡◌, ◌+◌, ◌-◌, ◌*◌, ◌≤◌, ◌<◌, ◌==◌, ◌&&◌, ◌||◌, ◌⊎◌, inl, inr, Bool, true, false, not, nat_eq, nat_le, nat_lt, List, [], ◌∷◌, map, Some, None, refl, sym, ap, ◌∙◌, subst, arith}
 use Rattle.std.specs.Prelude.{find}
 use Rattle.std.proofs.Math.ListN.{get_or, set}
-use Rattle.std.proofs.lemmas.Bool.{and_parts}
+use Rattle.std.proofs.lemmas.Bool.{and_parts, eqb-true}
 use Rattle.law_lists.proofs.Tests.{bool_tells, le_tells, lt_tells, eq_tells}
 use Rattle.def_words.specs.declared.Cap.{Cap}
 use Rattle.def_memory.specs.declared.Granule.{Granule}
@@ -46,15 +46,12 @@ pub record Whole (quota base top : ℕ) (r : Object) : Type 0 where
   pub base_is : r.base ≡ base
   pub top_is : r.base + r.length ≡ top
 
-same_number : (a b : ℕ) → (a == b) ≡ true → a ≡ b
-same_number a b e = elim (eq_tells a b) [ inl is ↦ is.1 | inr not ↦ absurd (let clash : true ≡ false = sym e ∙ not.0 in cc) ]
-
 spans_tells : (quota base top : ℕ) (r : Object) → spans_of quota base top r ≡ true → Whole quota base top r
 spans_tells quota base top r e =
     let last = and_parts (r.live && (r.quota == quota) && (r.base == base)) (r.base + r.length == top) e in
     let two = and_parts (r.live && (r.quota == quota)) (r.base == base) last.0 in
     let one = and_parts r.live (r.quota == quota) two.0 in
-    record { quota_is = same_number r.quota quota one.1; base_is = same_number r.base base two.1; top_is = same_number (r.base + r.length) top last.1 }
+    record { quota_is = eqb-true r.quota quota one.1; base_is = eqb-true r.base base two.1; top_is = eqb-true (r.base + r.length) top last.1 }
 
 -- it is the first, or one of the others
 pub found_first : (p : Object → Bool) (q r : Object) (os : List Object) → p q ≡ true → find p (q ∷ os) ≡ Some r → q ≡ r

@@ -9,7 +9,6 @@ use Rattle.def_memory.specs.declared.Granule.{Granule}
 use Rattle.def_machine.specs.State.{Thread}
 use Rattle.def_machine.specs.Threads.{jumped}
 use Rattle.def_step.specs.Instructions.{actor_of}
-use Rattle.def_areas.specs.Touches.{Touches}
 use Rattle.ct_areas.specs.declared.thread.Thread as row
 use Rattle.ct_areas.specs.Threads.{area_begin, area_end, living, thread_of}
 use Rattle.ct_areas.specs.Parts.{inner_frame, outer_frames}
@@ -23,6 +22,7 @@ use Rattle.ct_engine.specs.Kept.{AreasFrom, IsEngine}
 use Rattle.ct_engine.proofs.Whole.{runs_it, thread_is, seen_turn, running_kept}
 use Rattle.ct_engine.proofs.Ends.{call_areas, stays_on}
 use Rattle.ct_engine.proofs.Stacks.{stacks_turn}
+use Rattle.law_areas.proofs.Changes.{unchanged}
 
 -- what is seen of the running thread is its row
 pub running_is : (gs : List Granule) (rows : Rows) (t : ℕ) (r : row.Thread) → IsEngine gs rows → rows.running ≡ Some t → r ≡ get_or rows.list.items t r
@@ -48,9 +48,6 @@ pub running_some : (gs : List Granule) (rows : Rows) (t : ℕ) (r : row.Thread) 
 running_some gs rows t r holds runs is =
     let many : length (thread (engine_view gs rows) t).frames ≡ suc (length (outer_frames gs r)) = ap length (running_frames gs rows t r holds runs is) in
     omega (arith, many)
-
-unchanged : (gs : List Granule) (lo hi : ℕ) → Touches lo hi gs gs
-unchanged gs lo hi = record { size = refl; marks = λ k. refl; rest = λ k out. refl }
 
 pub jump_areas : (gs : List Granule) (rows : Rows) (t : ℕ) (r q : row.Thread) (pcc : Cap) (posture : Posture) (to : ℕ) (value : Cap) → IsEngine gs rows → rows.running ≡ Some t
     → r ≡ get_or rows.list.items t r → q ≡ row_gone r pcc posture to value

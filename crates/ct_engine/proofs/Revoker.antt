@@ -29,12 +29,11 @@ use Rattle.ct_engine.proofs.Flushing.{none_stale}
 use Rattle.ct_engine.proofs.HeapTurns.{with_heap, HeapTurns, turned_holds, turned_seen}
 use Rattle.ct_engine.proofs.Sweeps.{with_front, slice_holds, slice_seen}
 use Rattle.ct_engine.proofs.HiddenTwice.{with_hidden_both, seen_both}
+use Rattle.law_hidden.proofs.Live.{painted_live}
+use Rattle.law_moves.proofs.Ends.{unmarked_length}
+use Rattle.ct_engine.proofs.Whole.{some_is}
 
 -- ---- a sweep begins
-
-painted_live : (rs : List Object) (x : ℕ) → is_live_at (painted rs) x ≡ is_live_at rs x
-painted_live [] x = refl
-painted_live (r ∷ rs) x = ap (λ b. (r.live && nat_le r.base x && nat_lt x (r.base + r.length)) || b) (painted_live rs x)
 
 -- what is live isn't painted
 abbrev LivePlain : Object → Type 0
@@ -180,10 +179,6 @@ same_base h n s = ap (λ (r : Range). r.base) s.range
 same_long : (h n : HeapRow) → Same h n → n.range.length ≡ h.range.length
 same_long h n s = ap (λ (r : Range). r.length) s.range
 
-cleared_length : (rs : List Object) (x : ℕ) (gs : List Granule) → length (marks_cleared rs x gs) ≡ length gs
-cleared_length rs x [] = refl
-cleared_length rs x (g ∷ gs) = ap (λ n. suc n) (cleared_length rs (x + 8) gs)
-
 -- a granule whose mark is cleared
 abbrev cleared : Bool → Granule → Granule
 cleared painted_ g = record g { mark = cond painted_ false g.mark }
@@ -211,7 +206,7 @@ cleared_seen : (a b : ℕ → Bool) (rs : List Object) (ram : ℕ) (gs hs : List
     → ((k : ℕ) → (granule_at hs k).mark ≡ cond (is_painted_at rs (ram + 8 * k)) false (granule_at gs k).mark)
     → ((k : ℕ) → a k ≡ false → (granule_at hs k).cap ≡ (granule_at gs k).cap) → with_hidden b hs ≡ marks_cleared rs ram (with_hidden a gs)
 cleared_seen a b rs ram gs hs size same marks rest =
-    sym (with_hidden_is b hs (marks_cleared rs ram (with_hidden a gs)) (cleared_length rs ram (with_hidden a gs) ∙ with_hidden_length a gs ∙ sym size)
+    sym (with_hidden_is b hs (marks_cleared rs ram (with_hidden a gs)) (unmarked_length rs ram (with_hidden a gs) ∙ with_hidden_length a gs ∙ sym size)
     (λ k lt.
     let long = with_hidden_length a gs in
     cleared_at rs ram (with_hidden a gs) k (omega (arith, lt, size, long))
@@ -264,10 +259,6 @@ finish_seen gs hs rows v n front is holds w none =
 
 -- ---- a slice, where a sweep runs
 
-pub front_some : (f : Option ℕ) → is_some f ≡ true → f ≡ Some (unwrap_or f 0)
-front_some None h = absurd (let clash : false ≡ true = h in cc)
-front_some (Some n) h = refl
-
 pub front_none : (f : Option ℕ) → is_some f ≡ false → f ≡ None
 front_none None h = refl
 front_none (Some n) h = absurd (let clash : true ≡ false = h in cc)
@@ -317,9 +308,6 @@ pass_goes v rate low front lt =
     let test : nat_le (size_of (with_slice v low high)) high ≡ false = elim (le_tells (size_of (with_slice v low high)) high) [ inl a ↦ absurd (let le = a.1 in omega (arith, le, lt, size)) | inr a ↦ a.0 ] in
     ap (λ b. cond b (over (with_slice v low high)) (with_slice v low high)) (sym test) ∙ ap (λ f. passed_on v rate f) (sym front)
 
-same_number : (a b : ℕ) → (let x : Option ℕ = Some a in x) ≡ Some b → a ≡ b
-same_number a b e = cc
-
 mid_size : (hs : List Granule) (rows : Rows) (v : Seen) (low high : ℕ) → Mid hs rows v low high → 8 * length hs ≡ size_of v
 mid_size hs rows v low high m =
     ap (λ n. 8 * n) (sym (with_hidden_length (hidden hs rows) hs)) ∙ ap (λ (s : Seen). size_of s) m.is ∙ size_slice v low high
@@ -331,7 +319,7 @@ mid_front hs rows v low high m = ap (λ (s : Seen). s.front) m.is
 pub mid_ends : (hs : List Granule) (rows : Rows) (v : Seen) (low high size : ℕ) → Mid hs rows v low high → size ≡ 8 * length hs → rows.front ≡ Some size → size_of v ≤ high
 mid_ends hs rows v low high size m is finished =
     let all = mid_size hs rows v low high m in
-    let same = same_number high size (sym (mid_front hs rows v low high m) ∙ finished) in
+    let same = some_is high size (sym (mid_front hs rows v low high m) ∙ finished) in
     omega (arith, all, same, is)
 
 pub mid_goes : (hs : List Granule) (rows : Rows) (v : Seen) (low rate size : ℕ) → Mid hs rows v low (slice_end v rate low) → size ≡ 8 * length hs → (rows.front ≡ Some size → ⊥)

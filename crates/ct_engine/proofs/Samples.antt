@@ -1,6 +1,7 @@
 -- The threads of the tests may start, with a heap behind their stacks.
-use Rattle.std.proofs.Common.{ℕ, zero, suc, ◌≡◌, ◌+◌, ◌*◌, ◌%◌, ◌≤◌, inr, List, [], ◌∷◌, length, replicate, refl, sym, ap, ◌∙◌, arith, subst}
+use Rattle.std.proofs.Common.{ℕ, zero, ◌≡◌, ◌+◌, ◌*◌, ◌%◌, ◌≤◌, inr, List, [], ◌∷◌, length, replicate, refl, sym, ap, ◌∙◌, arith, subst}
 use Rattle.std.proofs.Math.ListN.{get_or}
+use Rattle.std.proofs.lemmas.List.{length-replicate}
 use Rattle.def_profile.specs.declared.limits.TheConstants.{RAM_END}
 use Rattle.def_memory.specs.declared.Granule.{Granule}
 use Rattle.def_memory.specs.Granules.{plain, nothing, cap_in}
@@ -14,15 +15,7 @@ use Rattle.ct_threads.specs.Starts.{IsFresh}
 use Rattle.ct_engine.specs.declared.rows.Region.{Region}
 use Rattle.ct_engine.specs.Kept.{StackLies}
 use Rattle.ct_engine.specs.Starts.{MayStart}
-
-count_of : (n : ℕ) → length (replicate n nothing) ≡ n
-count_of zero = refl
-count_of (suc n) = ap (λ m. suc m) (count_of n)
-
-none_held : (n k : ℕ) → cap_in (replicate n nothing) k ≡ plain 0
-none_held zero k = refl
-none_held (suc n) zero = refl
-none_held (suc n) (suc k) = none_held n k
+use Rattle.law_granules.proofs.Lists.{none_held}
 
 abbrev sample_area : ℕ → ℕ → Area
 sample_area trusted stack = record { ram = 2147483648; stack = stack; stack_length = 256; trusted = trusted; trusted_length = 288 }
@@ -52,7 +45,7 @@ pub may_start : (gs : List Granule) (f g : Fresh) (h : HeapRow) → gs ≡ repli
     → get_or f.first.regs 0 (plain 0) ≡ plain 0 → get_or g.first.regs 0 (plain 0) ≡ plain 0
     → h ≡ sample_heap → Empty h → MayStart gs sample_region (f ∷ g ∷ []) h
 may_start gs f g h is first second zero_f zero_g heap none =
-    let size : 8 * length gs ≡ 2048 = ap (λ (xs : List Granule). 8 * length xs) is ∙ ap (λ n. 8 * n) (count_of 256) in
+    let size : 8 * length gs ≡ 2048 = ap (λ (xs : List Granule). 8 * length xs) is ∙ ap (λ n. 8 * n) (length-replicate 256 nothing) in
     let one : IsFresh 2048 f = fresh_is f 2147483664 2147484672 first zero_f (has_area 2147483664 2147484672 refl (omega arith) (omega arith)) (omega arith) in
     let two : IsFresh 2048 g = fresh_is g 2147483952 2147484928 second zero_g (has_area 2147483952 2147484928 refl (omega arith) (omega arith)) (omega arith) in
     rw heap (record {

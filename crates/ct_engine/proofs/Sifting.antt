@@ -1,12 +1,11 @@
 -- The running thread's registers pass the load filter.
-use Rattle.std.proofs.Common.{ℕ, ◌≡◌, true, List, [], ◌∷◌, map, Some, refl, sym, ap, ◌∙◌, subst}
+use Rattle.std.proofs.Common.{ℕ, ◌≡◌, true, List, ◌∷◌, map, Some, refl, sym, ap, ◌∙◌, subst}
 use Rattle.std.proofs.Math.ListN.{get_or, set}
 use Rattle.law_hidden.proofs.Steps.{filtered_same}
 use Rattle.def_words.specs.declared.Cap.{Cap}
 use Rattle.def_memory.specs.declared.Granule.{Granule}
 use Rattle.def_machine.specs.Memory.{filtered_in}
 use Rattle.def_machine.specs.State.{Thread}
-use Rattle.def_areas.specs.Touches.{Touches}
 use Rattle.def_hidden.specs.Hiding.{with_hidden}
 use Rattle.ct_areas.specs.declared.thread.Thread as row
 use Rattle.ct_areas.specs.Threads.{area_begin, area_end, living, thread_of}
@@ -15,21 +14,15 @@ use Rattle.ct_threads.proofs.Filtering.{row_sifted, sifted_kept}
 use Rattle.ct_engine.specs.declared.rows.Rows.{Rows}
 use Rattle.ct_engine.specs.Seen.{engine_view, thread, after_filter, hidden, seen_of}
 use Rattle.ct_engine.specs.Kept.{AreasFrom, IsEngine}
-use Rattle.ct_engine.proofs.Whole.{runs_it, seen_turn, running_kept}
+use Rattle.ct_engine.proofs.Whole.{runs_it, seen_turn, running_kept, map_same}
 use Rattle.ct_engine.proofs.Ends.{call_areas, stays_on}
 use Rattle.ct_engine.proofs.Goes.{running_is}
+use Rattle.law_areas.proofs.Changes.{unchanged}
 
 -- ---- a row, and all that is seen
 
 abbrev pub thread_sifted : (Cap → Cap) → Thread → Thread
 thread_sifted f t = record t { registers = map f t.registers }
-
-map_same : (f k : Cap → Cap) → ((c : Cap) → f c ≡ k c) → (cs : List Cap) → map f cs ≡ map k cs
-map_same f k same [] = refl
-map_same f k same (c ∷ cs) = rw (same c, map_same f k same cs) refl
-
-unchanged : (gs : List Granule) (lo hi : ℕ) → Touches lo hi gs gs
-unchanged gs lo hi = record { size = refl; marks = λ k. refl; rest = λ k out. refl }
 
 pub filter_areas : (gs : List Granule) (rows : Rows) (t : ℕ) (r q : row.Thread) → IsEngine gs rows → rows.running ≡ Some t → r ≡ get_or rows.list.items t r
     → q ≡ row_sifted gs r → AreasFrom rows.region.ram gs rows.running 0 rows.region.trusted rows.region.end (set rows.list.items t q)

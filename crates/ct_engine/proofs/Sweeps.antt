@@ -25,6 +25,7 @@ use Rattle.law_hidden.proofs.Areas.{held_kept, registers_kept, frames_kept, pass
 use Rattle.ct_areas.specs.declared.thread.Thread as row
 use Rattle.ct_areas.specs.Threads.{HasArea, area_begin, living, thread_of}
 use Rattle.ct_areas.proofs.Places.{area_even}
+use Rattle.ct_threads.proofs.Clean.{plain_is}
 use Rattle.ct_threads.specs.Kept.{IsPlain, IsKept}
 use Rattle.ct_engine.specs.declared.rows.Rows.{Rows}
 use Rattle.ct_engine.specs.Seen.{Seen, threads_of, engine_view, seen_by, hidden, no_area}
@@ -131,9 +132,6 @@ threads_kept f z area ram gs run n from to (t ∷ ts) h begins =
     (threads_kept f z area ram gs run (n + 1) (t.area.trusted + t.area.trusted_length) to ts h.3 (begins_more area ram n t ts begins))
 
 -- ---- what is kept
-
-plain_is : (c : Cap) (n : ℕ) → c ≡ plain n → IsPlain c
-plain_is c n e = rw e refl
 
 -- what is kept of a plain word
 abbrev KeepsPlain : (ℕ → Cap → Cap) → Type 0

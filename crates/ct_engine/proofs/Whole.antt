@@ -25,10 +25,7 @@ use Rattle.ct_engine.specs.Seen.{Seen, threads_of, engine_view, thread, with_thr
 use Rattle.ct_engine.specs.Kept.{AreasFrom, HeapHolds, IsEngine}
 use Rattle.ct_engine.proofs.Lists.{Lies, OthersRun, lies, areas_put, threads_put, places_put, the_thread}
 use Rattle.ct_engine.proofs.HeapStays.{turn_objects}
-
--- who has a number
-pub itself : (t : ℕ) → is_number (Some t) t ≡ true
-itself t = elim (le_tells t t) [ inl e ↦ rw e.0 refl | inr e ↦ absurd (omega (arith, e.1)) ]
+use Rattle.law_moves.proofs.Slices.{is_itself}
 
 pub other : (t u : ℕ) → (u ≡ t → ⊥) → is_number (Some t) u ≡ false
 other t u no_ = elim (le_tells t u) [
@@ -130,7 +127,7 @@ areas_turn g gs hs ts run now t r q areas lt is touches runs place kept =
 
 -- who runs
 pub runs_it : (rows : Rows) (t : ℕ) → rows.running ≡ Some t → is_number rows.running t ≡ true
-runs_it rows t runs = ap (λ o. is_number o t) runs ∙ itself t
+runs_it rows t runs = ap (λ o. is_number o t) runs ∙ is_itself t
 
 pub none_runs : (rows : Rows) (t : ℕ) → rows.running ≡ None → is_number rows.running t ≡ false
 none_runs rows t runs = ap (λ o. is_number o t) runs
@@ -173,7 +170,7 @@ stop_seen gs hs rows t r q holds runs is touches place same =
 
 -- ---- a pick
 
-map_same : (f k : Cap → Cap) → ((c : Cap) → f c ≡ k c) → (cs : List Cap) → map f cs ≡ map k cs
+pub map_same : (f k : Cap → Cap) → ((c : Cap) → f c ≡ k c) → (cs : List Cap) → map f cs ≡ map k cs
 map_same f k same [] = refl
 map_same f k same (c ∷ cs) = rw (same c, map_same f k same cs) refl
 
@@ -185,7 +182,7 @@ pub pick_areas : (gs hs : List Granule) (rows : Rows) (t : ℕ) (r q : row.Threa
     → AreasFrom rows.region.ram hs (Some t) 0 rows.region.trusted rows.region.end (set rows.list.items t q)
 pick_areas gs hs rows t r q holds runs lt is touches place kept =
     areas_turn rows.region gs hs rows.list.items rows.running (Some t) t r q holds.areas lt is touches (takes_on rows.running t runs) place
-    (subst (λ b. IsKept hs b q) (sym (itself t)) kept)
+    (subst (λ b. IsKept hs b q) (sym (is_itself t)) kept)
 
 pub pick_seen : (gs hs : List Granule) (rows : Rows) (t : ℕ) (r q : row.Thread) → IsEngine gs rows → rows.running ≡ None → t < length rows.list.items
     → r ≡ get_or rows.list.items t r → Touches (area_begin r.area) (area_end r.area) gs hs → q.area ≡ r.area
@@ -201,7 +198,7 @@ pick_seen gs hs rows t r q holds runs lt is touches place same =
     ap (λ (u : Thread). picked_with (filtered_in rows.region.ram (with_hidden (hidden gs rows) gs)) u) here
     ∙ picked_same (filtered_in rows.region.ram (with_hidden (hidden gs rows) gs)) (filtered_in r.area.ram gs) (thread_of gs false r) keep in
     let now : thread_of hs (is_number (Some t) t) q ≡ picked_with (filtered_in rows.region.ram (with_hidden (hidden gs rows) gs)) (get_or (threads_of gs rows.running 0 rows.list.items) t nobody) =
-    subst (λ b. thread_of hs b q ≡ picked_with (filtered_in rows.region.ram (with_hidden (hidden gs rows) gs)) (get_or (threads_of gs rows.running 0 rows.list.items) t nobody)) (sym (itself t)) (same ∙ sym new) in
+    subst (λ b. thread_of hs b q ≡ picked_with (filtered_in rows.region.ram (with_hidden (hidden gs rows) gs)) (get_or (threads_of gs rows.running 0 rows.list.items) t nobody)) (sym (is_itself t)) (same ∙ sym new) in
     seen_turn rows gs hs rows.list.items rows.running (Some t) t r q _ holds.areas holds.heap lt is touches (takes_on rows.running t runs) place now
 
 -- ---- how many frames

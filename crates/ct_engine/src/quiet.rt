@@ -90,15 +90,15 @@ impl<M: Memory + Drop> Engine<M> {
         requires to { to < 16 }
         ensures { self.new ≡ advanced self.old t to (integer value) }
     {
-        steps::put(&mut self.rows, t, to, Live::integer(value));
+        steps::put(&mut self.rows, t, to, &Live::integer(value));
     }
 
     /// The running thread goes on after its instruction, and a register gets a value, which register 0 drops.
     #[inline(always)]
-    pub fn put(&mut self, t: u32, to: u32, value: Live)
+    pub fn put(&mut self, t: u32, to: u32, value: &Live)
         requires runs { self.old.running ≡ Some t }
         requires to { to < 16 }
-        ensures { self.new ≡ advanced self.old t to value }
+        ensures { self.new ≡ advanced self.old t to value.now }
     {
         steps::put(&mut self.rows, t, to, value);
     }

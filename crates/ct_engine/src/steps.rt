@@ -141,13 +141,13 @@ pub(crate) fn address_in(rows: &Rows, t: u32, number: u32) -> u32
 
 /// The running thread goes on after its instruction; a register gets a value.
 #[inline(always)]
-pub(crate) fn put(rows: &mut Rows, t: u32, to: u32, value: Live)
+pub(crate) fn put(rows: &mut Rows, t: u32, to: u32, value: &Live)
     requires there { t < length rows.old.list.items }
     requires runs { rows.old.running ≡ Some t }
     requires to { to < 16 }
     ensures holds { (gs : List Granule) → IsEngine gs rows.old → IsEngine gs rows.new }
     ensures seen { (gs : List Granule) → IsEngine gs rows.old
-        → engine_view gs rows.new ≡ advanced (engine_view gs rows.old) t to value }
+        → engine_view gs rows.new ≡ advanced (engine_view gs rows.old) t to value.now }
 {
     put_row(&mut rows.list[t as usize], to, value);
 }

@@ -5,9 +5,10 @@ use Rattle.def_image.specs.declared.ImportRow.{ImportRow}
 use Rattle.def_image.specs.declared.SlotKind.{SlotKind}
 use Rattle.def_image.specs.declared.SlotKind.TheVariants.{Service, Call, Library}
 use Rattle.def_image.specs.Parts.{GateRow, CodeRow, CompartmentRow, PartsRow}
-use Rattle.def_image.specs.Members.{compartment, gate_number, library, library_gate_number, no_code, no_compartment}
+use Rattle.def_image.specs.Members.{compartment, gate_number, library, library_gate_number}
 use Rattle.def_image.specs.Sound.{Names, SlotFits, Sound}
 use Rattle.law_image.proofs.Members.{all_at}
+use Rattle.law_image.proofs.Sounds.{compartment_is, library_is}
 use Rattle.ct_entries.specs.Fits.{CompartmentStands, HasExport, entry_at}
 use Rattle.ct_entries.proofs.Standing.{stands}
 
@@ -21,12 +22,6 @@ within : {A : Type 0} (xs : List A) (i : ℕ) (x : A) → slice_get xs i ≡ Som
 within [] i x is = cc
 within (y ∷ ys) zero x is = omega arith
 within (y ∷ ys) (suc i) x is = let later : i < length ys = within ys i x is in omega (arith, later)
-
-pub compartment_is : (p : PartsRow) (b : ℕ) (c : CompartmentRow) → slice_get p.compartments b ≡ Some c → compartment p b ≡ c
-compartment_is p b c at = ap (λ o. unwrap_or o no_compartment) at
-
-library_is : (p : PartsRow) (l : ℕ) (c : CodeRow) → slice_get p.libraries l ≡ Some c → library p l ≡ c
-library_is p l c at = ap (λ o. unwrap_or o no_code) at
 
 entry_is : (xs : List GateRow) (j : ℕ) (x : GateRow) → slice_get xs j ≡ Some x → entry_at xs j ≡ x.row.entry
 entry_is xs j x at = ap (λ o. unwrap_or (option_map (λ (y : GateRow). y.row.entry) o) 0) at

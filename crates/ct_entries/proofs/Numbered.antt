@@ -1,23 +1,19 @@
 -- The numbers of error handlers, in the rows of exports and by their places.
-use Rattle.std.proofs.Common.{ℕ, suc, ◌≡◌, ◌+◌, ◌<◌, Bool, List, [], ◌∷◌, Option, Some, None, length, map, slice_get, sym, ap, refl, ◌∙◌, arith}
+use Rattle.std.proofs.Common.{ℕ, suc, ◌≡◌, ◌+◌, ◌<◌, List, [], ◌∷◌, Option, Some, None, length, map, slice_get, sym, ap, refl, ◌∙◌, arith}
 use Rattle.std.specs.Prelude.{unwrap_or, option_map, position}
-use Rattle.std.proofs.lemmas.List.Quantifiers.{position-Some}
+use Rattle.law_lists.proofs.Places.{present}
+use Rattle.law_lists.proofs.Finds.{position_inside}
 use Rattle.def_image.specs.Parts.{CompartmentRow, PartsRow}
 use Rattle.def_image.specs.Members.{gate_number, handler_number, is_handler}
 use Rattle.def_image.specs.Sound.{Sound}
 use Rattle.def_boot.specs.Boot.{numbered_from}
-use Rattle.law_image.proofs.Members.{some_in}
 use Rattle.ct_entries.specs.Fits.{HasExport, entry_at, handler_in}
-use Rattle.ct_entries.proofs.Named.{compartment_is, export_numbered}
-
--- what was found is one of them
-found_inside : {A : Type 0} (p : A → Bool) (xs : List A) (k : ℕ) → position p xs ≡ Some k → k < length xs
-found_inside p [] k found = cc
-found_inside p (x ∷ xs) k found = (position-Some p (x ∷ xs) k x found).0
+use Rattle.ct_entries.proofs.Named.{export_numbered}
+use Rattle.law_image.proofs.Sounds.{compartment_is}
 
 module _ (p : PartsRow) (s : Sound p) where
   export_there : (b j : ℕ) (c : CompartmentRow) → slice_get p.compartments b ≡ Some c → j < length c.code.exports → HasExport p b j
-  export_there b j c at inside = let some = some_in c.code.exports j inside in (c, some.0, at, some.1)
+  export_there b j c at inside = let some = present c.code.exports j inside in (c, some.0, at, some.1)
 
   handler_numbered : (b : ℕ) (c : CompartmentRow) → slice_get p.compartments b ≡ Some c → handler_in c ≡ handler_number p b
   handler_numbered b c at =
@@ -28,7 +24,7 @@ module _ (p : PartsRow) (s : Sound p) where
       by None found = refl
       by (Some j) found =
           ap (λ (d : CompartmentRow). entry_at d.code.exports j) (sym (compartment_is p b c at))
-          ∙ export_numbered p b j s (export_there b j c at (found_inside is_handler c.code.exports j found))
+          ∙ export_numbered p b j s (export_there b j c at (position_inside is_handler c.code.exports j found))
 
   numbered : (i : ℕ) (cs : List CompartmentRow) → ((j : ℕ) → slice_get cs j ≡ slice_get p.compartments (i + j)) → map handler_in cs ≡ numbered_from (handler_number p) i (length cs)
   numbered i [] same = refl

@@ -1,10 +1,7 @@
 -- The parts of a sound image stand in 32 bits.
-use Rattle.std.proofs.Common.{ℕ, zero, suc, ◌≡◌, ◌+◌, ◌^◌, ◌<◌, ◌≤◌, List, [], ◌∷◌, ◌++◌, length, drop, get_or, Some, slice_get, refl, sym, subst, arith}
+use Rattle.std.proofs.Common.{ℕ, zero, suc, ◌≡◌, ◌+◌, ◌^◌, ◌<◌, List, [], ◌∷◌, ◌++◌, length, drop, get_or, Some, slice_get, refl, sym, subst, arith}
 use Rattle.std.specs.List.{AllByRecursion}
 use Rattle.law_lists.proofs.Alls.{all_left, all_right}
-use Rattle.def_words.specs.LeastBounds.{exponent_for}
-use Rattle.law_words.proofs.Leasts.{ceil_above}
-use Rattle.def_layout.specs.Placement.{whole_size, region_length}
 use Rattle.def_image.specs.Parts.{CodeRow, CompartmentRow, PartsRow}
 use Rattle.def_image.specs.Sizes.{compartment_size, library_size, compartments_at, libraries_at, threads_at, shared_at, sealed_at}
 use Rattle.def_image.specs.Spelling.{raw_code, raw_compartment, raw_of}
@@ -14,6 +11,7 @@ use Rattle.law_image.proofs.Members.{all_at}
 use Rattle.law_image.proofs.Sounds.{sound}
 use Rattle.def_image.specs.Accepted.{IsFaultless}
 use Rattle.ct_entries.specs.Fits.{HasFit, Starts, CodeStands, CompartmentStands, PartsFit}
+use Rattle.law_layout.proofs.Placing.{size_fits}
 
 pub faultless_is_sound : (p : PartsRow) → IsFaultless p → Sound p
 faultless_is_sound p f = sound p f
@@ -34,12 +32,6 @@ first_of P (y ∷ ys) (suc i) x lt is h = first_of P ys i x (omega (arith, lt)) 
 
 Ends : RegionRow → Type 0
 Ends r = r.base + r.length < 2 ^ 32
-
-long_enough : (size : ℕ) → size ≤ region_length size
-long_enough size =
-    let unit : size ≤ whole_size size = omega arith in
-    let up = ceil_above (whole_size size) (exponent_for 0 (whole_size size)) in
-    omega (arith, unit, up)
 
 -- of each compartment its code and its export table, of each library its code
 abbrev CompartmentEnds : CompartmentRow → Type 0
@@ -109,7 +101,7 @@ module _ (p : PartsRow) (s : Sound p) where
   compartment_stands : (b : ℕ) (c : CompartmentRow) → slice_get p.compartments b ≡ Some c → CompartmentStands p c
   compartment_stands b c is =
       let ends = (all_at CompartmentEnds p.compartments b c parts_end is).1 in
-      let long = long_enough (table_size c.code) in
+      let long = size_fits (table_size c.code) in
       record { code = own_code b c is; table = omega (arith, ends, long) }
 
   library_stands : (l : ℕ) (c : CodeRow) → slice_get p.libraries l ≡ Some c → CodeStands p c

@@ -14,7 +14,7 @@ ghost use Rattle.ct_execute.specs.Opening.{MayGo};
 use crate::ran::{ActBy, Ran};
 use ct_alu::alu;
 use ct_bus::Bus;
-use ct_cap::{Live, Trap, add_address};
+use ct_cap::{Live, Trap, raise};
 use ct_capstep::capstep;
 use ct_decode::{class_of, operands_of};
 use ct_engine::Engine;
@@ -33,7 +33,8 @@ fn advance<M: Memory + Drop>(engine: &mut Engine<M>, t: u32, to: u32, value: Liv
     requires to { to < 16 }
     ensures { engine.new ≡ advanced engine.old t to value }
 {
-    let pcc = add_address(engine.pcc(t), 4);
+    let mut pcc = engine.pcc(t);
+    raise(&mut pcc, 4);
     let posture = engine.posture(t);
     engine.jump_to(t, pcc, posture, to, value);
 }

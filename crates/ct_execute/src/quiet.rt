@@ -56,11 +56,33 @@ pub fn execute_quietly<M: Memory + Drop>(
     let at = engine.address(t);
     match engine.word_at(at) {
         Some(word) => {
+            if decoded.holds(at, word) {
+                return execute_class(engine, t, decoded.reading(at));
+            }
             decoded.keep(at, word);
-            execute_class(engine, t, decoded.reading(at))
+            execute_anew(engine, t, decoded.reading(at))
         }
         None => false,
     }
+}
+
+/// What was read just now is carried out as `execute_class` does, so seldom that it stands apart.
+#[inline(never)]
+fn execute_anew<M: Memory + Drop>(engine: &mut Engine<M>, t: u32, reading: &Reading) -> bool
+    requires runs { engine.old.running ≡ Some t }
+    requires opened { IsOpen engine.old t }
+    requires even { engine.old.region.ram % 16 ≡ 0 }
+    requires says { (i : Instr) → reading.now.instruction ≡ Some i → Says reading.now i }
+    requires registers { AreRegisters reading.now.operands }
+    ensures when { result
+        ≡ goes_at (thread engine.old t) engine.old.region.ram
+        engine.old.granules (next_word reading.now.instruction) }
+    ensures quiet { result ≡ true → IfSome reading.now.instruction
+        (λ i. CarriesQuietly engine.old t i engine.new) }
+    ensures same { result ≡ false → engine.new ≡ engine.old }
+    ensures stays { Stays engine.old engine.new }
+{
+    execute_class(engine, t, reading)
 }
 
 /// What was read is carried out where it is such an instruction; else `false`, and nothing changes.
@@ -213,7 +235,7 @@ fn access<M: Memory + Drop>(engine: &mut Engine<M>, t: u32, reading: &Reading) -
     if reading.access.whole {
         return match engine.load_capability(t, first, &reading.access) {
             Some(value) => {
-                engine.put(t, reading.operands.to, value);
+                engine.put(t, reading.operands.to, &value);
                 true
             }
             None => false,
@@ -243,5 +265,5 @@ fn derive<M: Memory + Drop>(engine: &mut Engine<M>, t: u32, reading: &Reading, i
         engine.register_ref(t, reading.operands.second),
         engine.pcc_ref(t),
     );
-    engine.put(t, reading.operands.to, value);
+    engine.put(t, reading.operands.to, &value);
 }

@@ -7,7 +7,7 @@ ghost use Rattle.def_step.specs.Jumps.{flow_result, target_at, jumped_to, passed
 use crate::branches::takes;
 use crate::outcome::Flow;
 use crate::registers::register_jump;
-use ct_cap::{Live, Posture, Trap, add_address, link, set_address};
+use ct_cap::{Live, Posture, Trap, link, raise, turn};
 use def_instr::Instr;
 use def_profile::traps::MISALIGNED_FETCH;
 
@@ -18,9 +18,11 @@ fn jump_to(pcc: Live, posture: Posture, target: u32, link: Option<Live>) -> Resu
     if target % 4 != 0 {
         return Err(Trap::plain(MISALIGNED_FETCH));
     }
+    let mut next = pcc;
+    turn(&mut next, target);
     Ok(Flow {
         link,
-        pcc: set_address(pcc, target),
+        pcc: next,
         posture,
     })
 }
@@ -39,9 +41,11 @@ fn branch(taken: bool, pcc: Live, posture: Posture, offset: u32) -> Result<Flow,
 fn pass_over(pcc: Live, posture: Posture) -> Result<Flow, Trap>
     ensures { result ≡ passed_over pcc posture }
 {
+    let mut next = pcc;
+    raise(&mut next, 4);
     Ok(Flow {
         link: None,
-        pcc: add_address(pcc, 4),
+        pcc: next,
         posture,
     })
 }

@@ -6,7 +6,7 @@ ghost use Rattle.def_step.specs.Checks.{first_failed};
 ghost use Rattle.def_step.specs.Jumps.{register_jumped, register_jump_checks, register_target};
 
 use crate::outcome::Flow;
-use ct_cap::{Live, Permission, Posture, Trap, link, open, set_address};
+use ct_cap::{Live, Permission, Posture, Trap, link, open, turn};
 use def_profile::seals::{
     RETURN_DISABLE, RETURN_ENABLE, SENTRY_DISABLE, SENTRY_ENABLE, SENTRY_INHERIT,
 };
@@ -91,9 +91,11 @@ pub(crate) fn register_jump(
     if let Some(trap) = first_trap(to, at, x, immediate) {
         return Err(trap);
     }
+    let mut next = open(x);
+    turn(&mut next, target_of(x, immediate));
     Ok(Flow {
         link: Some(link(pcc, posture)),
-        pcc: set_address(open(x), target_of(x, immediate)),
+        pcc: next,
         posture: posture_through(posture, x.seal, named, x.cap.shadow.source),
     })
 }

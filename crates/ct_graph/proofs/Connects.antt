@@ -4,10 +4,10 @@ use Rattle.std.proofs.lemmas.Bool.{cases_eq}
 use Rattle.ct_entry.specs.declared.rows.Owner.{Owner}
 use Rattle.ct_entry.specs.declared.rows.Owner.TheVariants.{Trusted, Compartment, Library, Thread}
 use Rattle.ct_entry.specs.Listed.{Listed}
-use Rattle.def_reach.specs.Sharing.{Brings, Joined, Imports, Reaches}
+use Rattle.def_reach.specs.Sharing.{Joined, Imports, Reaches}
 use Rattle.def_reach.specs.Sharing as reach
 use Rattle.def_reach.specs.Route.{IsWay}
-use Rattle.law_reach.proofs.Joins.{no_imports, same_compartment}
+use Rattle.law_reach.proofs.Joins.{no_imports, same_compartment, imports_on}
 
 -- a list of steps
 pub record Way (e : Listed) (o : Owner) (b : ℕ) : Type 0 where
@@ -33,10 +33,6 @@ pub way_of : (e : Listed) (o : Owner) (b : ℕ) → Reaches e o b → Way e o b
 way_of e o b h = against_imports e (Compartment h.by) h.through o b h.imports (along_edges e h.by h.joined.members b h.joined.leads)
 
 -- ---- back
-
-imports_on : (e : Listed) (a : Owner) (xs : List Owner) (o p : Owner) → Imports e a xs o → Brings e o p → Imports e a (xs ++ p ∷ []) p
-imports_on e a [] o p h brings = let here : Brings e a p = subst (λ x. Brings e x p) (sym h) brings in (here, refl)
-imports_on e a (x ∷ xs) o p h brings = (h.0, imports_on e x xs o p h.1 brings)
 
 back : (e : Listed) (o : Owner) (xs : List Owner) (b : ℕ) → IsWay e o xs (Compartment b) → Reaches e o b
 back e o [] b h = record { by = b; through = []; imports = sym h; joined = record { members = []; leads = refl } }

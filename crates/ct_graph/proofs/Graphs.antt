@@ -13,7 +13,7 @@ use Rattle.ct_graph.specs.Cells.{cell, far, IsDistance, Walks}
 use Rattle.ct_graph.specs.Links.{links_of, link_of, own, goes}
 use Rattle.ct_graph.specs.Nodes.{is_node, nodes_of, with_node, node, matrix_of, IsNode, AllDistances, HasRows, IsGraph, IsNear, IsRoute, HasStep, NoStep, NotNear, stands_among, row_of, rows_of}
 use Rattle.ct_graph.specs.declared.links.Link.{Link}
-use Rattle.ct_graph.proofs.Orders.{nodes_have, stands_at, among}
+use Rattle.ct_graph.proofs.Orders.{nodes_have, among}
 use Rattle.ct_graph.proofs.Steps.{step_found, step_made}
 use Rattle.ct_graph.proofs.Transfer.{cell_is, owner_listed, path_is, near_reaches, reaches_near}
 use Rattle.std.proofs.lemmas.List.{length-map}
@@ -60,9 +60,6 @@ both_of e (Compartment a) c part r = record { start = r.0; end = r.1; reaches = 
 both_of e (Library l) c part r = record { start = r.0; end = r.1; reaches = r.2 }
 both_of e Trusted c part r = absurd (both_ways false refl part)
 both_of e (Thread t) c part r = absurd (both_ways false refl part)
-
-stands_of : (e : Listed) (ns : List Owner) (o : Owner) → ns ≡ nodes_of (links_of e) → is_node o ≡ true → has_entry e.rows o ≡ true → (i : ℕ) × IsNode ns o i
-stands_of e ns o is part has = stands_at ns o (subst (λ l. list_any (λ (n : Owner). same_owner n o) l ≡ true) (sym is) (nodes_have e o part ∙ has))
 
 pub not_reached : (e : Listed) (ns : List Owner) (steps : List (List Bool)) (all : List (List ℕ)) (o : Owner) (c : ℕ) → IsGraph e ns steps all → is_node o ≡ true → NotNear ns all o (Compartment c) → Reached e o c → ⊥
 not_reached e ns steps all o c g part (inl none) reached =
@@ -145,7 +142,7 @@ others_reach_none e (Thread t) c h n r = r
 
 -- ---- edges
 
-neighbours_of : (e : Listed) (a b : ℕ) → Step e (Compartment a) (Compartment b) → Neighbours e (Compartment a) (Compartment b)
+pub neighbours_of : (e : Listed) (a b : ℕ) → Step e (Compartment a) (Compartment b) → Neighbours e (Compartment a) (Compartment b)
 neighbours_of e a b (inl brings) = absurd brings.is_library
 neighbours_of e a b (inr n) = n
 

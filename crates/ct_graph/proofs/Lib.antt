@@ -4,8 +4,10 @@ pub mod Relaxing
 pub mod Levels
 pub mod Owners
 pub mod Passing
+pub mod Holding
 pub mod Steps
 pub mod Connects
 pub mod Orders
 pub mod Transfer
 pub mod Graphs
+pub mod Reached

@@ -1,5 +1,5 @@
 -- The test of a step says that there is a step, and finds each.
-use Rattle.std.proofs.Common.{◌≡◌, ◌≢◌, ℕ, zero, suc, Bool, true, false, not, ◌&&◌, Option, Some, None, refl, ap, sym, ◌∙◌, subst, inl, inr, slice_get, nat_eq}
+use Rattle.std.proofs.Common.{◌≡◌, ◌≢◌, ℕ, zero, suc, Bool, true, false, not, ◌&&◌, Option, Some, None, refl, ap, sym, ◌∙◌, subst, inl, inr, slice_get, nat_eq, List}
 use Rattle.std.specs.List.{list_any}
 use Rattle.std.proofs.lemmas.Bool.{cases_Bool, and_parts, and_from, or_cases, both_ways, eqb-true, eq-eqb, not-true, or_left, or_right}
 use Rattle.def_words.specs.Permissions.{bit, memory_capability}
@@ -75,7 +75,7 @@ pub record Row (e : Listed) (n : ℕ) (k : Kind) : Type 0 where
   pub of_is : (root_of e n).of ≡ row.of
   pub rights_are : (root_of e n).rights ≡ row.rights
 
-origin_of : (r : Entry) (g : Gate) (k : Kind) → (listed_root (Some r) g).origin ≡ Listing k → r.kind ≡ k
+pub origin_of : (r : Entry) (g : Gate) (k : Kind) → (listed_root (Some r) g).origin ≡ Listing k → r.kind ≡ k
 origin_of r g k h = cc
 
 by_row : (e : Listed) (n : ℕ) (k : Kind) (o : Option Entry) → slice_get e.rows n ≡ o → (root_of e (suc n)).origin ≡ Listing k → Row e (suc n) k
@@ -222,6 +222,26 @@ shares_made e a b object ha hb =
     let of_is : r.row.of ≡ object = sym r.of_is ∙ ha.object_is in
     let other : list_any (holds r.row.of) (own (links_of e) (Compartment b)) ≡ true = subst (λ n. list_any (holds n) (own (links_of e) (Compartment b)) ≡ true) (sym of_is) (holds_made e b object hb) in
     own_made e (Compartment a) (shares (own (links_of e) (Compartment b))) r.place r.row r.at (sym r.owner_is ∙ ha.importer) (and_from _ _ (and_from _ _ slot carries) other)
+
+shared_back : (ls ms : List Link) → list_any (shares ms) ls ≡ true → list_any (shares ls) ms ≡ true
+shared_back ls ms h =
+    let l : FoundAt (shares ms) ls = at_any (shares ms) ls h in
+    let l_is : ((is_shared l.element.kind && l.element.carries) ≡ true) × (list_any (holds l.element.of) ms ≡ true) = and_parts _ _ l.passes in
+    let m : FoundAt (holds l.element.of) ms = at_any (holds l.element.of) ms l_is.1 in
+    let m_is : ((is_shared m.element.kind && m.element.carries) ≡ true) × (nat_eq m.element.of l.element.of ≡ true) = and_parts _ _ m.passes in
+    let back : list_any (holds m.element.of) ls ≡ true =
+    any_at (holds m.element.of) ls l.place l.element l.at (and_from _ _ l_is.0 (eq-eqb l.element.of m.element.of (sym (eqb-true m.element.of l.element.of m_is.1)))) in
+    any_at (shares ls) ms m.place m.element m.at (and_from _ _ m_is.0 back)
+
+-- two owners share an object from either side
+pub shared_both_ways : (ls ms : List Link) → list_any (shares ms) ls ≡ list_any (shares ls) ms
+shared_both_ways ls ms = elim (cases_Bool (list_any (shares ms) ls)) [
+  | inl t ↦ t ∙ sym (shared_back ls ms t)
+  | inr f ↦ elim (cases_Bool (list_any (shares ls) ms)) [
+    | inl t ↦ absurd (both_ways _ f (shared_back ms ls t))
+    | inr g ↦ f ∙ sym g
+  ]
+]
 
 pub meets_found : (e : Listed) (a b : ℕ) → meets (Compartment a) (own (links_of e) (Compartment a)) (Compartment b) (own (links_of e) (Compartment b)) ≡ true → Edge e a b
 meets_found e a b h = elim (or_cases _ _ h) [

@@ -44,6 +44,10 @@ brings a l = is_library_slot l.kind && same_owner l.target a
 abbrev pub holds : ℕ → Link → Bool
 holds object m = (is_shared m.kind && m.carries) && (m.of == object)
 
+-- for each number below the list's length, whether the links share that object so that capabilities pass
+pub record AreHeld (ls : List Link) (held : List Bool) : Type 0 where
+  pub each : (n : ℕ) → n < length held → slice_index_or held n false ≡ list_any (holds n) ls
+
 abbrev pub shares : List Link → Link → Bool
 shares ms l = (is_shared l.kind && l.carries) && list_any (holds l.of) ms
 

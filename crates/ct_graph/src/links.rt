@@ -1,12 +1,12 @@
 //! What the graph reads of each row, and whether one owner has a step to another.
 
-ghost use Rattle.std.specs.Prelude.{ℕ, ◌≡◌, ◌+◌, ◌==◌, ◌/◌, ◌%◌, ◌^◌, ◌<◌, List, Bool, map, IfOk, length, nat_lt, slice_set, if◌then◌else◌};
+ghost use Rattle.std.specs.Prelude.{ℕ, ◌≡◌, ◌+◌, ◌==◌, ◌/◌, ◌%◌, ◌^◌, ◌<◌, List, Bool, true, map, IfOk, length, nat_lt, slice_set, if◌then◌else◌};
 ghost use Rattle.std.specs.List.{list_any, filter};
 ghost use Rattle.def_words.specs.Permissions.{bit};
 ghost use Rattle.ct_entry.specs.Kinds.{is_compartment, is_library, is_shared};
 ghost use Rattle.def_reach.specs.Roots.{root_of};
 ghost use Rattle.def_reach.specs.Reach.{same_owner};
-ghost use Rattle.ct_graph.specs.Links.{ArePassing, link_of, links_of, own, calls, brings, shares, meets, steps, holds};
+ghost use Rattle.ct_graph.specs.Links.{AreHeld, ArePassing, link_of, links_of, own, calls, brings, shares, meets, steps, holds};
 ghost use Rattle.std.specs.Prelude.{◌&&◌};
 
 use ct_entry::{Entries, Entry, Gate, Kind, Owner};
@@ -126,13 +126,45 @@ pub(crate) fn own_links(
     Ok(all)
 }
 
-/// Whether a path may step from one owner to another, by their links.
-pub(crate) fn goes(a: Owner, from: &[Link], b: Owner, to: &[Link]) -> bool
+/// For each object's number below a count, whether one of these links shares it so that capabilities
+/// pass.
+pub(crate) fn objects_held(
+    alloc: Global,
+    links: &[Link],
+    count: usize,
+) -> Result<Vec<bool>, AllocError>
+    ensures size { IfOk result (λ v. length v.items ≡ count) }
+    ensures held { IfOk result (λ v. AreHeld links.now v.items) }
+{
+    let mut all = vec![in alloc; false; count]?;
+    for link in links {
+        note_object(&mut all, *link);
+    }
+    Ok(all)
+}
+
+/// Notes the object that a link shares so that capabilities pass, if its number is below the count.
+fn note_object(all: &mut Vec<bool>, link: Link)
+    ensures { all.new.items
+        ≡ (if (is_shared link.kind && link.carries) && nat_lt link.of (length all.old.items)
+        then slice_set all.old.items link.of true
+        else all.old.items) }
+{
+    let object = link.of as usize;
+    if !shares_capabilities(link) || object >= all.len() {
+        return;
+    }
+    all[object] = true;
+}
+
+/// Whether a path may step from one owner to another, by their links and the first one's objects.
+pub(crate) fn goes(a: Owner, from: &[Link], held: &[bool], b: Owner, to: &[Link]) -> bool
+    requires { AreHeld from.now held.now }
     ensures { result ≡ steps a from.now b to.now }
 {
     match a {
         Owner::Library(_) => imports_one(to, a),
-        Owner::Compartment(_) => is_part(b) && !same(a, b) && neighbours(a, from, b, to),
+        Owner::Compartment(_) => is_part(b) && !same(a, b) && neighbours(a, from, held, b, to),
         _ => false,
     }
 }
@@ -147,10 +179,11 @@ fn is_part(owner: Owner) -> bool
 }
 
 /// Whether one calls the other so that capabilities pass, or both share an object so.
-fn neighbours(a: Owner, from: &[Link], b: Owner, to: &[Link]) -> bool
+fn neighbours(a: Owner, from: &[Link], held: &[bool], b: Owner, to: &[Link]) -> bool
+    requires { AreHeld from.now held.now }
     ensures { result ≡ meets a from.now b to.now }
 {
-    calls_one(from, b) || calls_one(to, a) || share_one(from, to)
+    calls_one(from, b) || calls_one(to, a) || share_one(from, held, to)
 }
 
 fn imports_one(links: &[Link], library: Owner) -> bool
@@ -183,16 +216,26 @@ fn calls_to(link: Link, target: Owner) -> bool
     }
 }
 
-fn share_one(from: &[Link], to: &[Link]) -> bool
+/// Whether two share an object so: each that the second one shares is looked up among the first one's.
+fn share_one(from: &[Link], held: &[bool], to: &[Link]) -> bool
+    requires { AreHeld from.now held.now }
     ensures { result ≡ list_any (shares to.now) from.now }
 {
-    from.iter().any(|l| shares_with(*l, to))
+    shares_any(to, from, held)
 }
 
-fn shares_with(link: Link, links: &[Link]) -> bool
+fn shares_any(links: &[Link], others: &[Link], held: &[bool]) -> bool
+    requires { AreHeld others.now held.now }
+    ensures { result ≡ list_any (shares others.now) links.now }
+{
+    links.iter().any(|l| shares_with(*l, others, held))
+}
+
+fn shares_with(link: Link, links: &[Link], held: &[bool]) -> bool
+    requires { AreHeld links.now held.now }
     ensures { result ≡ shares links.now link }
 {
-    shares_capabilities(link) && holds_object(links, link.of)
+    shares_capabilities(link) && holds_object(links, held, link.of)
 }
 
 fn shares_capabilities(link: Link) -> bool
@@ -204,10 +247,16 @@ fn shares_capabilities(link: Link) -> bool
     }
 }
 
-fn holds_object(links: &[Link], object: u32) -> bool
+/// Whether links share this object so, by what is noted of them, or link by link past its end.
+fn holds_object(links: &[Link], held: &[bool], object: u32) -> bool
+    requires { AreHeld links.now held.now }
     ensures { result ≡ list_any (holds object) links.now }
 {
-    links
-        .iter()
-        .any(|m| shares_capabilities(*m) && m.of == object)
+    if (object as usize) < held.len() {
+        held[object as usize]
+    } else {
+        links
+            .iter()
+            .any(|m| shares_capabilities(*m) && m.of == object)
+    }
 }

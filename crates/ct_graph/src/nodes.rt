@@ -10,7 +10,7 @@ ghost use Rattle.ct_graph.specs.Cells.{cell};
 ghost use Rattle.ct_graph.specs.Links.{own, steps};
 ghost use Rattle.ct_graph.specs.Nodes.{is_node, row_of, rows_of, with_node, nodes_of, IsPlaceFor, IsNode};
 
-use crate::links::{Link, goes, own_links, same};
+use crate::links::{Link, goes, objects_held, own_links, same};
 use ct_entry::Owner;
 use std::alloc::{AllocError, Global};
 
@@ -103,30 +103,36 @@ pub(crate) fn all_links(
     Ok(all)
 }
 
-/// To which nodes one node, which has the links `from`, has a step.
+/// To which nodes one node, which has the links `from`, has a step. The objects that it shares are
+/// noted once, below a count.
 pub(crate) fn row(
     alloc: Global,
     owner: Owner,
     from: &[Link],
     nodes: &[Owner],
     links: &[Vec<Link>],
+    count: usize,
 ) -> Result<Vec<bool>, AllocError>
     requires size { length links.now ≡ length nodes.now }
     ensures { IfOk result
         (λ v. v.items ≡ row_of owner from.now nodes.now (map (λ l. l.items) links.now)) }
 {
+    let held = objects_held(alloc, from, count)?;
     let mut all = Vec::new(alloc);
     for place in 0..nodes.len() {
-        all.push(goes(owner, from, nodes[place], links[place].as_slice()))?;
+        let to = links[place].as_slice();
+        all.push(goes(owner, from, held.as_slice(), nodes[place], to))?;
     }
     Ok(all)
 }
 
-/// For each node, to which nodes it has a step.
+/// For each node, to which nodes it has a step. The objects that a node shares are noted below a
+/// count.
 pub(crate) fn rows(
     alloc: Global,
     nodes: &[Owner],
     links: &[Vec<Link>],
+    count: usize,
 ) -> Result<Vec<Vec<bool>>, AllocError>
     requires size { length links.now ≡ length nodes.now }
     ensures { IfOk result
@@ -136,7 +142,8 @@ pub(crate) fn rows(
 {
     let mut all = Vec::new(alloc);
     for place in 0..nodes.len() {
-        all.push(row(alloc, nodes[place], links[place].as_slice(), nodes, links)?)?;
+        let from = links[place].as_slice();
+        all.push(row(alloc, nodes[place], from, nodes, links, count)?)?;
     }
     Ok(all)
 }

@@ -71,7 +71,7 @@ impl Graph {
         let all = links(alloc, e)?;
         let nodes = nodes(alloc, all.as_slice())?;
         let own = all_links(alloc, all.as_slice(), nodes.as_slice())?;
-        let steps = rows(alloc, nodes.as_slice(), own.as_slice())?;
+        let steps = rows(alloc, nodes.as_slice(), own.as_slice(), all.len() + 1)?;
         let far = all_distances(alloc, steps.as_slice())?;
         let rows = Vec::from_slice(alloc, e.rows.as_slice())?;
         let gates = Vec::from_slice(alloc, e.gates.as_slice())?;

@@ -2,8 +2,9 @@
 use Rattle.std.proofs.Common.{ℕ, zero, suc, ◌≡◌, ◌+◌, ◌-◌, ◌*◌, ◌/◌, ◌%◌, ◌^◌, ◌<◌, ◌≤◌, lit<, ap, ◌∙◌, arith}
 use Rattle.std.proofs.Math.Nat.{pow-le-pow_right}
 use Rattle.std.proofs.lemmas.Nat.{pow-add, mul-mod_second, div-add-mod'}
-use Rattle.def_words.specs.LeastBounds.{alignment_of, exponent_for, ceil_units, round_length_of}
+use Rattle.def_words.specs.LeastBounds.{alignment_of, exponent_for, round_length_of}
 use Rattle.def_chunks.specs.Heaps.{IsUnit}
+use Rattle.law_words.proofs.Leasts.{rounded_eights}
 
 -- the greater powers of two are whole granules
 pub power_whole : (k : ℕ) → 2 ^ (k + 3) % 8 ≡ 0
@@ -12,23 +13,8 @@ power_whole k =
     let rest : (2 ^ k * (8 % 8)) % 8 ≡ (2 ^ k * 8) % 8 = mul-mod_second (2 ^ k) 8 8 in
     omega (arith, parts, rest)
 
-times_whole : (a k : ℕ) → (a * 2 ^ (k + 3)) % 8 ≡ 0
-times_whole a k =
-    let power = power_whole k in
-    let product : (a * (2 ^ (k + 3) % 8)) % 8 ≡ (a * 2 ^ (k + 3)) % 8 = mul-mod_second a (2 ^ (k + 3)) 8 in
-    let none : (a * 0) % 8 ≡ (a * 2 ^ (k + 3)) % 8 = rw power at product in
-    omega (arith, none)
-
-rounded_whole : (n e : ℕ) → n % 8 ≡ 0 → ceil_units n e * 2 ^ e % 8 ≡ 0
-rounded_whole n zero even = omega (arith, even)
-rounded_whole n (suc zero) even = omega (arith, even)
-rounded_whole n (suc (suc zero)) even = omega (arith, even)
-rounded_whole n (suc (suc (suc k))) even =
-    let more : suc (suc (suc k)) ≡ k + 3 = omega arith in
-    ap (λ e. ceil_units n e * 2 ^ e % 8) more ∙ times_whole (ceil_units n (k + 3)) k
-
 pub length_whole : (n : ℕ) → n % 8 ≡ 0 → round_length_of n % 8 ≡ 0
-length_whole n even = rounded_whole n (exponent_for 0 n) even
+length_whole n even = rounded_eights n (exponent_for 0 n) even
 
 -- ---- units
 

@@ -3,6 +3,7 @@ use Rattle.std.proofs.Common.{ℕ, zero, suc, ◌≡◌, ◌+◌, ◌-◌, ◌*�
 use Rattle.std.proofs.Math.ListN.{get_or, set}
 use Rattle.std.proofs.lemmas.Bool.{cases_eq}
 use Rattle.std.proofs.lemmas.List.{get_or-set_same, length-set, append_assoc, append-nil}
+use Rattle.std.proofs.Math.Bool.{or-false}
 use Rattle.law_lists.proofs.Tests.{bool_tells, eq_tells, le_tells, lt_tells}
 use Rattle.def_memory.specs.declared.Granule.{Granule}
 use Rattle.def_memory.specs.Granules.{granule_at, nothing}
@@ -177,10 +178,6 @@ one_more p at xs c b e = painted_both p at xs (c ∷ []) ∙ (let none : (b || f
 abbrev one_unless : Bool → ℕ
 one_unless b = cond b 0 1
 
-or_false : (b : Bool) → (b || false) ≡ b
-or_false true = refl
-or_false false = refl
-
 pub unnaming_step : (r : Range) (gs hs ks : List Granule) (names more last : List ℕ) (now left size one : ℕ) → length names ≡ r.length / 16 → Unnaming r gs hs names more now left → (left ≡ 0 → ⊥)
     → size ≡ (head_in (head_at hs r.ram (r.base + (r.length - left)))).size
     → UnnamesChunk r hs ks more last (r.base + (r.length - left)) one (head_in (head_at hs r.ram (r.base + (r.length - left))))
@@ -192,11 +189,11 @@ unnaming_step r gs hs ks names more last now left size one slots w some size_is 
     marks_now c j at place e over even hs ks b marked old inside size = elim (le_tells (at - r.ram) (8 * j)) [
       | inr a ↦
           let out : is_painted_in (r.ram + 8 * j) (r.base + total w.above) (c ∷ []) ≡ false = (let lt = a.1 in ap (λ x. x || false) (not_here c (r.ram + 8 * j) (r.base + total w.above) (inl (omega (arith, lt, place, over))))) in
-          ap (λ (g : Granule). g.mark) (marked.rest j (inl a.1)) ∙ old ∙ rw out (ap (λ x. cond x false (granule_at gs j).mark) (sym (or_false b)))
+          ap (λ (g : Granule). g.mark) (marked.rest j (inl a.1)) ∙ old ∙ rw out (ap (λ x. cond x false (granule_at gs j).mark) (sym (or-false b)))
       | inl a ↦ elim (lt_tells (8 * j) (at - r.ram + c.size)) [
         | inr z ↦
             let out : is_painted_in (r.ram + 8 * j) (r.base + total w.above) (c ∷ []) ≡ false = (let ge = z.1 in ap (λ x. x || false) (not_here c (r.ram + 8 * j) (r.base + total w.above) (inr (omega (arith, ge, place, over))))) in
-            ap (λ (g : Granule). g.mark) (marked.rest j (inr z.1)) ∙ old ∙ rw out (ap (λ x. cond x false (granule_at gs j).mark) (sym (or_false b)))
+            ap (λ (g : Granule). g.mark) (marked.rest j (inr z.1)) ∙ old ∙ rw out (ap (λ x. cond x false (granule_at gs j).mark) (sym (or-false b)))
         | inl z ↦
             let le = a.1 in
             let lt = z.1 in
@@ -225,7 +222,7 @@ unnaming_step r gs hs ks names more last now left size one slots w some size_is 
               let o = u.others (painted_is ∙ e) in
               let kept : let_go c ≡ c = rw e refl in
               let list : map let_go (w.above ++ c ∷ []) ++ cs ≡ map let_go w.above ++ c ∷ cs = ap (λ (l : List Chunk). l ++ cs) (map_both w.above (c ∷ [])) ∙ append_assoc (map let_go w.above) (let_go c ∷ []) cs ∙ ap (λ (x : Chunk). map let_go w.above ++ x ∷ cs) kept in
-              let count : one_unless (is_free c || nat_eq c.state 1 || nat_eq c.state 3) ≡ one_unless (is_free c || nat_eq c.state 1) = rw e (ap one_unless (or_false (is_free c || nat_eq c.state 1))) in
+              let count : one_unless (is_free c || nat_eq c.state 1 || nat_eq c.state 3) ≡ one_unless (is_free c || nat_eq c.state 1) = rw e (ap one_unless (or-false (is_free c || nat_eq c.state 1))) in
               let one_is = o.2 in
               record {
                 most = omega (arith, size_c, left_is);
@@ -240,7 +237,7 @@ unnaming_step r gs hs ks names more last now left size one slots w some size_is 
                   same = ap (λ l. chunks r l) o.0 ∙ w.same;
                   size = ap length o.0 ∙ w.size;
                   caps = λ j. ap (λ l. (granule_at l j).cap) o.0 ∙ w.caps j;
-                  marks = λ j. ap (λ l. (granule_at l j).mark) o.0 ∙ w.marks j ∙ ap (λ b. cond b false (granule_at gs j).mark) (sym (one_more (r.ram + 8 * j) r.base w.above c false (not_painted c (r.ram + 8 * j) (r.base + total w.above) e) ∙ or_false (is_painted_in (r.ram + 8 * j) r.base w.above)));
+                  marks = λ j. ap (λ l. (granule_at l j).mark) o.0 ∙ w.marks j ∙ ap (λ b. cond b false (granule_at gs j).mark) (sym (one_more (r.ram + 8 * j) r.base w.above c false (not_painted c (r.ram + 8 * j) (r.base + total w.above) e) ∙ or-false (is_painted_in (r.ram + 8 * j) r.base w.above)));
                   entries = ap length o.1 ∙ w.entries;
                   named = λ x even. ap (λ l. is_named l x) o.1 ∙ named x even ∙ ap (λ l. is_used_at (r.base + x) r.base l) (sym list);
                   quotas = λ x yes_. ap (λ l. quota_named l x) o.1 ∙ w.quotas x (sym (ap (λ l. is_named l x) o.1) ∙ yes_);

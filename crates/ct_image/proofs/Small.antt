@@ -1,9 +1,10 @@
 -- What the limits of an image say of the sizes of its regions, and of the rights in its rows.
-use Rattle.std.proofs.Common.{ℕ, zero, suc, ◌≡◌, ◌+◌, ◌<◌, ◌≤◌, ◌^◌, List, [], ◌∷◌, length, map, Some, None, slice_get, All, refl, arith}
-use Rattle.std.specs.Prelude.{slice_index_or}
+use Rattle.std.proofs.Common.{ℕ, zero, suc, ◌≡◌, ◌+◌, ◌<◌, ◌≤◌, ◌^◌, List, [], ◌∷◌, length, map, None, All, refl, arith}
 use Rattle.std.specs.List.{AllByRecursion}
 use Rattle.std.proofs.lemmas.List.Elements.{All-from_recursion}
+use Rattle.std.proofs.lemmas.Bool.{ltb-false}
 use Rattle.law_lists.proofs.Alls.{all_unmapped}
+use Rattle.law_lists.proofs.Places.{all_there}
 use Rattle.def_image.specs.declared.RawEntry.{RawEntry}
 use Rattle.def_image.specs.declared.format.TheConstants.{ENTRY, ROW, COMPARTMENT_HEAD, LIBRARY_HEAD}
 use Rattle.def_image.specs.Raw.{RawCode, RawCompartment}
@@ -12,7 +13,6 @@ use Rattle.def_image.specs.Spelling.{raw_of, raw_slot, raw_code, raw_compartment
 use Rattle.def_image.specs.Sizes.{compartment_size, library_size, compartments_at, libraries_at}
 use Rattle.def_image.specs.Checks.{first}
 use Rattle.def_image.specs.Limits.{byte_at, row_limits, name_checks, own_slot_limits, slot_limits, compartment_limits_by, compartment_limits, library_limits_by, library_limits, entry_name, is_misnamed, is_unnamed_key}
-use Rattle.law_image.proofs.Tells.{lt_not}
 use Rattle.law_image.proofs.Passing.{left_none, all_pass, every}
 use Rattle.law_image.proofs.Holding.{limited, compartment_holds, library_holds}
 use Rattle.law_image.proofs.Limited.{header_fits, thread_fits}
@@ -24,14 +24,6 @@ use Rattle.ct_image.specs.Packed.{ArePacked, OwnersPacked, LibrariesPacked}
 use Rattle.ct_image_parts.proofs.Sized.{end_is}
 
 -- ---- by index
-
-there : {A : Type 0} (xs : List A) (k : ℕ) (d : A) → k < length xs → slice_get xs k ≡ Some (slice_index_or xs k d)
-there [] k d lt = absurd (omega (arith, lt))
-there (x ∷ xs) zero d lt = refl
-there (x ∷ xs) (suc k) d lt = there xs k d (omega (arith, lt))
-
-all_there : {A : Type 0} (P : A → Type 0) (xs : List A) → ((i : ℕ) (x : A) → slice_get xs i ≡ Some x → P x) → All P xs
-all_there P xs one = λ k d lt. one k (slice_index_or xs k d) (there xs k d lt)
 
 pub small_is : (p : PartsRow) → Stand p → AreSmall p
 small_is p s =
@@ -54,7 +46,7 @@ IsPacked e = byte_at e.row 1 < 64
 
 row_packed : (at : ℕ) (row : List ℕ) → first (row_limits at row) ≡ None → byte_at row 1 < 64
 unfolding row_limits
-row_packed at row none = let most = lt_not 63 (byte_at row 1) (all_pass (row_limits at row) none).1.0 in omega (arith, most)
+row_packed at row none = let most = ltb-false 63 (byte_at row 1) (all_pass (row_limits at row) none).1.0 in omega (arith, most)
 
 own_packed : (at : ℕ) (earlier : List RawEntry) (e : RawEntry) → first (own_slot_limits at earlier e) ≡ None → IsPacked e
 unfolding own_slot_limits

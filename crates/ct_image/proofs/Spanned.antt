@@ -9,6 +9,7 @@ use Rattle.def_image.specs.Regions.{RegionRow, shared_regions, sealed_regions, c
 use Rattle.ct_image_parts.specs.Places.{shared_place, sealed_place, compartments_place, libraries_place, threads_place}
 use Rattle.ct_image.specs.Spans.{unheld, shared_rows, sealed_rows, compartment_rows, library_rows, stack_rows, later_rows}
 use Rattle.ct_image_parts.proofs.Sized.{sealed_is, library_is, compartment_is, shared_is, sealed_there, compartments_there, libraries_there, threads_there}
+use Rattle.law_image.proofs.Regions.{same_tail}
 
 -- ---- one more region
 
@@ -16,9 +17,6 @@ pub grows : (front : List RegionRow) (r : RegionRow) (rest total : List RegionRo
 grows front r rest total e = append_assoc front (r ∷ []) rest ∙ e
 
 -- ---- lists without holders
-
-same_tail : {x : RegionRow} {l m : List RegionRow} → l ≡ m → (x ∷ l) ≡ (x ∷ m)
-same_tail {x = x} e = ap (λ (l : List RegionRow). x ∷ l) e
 
 shared_same : (at n : ℕ) (ss : List SharedRow) → map unheld (shared_regions at n ss) ≡ shared_rows at ss
 shared_same at n [] = refl

@@ -22,7 +22,7 @@ use std::alloc::{AllocError, Global};
 
 /// A region: where its base stands in the image, its base, and its length in bytes.
 #[derive(Clone, Copy, Drop)]
-pub struct Span {
+pub(crate) struct Span {
     pub place: u32,
     pub base: u32,
     pub length: u64,

@@ -2,7 +2,6 @@ pub mod Loop
 pub mod Exact
 pub mod Turns
 pub mod Parts
-pub mod Texts
 pub mod Whole
 pub mod Readings
 pub mod Unbroken

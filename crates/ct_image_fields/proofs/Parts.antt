@@ -1,14 +1,14 @@
 -- The readers of members are exact.
-use Rattle.std.proofs.Common.{ℕ, ◌≡◌, ◌^◌, ◌<◌, Bool, true, false, cond, nat_eq, List, [], ◌∷◌, ◌++◌, length, Option, Some, None, refl, sym, ap, ◌∙◌, subst, append_assoc, arith, inl, inr}
-use Rattle.std.specs.List.{flat_map, AllByRecursion}
+use Rattle.std.proofs.Common.{ℕ, ◌≡◌, ◌^◌, ◌<◌, Bool, List, [], ◌∷◌, ◌++◌, length, Some, refl, sym, ap, ◌∙◌, subst, append_assoc, arith}
+use Rattle.std.specs.List.{flat_map}
 use Rattle.def_image.specs.declared.RawEntry.{RawEntry}
 use Rattle.def_image.specs.declared.format.TheConstants.{NAME, ROW}
 use Rattle.def_image.specs.Raw.{RawDevice, RawShared, RawSealed, RawCode, RawCompartment, RawThread}
 use Rattle.def_image.specs.Spelling.{number, count, padding_after, entry_spelled, device_spelled, shared_spelled, sealed_spelled, tables_spelled, compartment_spelled, library_spelled, thread_spelled}
-use Rattle.def_image.specs.Shapes.{IsField, IsNumber, IsCounted, IsRawEntry, IsDevice, IsShared, IsSealed, IsCode, IsCompartment, IsThread}
+use Rattle.def_image.specs.Shapes.{IsField, IsNumber, IsRawEntry, IsDevice, IsShared, IsSealed, IsCode, IsCompartment, IsThread}
 use Rattle.ct_image_fields.specs.declared.heads.CodeHead.{CodeHead}
 use Rattle.ct_image_fields.specs.declared.heads.GlobalsHead.{GlobalsHead}
-use Rattle.ct_image_fields.specs.Reading.{◌>>=◌, field_at, number_at, many_at, entry_at, device_at, shared_at, sealed_at, code_head_at, globals_head_at, code_at, compartment_at, library_at, thread_at}
+use Rattle.ct_image_fields.specs.Reading.{◌>>=◌, entry_at, device_at, shared_at, sealed_at, code_head_at, globals_head_at, code_at, compartment_at, library_at, thread_at}
 use Rattle.ct_image_fields.proofs.Turns.{three_in_turn, four_in_turn, seven_in_turn, four_joined}
 use Rattle.ct_image_fields.proofs.Exact.{IsBytes, Took, Exact, begin, then, made, on, AreSo, field_exact, number_exact, many_exact}
 

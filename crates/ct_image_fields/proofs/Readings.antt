@@ -1,5 +1,5 @@
 -- What the whole reader's answer says of the bytes.
-use Rattle.std.proofs.Common.{ℕ, ◌≡◌, List, Option, Some, None, Result, Ok, Err, refl, sym, ◌∙◌}
+use Rattle.std.proofs.Common.{ℕ, ◌≡◌, List, Some, None, Result, Ok, Err, refl, sym, ◌∙◌}
 use Rattle.std.specs.Prelude.{IfOk, IsErrOf}
 use Rattle.def_image.specs.Raw.{RawImage}
 use Rattle.def_image.specs.Accepted.{Spells}

@@ -1,22 +1,21 @@
 -- The reader of the whole is exact: fields that are read spell the bytes, and bytes that fields spell are read.
 use Rattle.std.proofs.Common.{ℕ, ◌≡◌, Bool, true, false, cond, nat_eq, List, [], ◌∷◌, ◌++◌, length, Option, Some, None, refl, sym, ap, ◌∙◌, subst, append_assoc, arith, inl, inr}
 use Rattle.std.specs.Prelude.{bytes_eq}
-use Rattle.std.specs.List.{flat_map, AllByRecursion}
+use Rattle.std.specs.List.{flat_map}
 use Rattle.std.proofs.lemmas.Bool.{eqb-true}
 use Rattle.std.proofs.lemmas.List.{append-nil, nil_from_length}
-use Rattle.law_lists.proofs.Tests.{eq_tells}
+use Rattle.law_lists.proofs.Tests.{eq_tells, same_bytes, own_bytes}
 use Rattle.def_image.specs.declared.format.TheConstants.{NAME}
 use Rattle.def_image.specs.Raw.{RawImage}
-use Rattle.def_image.specs.Spelling.{number, count, magic, sweep_spelled, device_spelled, shared_spelled, sealed_spelled, compartment_spelled, library_spelled, thread_spelled, spelled}
+use Rattle.def_image.specs.Spelling.{number, magic, device_spelled, shared_spelled, sealed_spelled, compartment_spelled, library_spelled, thread_spelled, spelled}
 use Rattle.def_image.specs.Shapes.{IsField, IsNumber, IsDevice, IsShared, IsSealed, IsCode, IsCompartment, IsThread, IsShaped}
 use Rattle.def_image.specs.Accepted.{Spells}
 use Rattle.ct_image_fields.specs.declared.heads.Bases.{Bases}
 use Rattle.ct_image_fields.specs.declared.heads.Counts.{Counts}
-use Rattle.ct_image_fields.specs.Reading.{◌>>=◌, field_at, number_at, many_at, counts_at, bases_at, sweep_at, lists_at, image_at, all_of}
+use Rattle.ct_image_fields.specs.Reading.{◌>>=◌, number_at, counts_at, bases_at, sweep_at, lists_at, image_at, all_of}
 use Rattle.ct_image_fields.proofs.Turns.{six_in_turn, seven_in_turn, six_joined}
 use Rattle.ct_image_fields.proofs.Exact.{IsBytes, Took, Exact, begin, then, made, on, AreSo, field_exact, number_exact, many_exact, bind_some}
 use Rattle.ct_image_fields.proofs.Parts.{device_exact, shared_exact, sealed_exact, compartment_exact, library_exact, thread_exact}
-use Rattle.ct_image_fields.proofs.Texts.{same_text, is_same_text}
 
 -- ---- the counts, the numbers, the sweep rate
 
@@ -310,7 +309,7 @@ image_takes bytes x fits e =
     let s = then (sweep_exact v.found.0) n _ n.goes in
     let a = then (field_exact NAME) s _ s.goes in
     let g = chosen_some (bytes_eq m.found.0 magic) (lists_at v.found.0 n.found.0 s.found.0 a.found.0 k.found.0 a.found.1) x a.goes in
-    let begun : m.found.0 ≡ magic = same_text m.found.0 magic g.0 in
+    let begun : m.found.0 ≡ magic = same_bytes m.found.0 magic g.0 in
     let l : Took (Carries v.found.0 n.found.0 s.found.0 a.found.0 k.found.0) lists_spelled a.found.1 x = lists_takes v.found.0 n.found.0 s.found.0 a.found.0 k.found.0 a.found.1 x a.fits g.1 in
     let front = λ (b : List ℕ). b ++ number v.found.0 ++ counts_spelled k.found.0 ++ bases_spelled n.found.0 ++ rate_spelled v.found.0 s.found.0 ++ a.found.0 in
     record {
@@ -359,7 +358,7 @@ image_again r rest is =
     let rate : IsRate r.version r.sweep = record { small = is.sweep; first = is.rate } in
     ap image_at regrouped ∙ on (field_exact 4) magic r1 _ magic_is ∙ on number_exact r.version r2 _ is.version ∙ on counts_exact (counts_of r) r3 _ counts
     ∙ on bases_exact (bases_of r) r4 _ bases ∙ on (sweep_exact r.version) r.sweep r5 _ rate ∙ on (field_exact NAME) r.name r6 _ is.name
-    ∙ ap (λ b. cond b (lists_at r.version (bases_of r) r.sweep r.name (counts_of r) r6) None) (is_same_text magic)
+    ∙ ap (λ b. cond b (lists_at r.version (bases_of r) r.sweep r.name (counts_of r) r6) None) (own_bytes magic)
     ∙ lists_again r.version (bases_of r) r.sweep r.name (counts_of r) r rest (own_carries r is)
 
 -- ---- all of the bytes

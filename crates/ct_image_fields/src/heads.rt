@@ -2,7 +2,7 @@
 
 /// Of the whole image, how many members each list has.
 #[derive(Clone, Copy, Drop)]
-pub struct Counts {
+pub(crate) struct Counts {
     pub devices: u32,
     pub shared: u32,
     pub sealed: u32,
@@ -14,7 +14,7 @@ pub struct Counts {
 /// Of the whole image, the numbers after these: the quantum, RAM's base and size, and the bases of
 /// the trusted region and of the heap.
 #[derive(Clone, Copy, Drop)]
-pub struct Bases {
+pub(crate) struct Bases {
     pub quantum: u32,
     pub ram: u32,
     pub size: u32,
@@ -25,7 +25,7 @@ pub struct Bases {
 /// Of a compartment or library: the name, the code's base and length, and how many bytes the text
 /// has.
 #[derive(Clone, Copy, Drop)]
-pub struct CodeHead {
+pub(crate) struct CodeHead {
     pub name: [u8; 32],
     pub base: u32,
     pub length: u32,
@@ -35,7 +35,7 @@ pub struct CodeHead {
 /// Of a compartment, the numbers after these: the bases of table and globals, the length of the
 /// globals, and how many bytes they begin with.
 #[derive(Clone, Copy, Drop)]
-pub struct GlobalsHead {
+pub(crate) struct GlobalsHead {
     pub table: u32,
     pub globals: u32,
     pub length: u32,

@@ -8,7 +8,7 @@ use crate::fault::Cut;
 use std::alloc::Global;
 
 /// A member of a list.
-pub trait Member: Drop {
+pub(crate) trait Member: Drop {
     /// How one is read.
     ghost reads: { List ℕ → Option (Self × List ℕ) };
 

@@ -22,7 +22,7 @@ pub const MAGIC: [u8; 4] = [67, 84, 70, 87];
 
 /// What stands before the lists, beside their counts.
 #[derive(Clone, Copy, Drop)]
-pub struct Head {
+pub(crate) struct Head {
     pub version: u32,
     pub bases: Bases,
     pub sweep: u32,

@@ -1,5 +1,5 @@
 -- The first failing check of a whole, by its parts.
-use Rattle.std.proofs.Common.{ℕ, ◌≡◌, ◌+◌, ◌<◌, ◌^◌, ◌||◌, Bool, List, [], ◌∷◌, ◌++◌, length, map, Option, Some, None, refl, ap, ◌∙◌}
+use Rattle.std.proofs.Common.{ℕ, ◌≡◌, ◌+◌, ◌<◌, ◌^◌, ◌||◌, Bool, List, [], ◌∷◌, ◌++◌, Option, Some, None, refl, ap, ◌∙◌}
 use Rattle.std.specs.Prelude.{bytes_eq}
 use Rattle.std.proofs.lemmas.List.Folds.{list_any-append}
 use Rattle.def_texts.specs.Names.{among}
@@ -10,13 +10,9 @@ use Rattle.def_image.specs.Sizes.{sealed_size, compartment_size, library_size, d
 use Rattle.def_image.specs.Checks.{first, walked}
 use Rattle.def_image.specs.Limits.{name_of, name_checks, own_slots_limits, own_gates, dirty_padding, slots_limits, library_gates, count_limits, number_limits, header_limits, compartment_limits_by, library_limits_by, limit_checks, device_limits, shared_limits, sealed_limits, compartment_limits, library_limits, thread_limits}
 use Rattle.def_image.specs.First.{or_else}
-use Rattle.law_image.proofs.Walks.{first_both}
+use Rattle.law_image.proofs.Walks.{first_both, or_later}
 use Rattle.ct_image_limits.specs.Owners.{compartment_head, first_of_tables, library_head, first_of_library}
-use Rattle.ct_image_limits.specs.Whole.{first_of_owners, first_of_parts}
-
-or_later : (a b c : Option ℕ) → or_else (or_else a b) c ≡ or_else a (or_else b c)
-or_later None b c = refl
-or_later (Some n) b c = refl
+use Rattle.ct_image_limits.specs.Whole.{first_of_parts}
 
 -- ---- the header
 

@@ -10,7 +10,7 @@ use ct_image_fields::{
 use def_image::RawEntry;
 
 /// A part with a name.
-pub trait Named {
+pub(crate) trait Named {
     /// The name.
     ghost named: { Self → List ℕ };
 

@@ -13,7 +13,7 @@ use def_profile::seals::{FIRST_KEY_TYPE, LAST_KEY_TYPE};
 /// What an export may ask for, at most, and its least posture: the stack in bytes, arguments, and
 /// the bytes of posture and passing.
 #[derive(Clone, Copy, Drop)]
-pub struct Bounds {
+pub(crate) struct Bounds {
     pub stack: u32,
     pub args: u8,
     pub posture: u8,
@@ -21,7 +21,7 @@ pub struct Bounds {
 }
 
 /// An export of a compartment.
-pub const COMPARTMENT_BOUNDS: Bounds = Bounds {
+pub(crate) const COMPARTMENT_BOUNDS: Bounds = Bounds {
     stack: MOST_STACK,
     args: MOST_ARGUMENTS as u8,
     posture: 2,
@@ -29,7 +29,7 @@ pub const COMPARTMENT_BOUNDS: Bounds = Bounds {
 };
 
 /// An export of a library.
-pub const LIBRARY_BOUNDS: Bounds = Bounds {
+pub(crate) const LIBRARY_BOUNDS: Bounds = Bounds {
     stack: 0,
     args: 0,
     posture: 1,

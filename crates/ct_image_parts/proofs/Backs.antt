@@ -1,23 +1,24 @@
 -- The fields of parts that are made of fields are these.
-use Rattle.std.proofs.Common.{ℕ, zero, suc, ◌≡◌, ◌+◌, ◌<◌, ◌≤◌, ◌^◌, not, Bool, true, false, nat_lt, List, [], ◌∷◌, length, map, Some, None, refl, sym, ap, ◌∙◌, subst, arith}
+use Rattle.std.proofs.Common.{ℕ, zero, suc, ◌≡◌, ◌+◌, ◌<◌, ◌≤◌, ◌^◌, not, Bool, true, false, nat_lt, List, [], ◌∷◌, length, map, None, refl, sym, ap, ◌∙◌, subst, arith}
 use Rattle.std.specs.List.{AllByRecursion}
+use Rattle.std.proofs.lemmas.Bool.{not-false}
 use Rattle.def_profile.specs.declared.limits.TheConstants.{MOST_BYTES}
 use Rattle.ct_entry.specs.Listed.{DeviceRow}
 use Rattle.def_image.specs.declared.RawEntry.{RawEntry}
 use Rattle.def_image.specs.declared.format.TheConstants.{ENTRY, DEVICE, SHARED, THREAD, ROW, COMPARTMENT_HEAD, LIBRARY_HEAD}
 use Rattle.def_image.specs.Raw.{RawDevice, RawShared, RawSealed, RawCode, RawCompartment, RawThread, RawImage}
-use Rattle.def_image.specs.Parts.{SlotRow, GateRow, SharedRow, SealedRow, CodeRow, CompartmentRow, ThreadRow, PartsRow}
+use Rattle.def_image.specs.Parts.{SharedRow, SealedRow, CompartmentRow, ThreadRow}
 use Rattle.def_image.specs.Profile.{outside}
-use Rattle.def_image.specs.Spelling.{zeros, padding_after, device_number, raw_slot, raw_gate, raw_device, raw_shared, raw_sealed, raw_code, raw_compartment, raw_thread, raw_of, name_field, import_field, export_field}
-use Rattle.def_image.specs.Shapes.{IsField, IsNumber, IsRawEntry, IsDevice, IsShared, IsSealed, IsCode, IsCompartment, IsThread, IsShaped, Clean, SpellableSlot, SpellableGate, SpellableCode, IsSpellable}
+use Rattle.def_image.specs.Spelling.{zeros, padding_after, device_number, raw_slot, raw_gate, raw_device, raw_shared, raw_sealed, raw_code, raw_compartment, raw_thread, raw_of, import_field, export_field}
+use Rattle.def_image.specs.Shapes.{IsRawEntry, IsDevice, IsShared, IsSealed, IsCode, IsCompartment, IsThread, IsShaped, Clean, SpellableSlot, SpellableGate, SpellableCode, IsSpellable}
 use Rattle.def_image.specs.Sizes.{entries_size, sealed_size, compartment_size, library_size, devices_at, shared_at, sealed_at, compartments_at, libraries_at, threads_at, rate_size}
 use Rattle.def_image.specs.Checks.{first, check}
-use Rattle.def_image.specs.Limits.{name_of, name_checks, are_zeros, header_limits, device_limits, shared_limits, sealed_limits, row_limits, gate_limits, own_slot_limits, slot_limits, export_limits, dirty_padding, compartment_limits_by, compartment_limits, library_limits_by, library_limits, thread_limits_by, thread_limits, limit_checks, Bounds, compartment_bounds, library_bounds, entry_name, is_misnamed, is_unnamed_key, device_name, shared_name, sealed_name, overfills}
-use Rattle.law_image.proofs.Tells.{not_false, within_is}
+use Rattle.def_image.specs.Limits.{name_checks, are_zeros, header_limits, device_limits, shared_limits, sealed_limits, row_limits, gate_limits, own_slot_limits, slot_limits, export_limits, dirty_padding, compartment_limits_by, compartment_limits, library_limits_by, library_limits, thread_limits_by, thread_limits, limit_checks, Bounds, compartment_bounds, library_bounds, entry_name, is_misnamed, is_unnamed_key, device_name, shared_name, sealed_name, overfills}
+use Rattle.law_image.proofs.Tells.{within_is}
 use Rattle.law_image.proofs.Passing.{left_none, right_none, all_pass, every}
 use Rattle.law_image.proofs.Holding.{limited, compartment_holds, library_holds}
-use Rattle.ct_image_parts.specs.Converted.{text_of, device_kind_of, import_of, export_of, slot_of, gate_of, device_of, shared_of, sealed_of, code_of, compartment_of, thread_of, parts_of}
-use Rattle.ct_image_parts.specs.Back.{ComesBack, FieldsComeBack}
+use Rattle.ct_image_parts.specs.Converted.{device_kind_of, import_of, export_of, slot_of, gate_of, device_of, shared_of, sealed_of, code_of, compartment_of, thread_of, parts_of}
+use Rattle.ct_image_parts.specs.Back.{FieldsComeBack}
 use Rattle.ct_image_parts.proofs.NameTexts.{NameFits, name_fits, field_back, text_clean, all_zeros}
 use Rattle.ct_image_parts.proofs.Rows.{AreNarrow, import_back, export_back, device_back, small_there}
 
@@ -160,7 +161,7 @@ sealed_fits at earlier s none =
     let each = all_pass last (right_none names last none) in
     record {
       name = name_fits at false (map sealed_name earlier) s.name (all_pass names (left_none names last none));
-      padding = not_false (are_zeros s.padding) each.1.1.1.0;
+      padding = not-false (are_zeros s.padding) each.1.1.1.0;
     }
 
 -- zeros that pad are as many as are wanted
@@ -236,7 +237,7 @@ compartment_ok entry at seen c none =
         exports = every (export_limits compartment_bounds (length k.text) (entry + 2 + length k.slots)) (λ x. ENTRY) GateFits
             (gate_fits compartment_bounds (length k.text) (entry + 2 + length k.slots) narrow_own) (at + COMPARTMENT_HEAD + entries_size k.slots) [] k.exports h.gates;
       };
-      padding = not_false (are_zeros c.padding) (all_pass (dirty_padding at c) h.padding).0;
+      padding = not-false (are_zeros c.padding) (all_pass (dirty_padding at c) h.padding).0;
     }
 
 library_ok : (entry at : ℕ) (seen : List (List ℕ)) (c : RawCode) → first (library_limits_by entry at seen c) ≡ None → CodeOk c

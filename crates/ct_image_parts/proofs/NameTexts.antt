@@ -1,23 +1,18 @@
 -- A name is its own text, and a field is its name with the zeros that pad it.
-use Rattle.std.proofs.Common.{ℕ, zero, suc, ◌≡◌, ◌+◌, ◌-◌, ◌<◌, ◌≤◌, ◌==◌, ◌&&◌, ◌||◌, not, Bool, true, false, cond, nat_le, nat_lt, nat_eq, List, [], ◌∷◌, ◌++◌, length, drop, replicate, flat_map, refl, sym, ap, ◌∙◌, subst, arith, inl, inr}
+use Rattle.std.proofs.Common.{ℕ, zero, suc, ◌≡◌, ◌+◌, ◌-◌, ◌<◌, ◌≤◌, ◌==◌, ◌&&◌, ◌||◌, not, Bool, true, false, cond, nat_le, nat_lt, nat_eq, List, [], ◌∷◌, ◌++◌, length, drop, flat_map, refl, sym, ap, ◌∙◌, subst, arith, inl, inr}
 use Rattle.std.specs.List.{list_all, AllByRecursion}
 use Rattle.std.specs.Char.{encode_utf8}
 use Rattle.std.proofs.lemmas.List.{length-append}
+use Rattle.std.proofs.lemmas.Bool.{not-false, lt-ltb, le-leb, or_parts}
 use Rattle.law_lists.proofs.Tests.{lt_tells, le_tells, eq_tells, both_left, both_right}
 use Rattle.def_texts.specs.Names.{is_name, is_name_byte, is_lower, among}
 use Rattle.def_image.specs.declared.Check.{Check}
 use Rattle.def_image.specs.Spelling.{zeros, name_field}
 use Rattle.def_image.specs.Shapes.{IsField, Clean}
-use Rattle.def_image.specs.Checks.{first, check}
 use Rattle.def_image.specs.Limits.{name_of, are_zeros, name_checks}
-use Rattle.law_image.proofs.Tells.{lt_so, not_false, or_left}
-use Rattle.law_image.proofs.Passing.{all_pass}
 use Rattle.ct_image_parts.specs.Converted.{text_of}
 
 -- ---- a name's bytes are characters
-
-le_so : (a b : ℕ) → a ≤ b → nat_le a b ≡ true
-le_so a b le = elim (le_tells a b) [ inl h ↦ h.0 | inr h ↦ absurd (let less = h.1 in omega (arith, le, less)) ]
 
 le_not : (a b : ℕ) → b < a → nat_le a b ≡ false
 le_not a b lt = elim (le_tells a b) [ inl h ↦ absurd (let more = h.1 in omega (arith, lt, more)) | inr h ↦ h.0 ]
@@ -27,7 +22,7 @@ eq_not a b lt = elim (eq_tells a b) [ inl h ↦ absurd (let same = h.1 in omega 
 
 beyond : (b : ℕ) → 128 ≤ b → is_name_byte b ≡ false
 beyond b le =
-    rw (le_so 97 b (omega (arith, le)), le_not b 122 (omega (arith, le)), le_so 48 b (omega (arith, le)), le_not b 57 (omega (arith, le)), eq_not b 95 (omega (arith, le))) refl
+    rw (le-leb 97 b (omega (arith, le)), le_not b 122 (omega (arith, le)), le-leb 48 b (omega (arith, le)), le_not b 57 (omega (arith, le)), eq_not b 95 (omega (arith, le))) refl
 
 character : (b : ℕ) → is_name_byte b ≡ true → b < 128
 character b is = elim (lt_tells b 128) [
@@ -37,7 +32,7 @@ character b is = elim (lt_tells b 128) [
 
 one_byte : (b : ℕ) → b < 128 → encode_utf8 b ≡ b ∷ []
 unfolding encode_utf8
-one_byte b lt = rw (lt_so b 128 lt) refl
+one_byte b lt = rw (lt-ltb b 128 lt) refl
 
 own_text : (bs : List ℕ) → list_all is_name_byte bs ≡ true → flat_map encode_utf8 bs ≡ bs
 own_text [] h = refl
@@ -88,8 +83,8 @@ name_fits at unwanted seen field h =
     let bad = not (is_name (name_of field)) in
     let twice = among (name_of field) seen in
     record {
-      form = not_false (is_name (name_of field)) (or_left bad twice (or_left (bad || twice) unwanted h.0));
-      padding = not_false (are_zeros (drop (length (name_of field)) field)) h.1.0;
+      form = not-false (is_name (name_of field)) (or_parts bad twice (or_parts (bad || twice) unwanted h.0).0).0;
+      padding = not-false (are_zeros (drop (length (name_of field)) field)) h.1.0;
     }
 
 pub field_back : (field : List ℕ) → IsField 32 field → NameFits field → name_field (text_of field) ≡ field

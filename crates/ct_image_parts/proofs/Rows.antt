@@ -1,20 +1,16 @@
 -- Rows of 16 bytes are those of the rows that are made of them, where their limits and forms hold.
-use Rattle.std.proofs.Common.{ℕ, zero, suc, ◌≡◌, ◌+◌, ◌<◌, ◌≤◌, ◌^◌, ◌==◌, ◌&&◌, ◌||◌, not, Bool, true, false, nat_le, nat_lt, nat_eq, List, [], ◌∷◌, ◌++◌, length, take, drop, get_or, refl, sym, ap, ◌∙◌, subst, append_assoc, arith, inl, inr}
-use Rattle.std.specs.List.{list_all, AllByRecursion}
-use Rattle.std.specs.Int.{w32, from_le_bytes}
+use Rattle.std.proofs.Common.{ℕ, zero, suc, ◌≡◌, ◌+◌, ◌<◌, ◌≤◌, ◌^◌, ◌==◌, ◌&&◌, ◌||◌, not, Bool, true, false, List, [], ◌∷◌, ◌++◌, length, take, drop, get_or, refl, sym, ap, ◌∙◌, append_assoc, arith}
+use Rattle.std.specs.List.{AllByRecursion}
 use Rattle.std.proofs.lemmas.List.{take-append-drop, length-take, length-drop, drop-drop, get_or-drop}
 use Rattle.std.proofs.lemmas.Nat.{le_bytes_4}
-use Rattle.law_lists.proofs.Tests.{eq_tells, both_left, both_right}
-use Rattle.ct_entry.specs.declared.rows.Mode.{Mode}
+use Rattle.std.proofs.lemmas.Bool.{not-false, eqb-true}
+use Rattle.law_lists.proofs.Tests.{both_left, both_right}
 use Rattle.def_image.specs.declared.Check.{Check}
-use Rattle.def_image.specs.declared.ImportRow.{ImportRow}
-use Rattle.def_image.specs.declared.ExportRow.{ExportRow}
-use Rattle.def_image.specs.Profile.{outside}
 use Rattle.def_image.specs.Sound.{IsWithin}
 use Rattle.def_image.specs.Spelling.{number, kind_byte, posture_byte, passes_byte, device_number, import_field, export_field}
 use Rattle.def_image.specs.Shapes.{IsField, IsNumber}
-use Rattle.def_image.specs.Limits.{byte_at, number_at, are_zeros, has_second, misnumbered, row_limits, gate_limits, Bounds}
-use Rattle.law_image.proofs.Tells.{eq_is, not_false, or_left, or_right, within_is}
+use Rattle.def_image.specs.Limits.{byte_at, number_at, are_zeros, row_limits, gate_limits, Bounds}
+use Rattle.law_image.proofs.Tells.{within_is}
 use Rattle.ct_image_parts.specs.Converted.{kind_of, posture_of, device_kind_of, import_of, export_of}
 
 -- ---- four bytes and four bytes
@@ -131,15 +127,15 @@ zero_pair (a ∷ []) long h = absurd (omega (arith, long))
 zero_pair (a ∷ b ∷ []) long h = absurd (omega (arith, long))
 zero_pair (a ∷ b ∷ c ∷ []) long h = absurd (omega (arith, long))
 zero_pair (a ∷ b ∷ c ∷ d ∷ bs) long h =
-    (eq_is c 0 (both_left (c == 0) ((d == 0) && true) h), eq_is d 0 (both_left (d == 0) true (both_right (c == 0) ((d == 0) && true) h)))
+    (eqb-true c 0 (both_left (c == 0) ((d == 0) && true) h), eqb-true d 0 (both_left (d == 0) true (both_right (c == 0) ((d == 0) && true) h)))
 
 pub import_back : (at : ℕ) (row : List ℕ) → IsField 16 row → AllByRecursion (λ (c : Check). c.fails ≡ false) (row_limits at row) → import_field (import_of row) ≡ row
 unfolding row_limits
 import_back at row is h =
     let size = is.size in
     let kind = kind_back (byte_at row 0) (within_is 1 8 (byte_at row 0) h.0) in
-    let pair = zero_pair row (omega (arith, size)) (not_false (are_zeros (take 2 (drop 2 row))) h.1.1.0) in
-    let third = eq_is (number_at row 12) 0 (not_false (number_at row 12 == 0) h.1.1.1.1.1.0) in
+    let pair = zero_pair row (omega (arith, size)) (not-false (are_zeros (take 2 (drop 2 row))) h.1.1.0) in
+    let third = eqb-true (number_at row 12) 0 (not-false (number_at row 12 == 0) h.1.1.1.1.1.0) in
     let q0 = sym (four row (omega (arith, size))) in
     let e0 : (kind_byte (kind_of (byte_at row 0)) ∷ byte_at row 1 ∷ 0 ∷ 0 ∷ []) ≡ take 4 row =
     same_four (kind_byte (kind_of (byte_at row 0))) (byte_at row 1) 0 0 (byte_at row 0) (byte_at row 1) (byte_at row 2) (byte_at row 3) kind refl (sym pair.0) (sym pair.1) ∙ q0 in
@@ -177,7 +173,7 @@ export_back b text entry at row narrow is h =
     let s1 = passes.1 in
     let n0 = narrow.posture in
     let n1 = narrow.passes in
-    let zeroth = eq_is (byte_at row 11) 0 (not_false (byte_at row 11 == 0) h.1.1.1.1.1.0) in
+    let zeroth = eqb-true (byte_at row 11) 0 (not-false (byte_at row 11 == 0) h.1.1.1.1.1.0) in
     let e0 = number_there row 0 is.each (omega (arith, size)) in
     let e1 = number_there row 4 is.each (omega (arith, size)) in
     let e2 : (byte_at row 8 ∷ posture_byte (posture_of (byte_at row 9)) ∷ passes_byte (byte_at row 10 == 1) ∷ 0 ∷ []) ≡ take 4 (drop 8 row) =

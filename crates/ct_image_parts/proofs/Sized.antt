@@ -9,11 +9,8 @@ use Rattle.law_image.proofs.Members.{sum_map}
 use Rattle.law_image.proofs.Places.{places_are}
 use Rattle.ct_image_parts.specs.Places.{sealed_bytes, tables_bytes, compartment_bytes, library_bytes, shared_place, sealed_place, compartments_place, libraries_place, threads_place, end_place}
 
-many_zeros : (n : ℕ) → length (zeros n) ≡ n
-many_zeros n = length-replicate n 0
-
 pub sealed_is : (s : SealedRow) → sealed_size (raw_sealed s) ≡ sealed_bytes s
-sealed_is s = let z = many_zeros (padding_after (length s.bytes)) in omega (arith, z)
+sealed_is s = let z : length (zeros (padding_after (length s.bytes))) ≡ padding_after (length s.bytes) = length-replicate (padding_after (length s.bytes)) 0 in omega (arith, z)
 
 tables_are : (c : CodeRow) → tables_size (raw_code c) ≡ tables_bytes c
 tables_are c =
@@ -27,7 +24,7 @@ library_is c = let tables = tables_are c in omega (arith, tables)
 pub compartment_is : (c : CompartmentRow) → compartment_size (raw_compartment c) ≡ compartment_bytes c
 compartment_is c =
     let tables = tables_are c.code in
-    let z = many_zeros (padding_after (length c.initial)) in
+    let z : length (zeros (padding_after (length c.initial))) ≡ padding_after (length c.initial) = length-replicate (padding_after (length c.initial)) 0 in
     omega (arith, tables, z)
 
 pub shared_is : (p : PartsRow) → shared_at (raw_of p) ≡ shared_place p

@@ -2,9 +2,8 @@
 use Rattle.std.proofs.Common.{ℕ, ◌≡◌, List, [], ◌∷◌, ◌++◌, length, map, refl, sym, ap, ◌∙◌, append_assoc}
 use Rattle.std.specs.List.{flat_map}
 use Rattle.std.proofs.lemmas.List.{length-map}
-use Rattle.def_image.specs.declared.RawEntry.{RawEntry}
-use Rattle.def_image.specs.Parts.{SlotRow, GateRow, CodeRow, CompartmentRow, PartsRow}
-use Rattle.def_image.specs.Spelling.{number, count, zeros, padding_after, name_field, entry_spelled, tables_spelled, device_spelled, shared_spelled, sealed_spelled, compartment_spelled, library_spelled, thread_spelled, raw_slot, raw_gate, raw_device, raw_shared, raw_sealed, raw_code, raw_compartment, raw_thread, raw_of, spelled, image_bytes, magic, sweep_spelled}
+use Rattle.def_image.specs.Parts.{CodeRow, CompartmentRow, PartsRow}
+use Rattle.def_image.specs.Spelling.{number, count, zeros, padding_after, name_field, entry_spelled, device_spelled, shared_spelled, sealed_spelled, compartment_spelled, library_spelled, thread_spelled, raw_slot, raw_gate, raw_device, raw_shared, raw_sealed, raw_code, raw_compartment, raw_thread, raw_of, spelled, image_bytes}
 use Rattle.ct_image_parts.specs.Written as told
 use Rattle.ct_image_parts.specs.Written.{slot, gate}
 

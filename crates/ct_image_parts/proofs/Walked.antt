@@ -1,5 +1,5 @@
 -- Walks by other sizes that are the same, and the first fault of several walks.
-use Rattle.std.proofs.Common.{ℕ, ◌≡◌, ◌+◌, List, [], ◌∷◌, ◌++◌, Option, Some, None, refl, ap, ◌∙◌}
+use Rattle.std.proofs.Common.{ℕ, ◌≡◌, ◌+◌, List, [], ◌∷◌, ◌++◌, refl, ap, ◌∙◌}
 use Rattle.def_image.specs.declared.Check.{Check}
 use Rattle.def_image.specs.declared.format.TheConstants.{THREAD}
 use Rattle.def_image.specs.Parts.{CodeRow, CompartmentRow, PartsRow}
@@ -9,7 +9,7 @@ use Rattle.def_image.specs.Checks.{first, walked}
 use Rattle.def_image.specs.Indexes.{compartment_asked, library_asked, thread_asked, part_size, code_size, index_checks}
 use Rattle.def_image.specs.Rights.{compartment_rights, library_rights, right_checks}
 use Rattle.def_image.specs.First.{or_else}
-use Rattle.law_image.proofs.Walks.{first_both}
+use Rattle.law_image.proofs.Walks.{first_both, or_later}
 use Rattle.ct_image_parts.specs.Places.{compartment_bytes, library_bytes, compartments_place, libraries_place, threads_place}
 use Rattle.ct_image_parts.proofs.Sized.{compartment_is, library_is, compartments_there, libraries_there, threads_there}
 
@@ -36,10 +36,6 @@ owners_same asked p =
 libraries_same : (asked : ℕ → List CodeRow → CodeRow → List Check) (p : PartsRow) → walked asked code_size (libraries_at (raw_of p)) [] p.libraries ≡ libraries_walk asked p
 libraries_same asked p =
     ap (λ k. walked asked code_size k [] p.libraries) (libraries_there p) ∙ resized asked code_size library_bytes library_is (libraries_place p) [] p.libraries
-
-or_later : (a b c : Option ℕ) → or_else (or_else a b) c ≡ or_else a (or_else b c)
-or_later None b c = refl
-or_later (Some n) b c = refl
 
 pub indexes_first : (p : PartsRow) → first (index_checks p) ≡ or_else (first (owners_walk (compartment_asked p) p)) (or_else (first (libraries_walk (library_asked p) p)) (first (threads_walk p)))
 unfolding index_checks

@@ -5,13 +5,13 @@
 mod converting;
 mod copying;
 mod parts;
-mod parts_all;
 mod sizes;
+mod whole;
 mod writing;
 
 pub use converting::parts_of;
 pub use copying::copied;
 pub use parts::{Code, Compartment, Export, Parts, Sealed, Shared, Slot, Thread};
-pub use parts_all::fields_come_back;
 pub use sizes::{Places, compartment_bytes, library_bytes, places_of, sealed_bytes};
+pub use whole::fields_come_back;
 pub use writing::written;

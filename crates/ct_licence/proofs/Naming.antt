@@ -1,17 +1,13 @@
 -- What a number stands for, by the row that it names.
-use Rattle.std.proofs.Common.{◌≡◌, ◌≢◌, ℕ, zero, suc, true, Option, Some, None, refl, slice_get}
+use Rattle.std.proofs.Common.{◌≡◌, ◌≢◌, ℕ, zero, suc, Some, None, refl}
 use Rattle.ct_entry.specs.declared.rows.Entry.{Entry}
-use Rattle.ct_entry.specs.declared.rows.Gate.{Gate}
 use Rattle.ct_entry.specs.declared.rows.Kind.{Kind}
-use Rattle.ct_entry.specs.declared.rows.Owner.{Owner}
 use Rattle.ct_entry.specs.Listed.{Listed}
-use Rattle.def_reach.specs.Roots.{Listing, Origin, TrustedPart, Unknown, gate_for, turns_interrupts_off, listed_root, root_of}
-use Rattle.def_reach.specs.Reach.{has_entry, same_owner}
+use Rattle.def_reach.specs.Roots.{Listing, TrustedPart, Unknown, gate_for, root_of}
+use Rattle.def_reach.specs.Reach.{same_owner}
 use Rattle.ct_graph.proofs.Owners.{any_at, same_self}
+use Rattle.ct_graph.proofs.Steps.{origin_of}
 use Rattle.ct_licence.specs.Rows.{IsRow, row_at}
-
-origin_of : (r : Entry) (g : Gate) (k : Kind) → (listed_root (Some r) g).origin ≡ Listing k → r.kind ≡ k
-origin_of r g k h = cc
 
 trusted_differs : (k : Kind) → TrustedPart ≢ Listing k
 trusted_differs k h = cc

@@ -1,12 +1,10 @@
 -- Where an export begins is an offset in the text.
-use Rattle.std.proofs.Common.{ℕ, ◌≡◌, ◌%◌, ◌<◌, Bool, true, false, cond, nat_lt, nat_eq, List, length, Option, Some, None, refl, sym, ap, ◌∙◌, subst, inl, inr}
+use Rattle.std.proofs.Common.{ℕ, ◌≡◌, ◌%◌, ◌<◌, Bool, true, false, cond, nat_lt, nat_eq, length, Option, Some, None, refl, sym, ◌∙◌, subst, inl, inr}
 use Rattle.std.specs.Prelude.{option_and_then}
 use Rattle.law_lists.proofs.Tests.{lt_tells, both_right}
 use Rattle.def_desc.specs.Rows.{AtRow}
 use Rattle.def_link.specs.Owners.{Built, label_or, is_begin, begin_of}
-
-begin_at : Built → ℕ → Option ℕ
-begin_at b offset = cond (is_begin b offset) (Some offset) None
+use Rattle.law_link.proofs.Builts.{begin_at}
 
 at_inside : (b : Built) (offset n : ℕ) → begin_at b offset ≡ Some n → n < length b.text
 unfolding begin_at

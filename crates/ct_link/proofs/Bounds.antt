@@ -10,7 +10,7 @@ use Rattle.def_desc.specs.Lawful.{IsLawful, IsLawfulCompartment, IsLawfulLibrary
 use Rattle.def_desc.specs.Rows.{ExportRow, SharedRow, SealedRow, ThreadRow, CompartmentRow, LibraryRow, DescRow}
 use Rattle.def_link.specs.declared.LinkFault.TheVariants as fault
 use Rattle.def_link.specs.Linked.{compartment_sizes, library_code_size, area_size}
-use Rattle.law_link.proofs.Lying.{threads_most, shared_sizes, sealed_sizes, stack_sizes, trusted_size}
+use Rattle.law_link.proofs.Lying.{shared_sizes, sealed_sizes, stack_sizes, trusted_size}
 use Rattle.law_link.proofs.Placings.{few_areas}
 use Rattle.ct_asm.specs.Labels.{Assembled}
 use Rattle.ct_link_objects.specs.Objects.{RefusesLink}
@@ -19,6 +19,7 @@ use Rattle.ct_link_slots.specs.Exporters.{IsExporter, IsLibraryExporter, AreCoun
 use Rattle.ct_link.specs.Laid.{sizes_with, laid_of, IsPlaced, AreObjects}
 use Rattle.ct_link.specs.Rows.{IsSized, IsSmallOwner, IsSmallLibrary, AreOwn, AreLent, own_built, lent_built}
 use Rattle.ct_link.proofs.Ready.{no_room}
+use Rattle.law_image.proofs.Limited.{threads_most}
 
 -- ---- rows
 

@@ -1,12 +1,13 @@
 -- Parts of an image list by list, up to an index: each with its regions and entries.
-use Rattle.std.proofs.Common.{ℕ, zero, suc, ◌≡◌, ◌+◌, ◌*◌, ◌<◌, max, List, [], ◌∷◌, ◌++◌, length, map, take, drop, get_or, refl, sym, ap, ap₂, ◌∙◌, arith, append_assoc}
+use Rattle.std.proofs.Common.{ℕ, zero, suc, ◌≡◌, ◌+◌, ◌*◌, ◌<◌, max, List, [], ◌∷◌, ◌++◌, length, map, take, drop, get_or, refl, sym, ap, ap₂, ◌∙◌, arith, append_assoc, append-nil, add-zero}
+use Rattle.std.proofs.Math.Nat.{mul-zero, mul-suc}
 use Rattle.def_layout.specs.declared.Region.{Region}
 use Rattle.def_image.specs.Parts.{SharedRow as SharedPart, SealedRow as SealedPart, CodeRow as CodePart, CompartmentRow as CompartmentPart, ThreadRow as ThreadPart}
 use Rattle.def_image.specs.Sizes.{sum_of}
 use Rattle.def_desc.specs.Rows.{SharedRow, SealedRow, ThreadRow, CompartmentRow, LibraryRow, DescRow}
 use Rattle.def_link.specs.Slots.{compartment_export_named}
 use Rattle.def_link.specs.Owners.{numbered}
-use Rattle.def_link.specs.Linked.{BuiltCompartment, BuiltLibrary, compartment_code_size, library_code_size, compartment_sizes, base_at, length_at, compartment_part, compartment_parts, compartment_entries, library_part, library_parts, library_entries, shared_parts, sealed_parts, thread_part, thread_parts}
+use Rattle.def_link.specs.Linked.{compartment_code_size, library_code_size, compartment_sizes, base_at, length_at, compartment_part, compartment_parts, library_part, library_parts, shared_parts, sealed_parts, thread_part, thread_parts}
 use Rattle.ct_asm.specs.Labels.{Assembled}
 use Rattle.ct_link.specs.Rows.{own_built, lent_built, with_object, library_with_object, row_entries, library_row_entries}
 use Rattle.ct_link.proofs.Places.{dropped}
@@ -49,156 +50,97 @@ unfolding thread_parts
 thread_all d regions at [] = refl
 thread_all d regions at (t ∷ ts) = ap (λ l. thread_in d regions at t ∷ l) (thread_all d regions (at + 1) ts ∙ ap (λ rs. thread_parts d rs ts) (sym (dropped at 1 regions)))
 
--- ---- compartments
+-- ---- rows with their objects: each has entries of its own and so many regions
 
-own_suc : (d : DescRow) (regions : List Region) (entry at : ℕ) (cs : List CompartmentRow) (os : List Assembled) (k : ℕ) (dc : CompartmentRow) (dp : Assembled) → k < length cs → k < length os
-    → compartment_parts d entry (drop at regions) (own_built (take (suc k) cs) (take (suc k) os))
-    ≡ compartment_parts d entry (drop at regions) (own_built (take k cs) (take k os))
-    ++ compartment_part d (entry + sum_of row_entries (take k cs)) (drop (at + 3 * k) regions) (with_object (get_or cs k dc) (get_or os k dp)) ∷ []
+-- what comes of rows whose entries begin at `entry` and whose regions at `at`
+abbrev pairs : {A B : Type 0} → (ℕ → ℕ → A → Assembled → List B) → (A → ℕ) → ℕ → ℕ → ℕ → List A → List Assembled → List B
+pairs f size step entry at [] os = []
+pairs f size step entry at (x ∷ xs) [] = []
+pairs f size step entry at (x ∷ xs) (o ∷ os) = f entry at x o ++ pairs f size step (entry + size x) (at + step) xs os
+
+pairs_suc : {A B : Type 0} (f : ℕ → ℕ → A → Assembled → List B) (size : A → ℕ) (step entry at : ℕ) (xs : List A) (os : List Assembled) (k : ℕ) (d : A) (p : Assembled) → k < length xs → k < length os
+    → pairs f size step entry at (take (suc k) xs) (take (suc k) os)
+    ≡ pairs f size step entry at (take k xs) (take k os) ++ f (entry + sum_of size (take k xs)) (at + step * k) (get_or xs k d) (get_or os k p)
+pairs_suc f size step entry at [] os k d p low less = absurd (omega (arith, low))
+pairs_suc f size step entry at (x ∷ xs) [] k d p low less = absurd (omega (arith, less))
+pairs_suc f size step entry at (x ∷ xs) (o ∷ os) zero d p low less =
+    append-nil (f entry at x o) ∙ ap₂ (λ n m. f n m x o) (let e : entry ≡ entry + 0 = omega arith in e) (sym (ap (λ n. at + n) (mul-zero step) ∙ add-zero at))
+pairs_suc f size step entry at (x ∷ xs) (o ∷ os) (suc k) d p low less =
+    let n = size x in
+    let e : entry + n + sum_of size (take k xs) ≡ entry + (n + sum_of size (take k xs)) = omega arith in
+    let on : step * suc k ≡ step * k + step = mul-suc step k in
+    let a : at + step + step * k ≡ at + step * suc k = omega (arith, on) in
+    ap (λ l. f entry at x o ++ l)
+    (pairs_suc f size step (entry + n) (at + step) xs os k d p (omega (arith, low)) (omega (arith, less))
+    ∙ ap₂ (λ m q. pairs f size step (entry + n) (at + step) (take k xs) (take k os) ++ f m q (get_or xs k d) (get_or os k p)) e a)
+    ∙ sym (append_assoc (f entry at x o) (pairs f size step (entry + n) (at + step) (take k xs) (take k os)) (f (entry + (n + sum_of size (take k xs))) (at + step * suc k) (get_or xs k d) (get_or os k p)))
+
+-- one more of a loop, pushed behind what was there
+pairs_pushed : {A B : Type 0} (f : ℕ → ℕ → A → Assembled → List B) (size : A → ℕ) (step entry at : ℕ) (xs : List A) (os : List Assembled) (k index number place : ℕ) (d x : A) (p o : Assembled) (front old more new : List B)
+    → index ≡ k → place ≡ at + step * k → number ≡ entry + sum_of size (take k xs) → old ≡ front ++ pairs f size step entry at (take k xs) (take k os)
+    → k < length xs → length xs ≡ length os → x ≡ get_or xs k d → o ≡ get_or os index p → more ≡ f number place x o → new ≡ old ++ more
+    → new ≡ front ++ pairs f size step entry at (take (k + 1) xs) (take (k + 1) os)
+pairs_pushed f size step entry at xs os k index number place d x p o front old more new i a n before low each is there made pushed =
+    let object : o ≡ get_or os k p = there ∙ ap (λ j. get_or os j p) i in
+    let on : suc k ≡ k + 1 = omega arith in
+    let so_far = pairs f size step entry at (take k xs) (take k os) in
+    let last : more ≡ f (entry + sum_of size (take k xs)) (at + step * k) (get_or xs k d) (get_or os k p) = made ∙ ap₂ (λ e q. f e q x o) n a ∙ ap₂ (λ y z. f (entry + sum_of size (take k xs)) (at + step * k) y z) is object in
+    pushed ∙ ap₂ (λ l z. l ++ z) before last ∙ append_assoc front so_far (f (entry + sum_of size (take k xs)) (at + step * k) (get_or xs k d) (get_or os k p))
+    ∙ ap (λ l. front ++ l) (sym (pairs_suc f size step entry at xs os k d p low (omega (arith, low, each))) ∙ ap (λ m. pairs f size step entry at (take m xs) (take m os)) on)
+
+-- ---- parts
+
+abbrev own_in : DescRow → List Region → ℕ → ℕ → CompartmentRow → Assembled → List CompartmentPart
+own_in d regions n at c o = compartment_part d n (drop at regions) (with_object c o) ∷ []
+
+own_pairs : (d : DescRow) (regions : List Region) (entry at : ℕ) (cs : List CompartmentRow) (os : List Assembled)
+    → compartment_parts d entry (drop at regions) (own_built cs os) ≡ pairs (own_in d regions) row_entries 3 entry at cs os
 unfolding compartment_parts
-own_suc d regions entry at [] os k dc dp low less = absurd (omega (arith, low))
-own_suc d regions entry at (c ∷ cs) [] k dc dp low less = absurd (omega (arith, less))
-own_suc d regions entry at (c ∷ cs) (o ∷ os) zero dc dp low less =
-    let e : entry ≡ entry + 0 = omega arith in
-    let a : at ≡ at + 3 * 0 = omega arith in
-    ap₂ (λ n m. compartment_part d n (drop m regions) (with_object c o) ∷ []) e a
-own_suc d regions entry at (c ∷ cs) (o ∷ os) (suc k) dc dp low less =
-    let n = row_entries c in
-    let e : entry + n + sum_of row_entries (take k cs) ≡ entry + (n + sum_of row_entries (take k cs)) = omega arith in
-    let a : at + 3 + 3 * k ≡ at + 3 * suc k = omega arith in
-    let here = compartment_part d entry (drop at regions) (with_object c o) in
-    ap (λ l. here ∷ l)
-    (ap (λ rs. compartment_parts d (entry + n) rs (own_built (take (suc k) cs) (take (suc k) os))) (dropped at 3 regions)
-    ∙ own_suc d regions (entry + n) (at + 3) cs os k dc dp (omega (arith, low)) (omega (arith, less))
-    ∙ ap₂ (λ rs x. compartment_parts d (entry + n) rs (own_built (take k cs) (take k os)) ++ x ∷ []) (sym (dropped at 3 regions))
-    (ap₂ (λ m p. compartment_part d m (drop p regions) (with_object (get_or cs k dc) (get_or os k dp))) e a))
+own_pairs d regions entry at [] os = refl
+own_pairs d regions entry at (c ∷ cs) [] = refl
+own_pairs d regions entry at (c ∷ cs) (o ∷ os) =
+    ap (λ l. compartment_part d entry (drop at regions) (with_object c o) ∷ l)
+    (ap (λ rs. compartment_parts d (entry + row_entries c) rs (own_built cs os)) (dropped at 3 regions) ∙ own_pairs d regions (entry + row_entries c) (at + 3) cs os)
 
-pub own_more : (d : DescRow) (regions : List Region) (cs : List CompartmentRow) (os : List Assembled) (k : ℕ) (dc : CompartmentRow) (dp : Assembled) → k < length cs → k < length os
-    → compartment_parts d 1 regions (own_built (take (k + 1) cs) (take (k + 1) os))
-    ≡ compartment_parts d 1 regions (own_built (take k cs) (take k os))
-    ++ compartment_part d (1 + sum_of row_entries (take k cs)) (drop (3 * k) regions) (with_object (get_or cs k dc) (get_or os k dp)) ∷ []
-own_more d regions cs os k dc dp low less =
-    let on : k + 1 ≡ suc k = omega arith in
-    let a : 0 + 3 * k ≡ 3 * k = omega arith in
-    ap (λ n. compartment_parts d 1 regions (own_built (take n cs) (take n os))) on
-    ∙ own_suc d regions 1 0 cs os k dc dp low less
-    ∙ ap (λ p. compartment_parts d 1 regions (own_built (take k cs) (take k os)) ++ compartment_part d (1 + sum_of row_entries (take k cs)) (drop p regions) (with_object (get_or cs k dc) (get_or os k dp)) ∷ []) a
-
--- one more part of a loop, pushed
 pub own_part_pushed : (d : DescRow) (regions : List Region) (cs : List CompartmentRow) (os : List Assembled) (k index at entry : ℕ) (dc x : CompartmentRow) (dp o : Assembled) (old new : List CompartmentPart) (y : CompartmentPart)
     → index ≡ k → at ≡ 3 * k → entry ≡ 1 + sum_of row_entries (take k cs) → old ≡ compartment_parts d 1 regions (own_built (take k cs) (take k os))
     → k < length cs → length cs ≡ length os → x ≡ get_or cs k dc → o ≡ get_or os index dp → y ≡ compartment_part d entry (drop at regions) (with_object x o) → new ≡ old ++ y ∷ []
     → new ≡ compartment_parts d 1 regions (own_built (take (k + 1) cs) (take (k + 1) os))
 own_part_pushed d regions cs os k index at entry dc x dp o old new y i a n before low each is there made pushed =
-    let object : o ≡ get_or os k dp = there ∙ ap (λ j. get_or os j dp) i in
-    let last : y ≡ compartment_part d (1 + sum_of row_entries (take k cs)) (drop (3 * k) regions) (with_object (get_or cs k dc) (get_or os k dp)) =
-    made ∙ ap₂ (λ e p. compartment_part d e (drop p regions) (with_object x o)) n a
-    ∙ ap₂ (λ c z. compartment_part d (1 + sum_of row_entries (take k cs)) (drop (3 * k) regions) (with_object c z)) is object in
-    pushed ∙ ap₂ (λ l z. l ++ z ∷ []) before last ∙ sym (own_more d regions cs os k dc dp low (omega (arith, low, each)))
+    pairs_pushed (own_in d regions) row_entries 3 1 0 cs os k index entry at dc x dp o [] old (y ∷ []) new i (let e : at ≡ 0 + 3 * k = omega (arith, a) in e) n (before ∙ own_pairs d regions 1 0 (take k cs) (take k os))
+    low each is there (ap (λ z. z ∷ []) made) pushed
+    ∙ sym (own_pairs d regions 1 0 (take (k + 1) cs) (take (k + 1) os))
 
--- ---- libraries
+abbrev lent_in : DescRow → List Region → ℕ → ℕ → LibraryRow → Assembled → List CodePart
+lent_in d regions n at l o = library_part d n (drop at regions) (library_with_object l o) ∷ []
 
-lent_suc : (d : DescRow) (regions : List Region) (entry at : ℕ) (ls : List LibraryRow) (os : List Assembled) (k : ℕ) (dl : LibraryRow) (dp : Assembled) → k < length ls → k < length os
-    → library_parts d entry (drop at regions) (lent_built (take (suc k) ls) (take (suc k) os))
-    ≡ library_parts d entry (drop at regions) (lent_built (take k ls) (take k os))
-    ++ library_part d (entry + sum_of library_row_entries (take k ls)) (drop (at + k) regions) (library_with_object (get_or ls k dl) (get_or os k dp)) ∷ []
+lent_pairs : (d : DescRow) (regions : List Region) (entry at : ℕ) (ls : List LibraryRow) (os : List Assembled)
+    → library_parts d entry (drop at regions) (lent_built ls os) ≡ pairs (lent_in d regions) library_row_entries 1 entry at ls os
 unfolding library_parts
-lent_suc d regions entry at [] os k dl dp low less = absurd (omega (arith, low))
-lent_suc d regions entry at (l ∷ ls) [] k dl dp low less = absurd (omega (arith, less))
-lent_suc d regions entry at (l ∷ ls) (o ∷ os) zero dl dp low less =
-    let e : entry ≡ entry + 0 = omega arith in
-    let a : at ≡ at + 0 = omega arith in
-    ap₂ (λ n m. library_part d n (drop m regions) (library_with_object l o) ∷ []) e a
-lent_suc d regions entry at (l ∷ ls) (o ∷ os) (suc k) dl dp low less =
-    let n = library_row_entries l in
-    let e : entry + n + sum_of library_row_entries (take k ls) ≡ entry + (n + sum_of library_row_entries (take k ls)) = omega arith in
-    let a : at + 1 + k ≡ at + suc k = omega arith in
-    let here = library_part d entry (drop at regions) (library_with_object l o) in
-    ap (λ r. here ∷ r)
-    (ap (λ rs. library_parts d (entry + n) rs (lent_built (take (suc k) ls) (take (suc k) os))) (dropped at 1 regions)
-    ∙ lent_suc d regions (entry + n) (at + 1) ls os k dl dp (omega (arith, low)) (omega (arith, less))
-    ∙ ap₂ (λ rs x. library_parts d (entry + n) rs (lent_built (take k ls) (take k os)) ++ x ∷ []) (sym (dropped at 1 regions))
-    (ap₂ (λ m p. library_part d m (drop p regions) (library_with_object (get_or ls k dl) (get_or os k dp))) e a))
+lent_pairs d regions entry at [] os = refl
+lent_pairs d regions entry at (l ∷ ls) [] = refl
+lent_pairs d regions entry at (l ∷ ls) (o ∷ os) =
+    ap (λ r. library_part d entry (drop at regions) (library_with_object l o) ∷ r)
+    (ap (λ rs. library_parts d (entry + library_row_entries l) rs (lent_built ls os)) (dropped at 1 regions) ∙ lent_pairs d regions (entry + library_row_entries l) (at + 1) ls os)
 
-pub lent_more : (d : DescRow) (regions : List Region) (entry first : ℕ) (ls : List LibraryRow) (os : List Assembled) (k : ℕ) (dl : LibraryRow) (dp : Assembled) → k < length ls → k < length os
-    → library_parts d entry (drop first regions) (lent_built (take (k + 1) ls) (take (k + 1) os))
-    ≡ library_parts d entry (drop first regions) (lent_built (take k ls) (take k os))
-    ++ library_part d (entry + sum_of library_row_entries (take k ls)) (drop (first + k) regions) (library_with_object (get_or ls k dl) (get_or os k dp)) ∷ []
-lent_more d regions entry first ls os k dl dp low less =
-    let on : k + 1 ≡ suc k = omega arith in
-    ap (λ n. library_parts d entry (drop first regions) (lent_built (take n ls) (take n os))) on
-    ∙ lent_suc d regions entry first ls os k dl dp low less
-
--- one more part of a loop, pushed
 pub lent_part_pushed : (d : DescRow) (regions : List Region) (entry first : ℕ) (ls : List LibraryRow) (os : List Assembled) (k index at number : ℕ) (dl x : LibraryRow) (dp o : Assembled) (old new : List CodePart) (y : CodePart)
     → index ≡ k → at ≡ first + k → number ≡ entry + sum_of library_row_entries (take k ls) → old ≡ library_parts d entry (drop first regions) (lent_built (take k ls) (take k os))
     → k < length ls → length ls ≡ length os → x ≡ get_or ls k dl → o ≡ get_or os index dp → y ≡ library_part d number (drop at regions) (library_with_object x o) → new ≡ old ++ y ∷ []
     → new ≡ library_parts d entry (drop first regions) (lent_built (take (k + 1) ls) (take (k + 1) os))
 lent_part_pushed d regions entry first ls os k index at number dl x dp o old new y i a n before low each is there made pushed =
-    let object : o ≡ get_or os k dp = there ∙ ap (λ j. get_or os j dp) i in
-    let last : y ≡ library_part d (entry + sum_of library_row_entries (take k ls)) (drop (first + k) regions) (library_with_object (get_or ls k dl) (get_or os k dp)) =
-    made ∙ ap₂ (λ e p. library_part d e (drop p regions) (library_with_object x o)) n a
-    ∙ ap₂ (λ l z. library_part d (entry + sum_of library_row_entries (take k ls)) (drop (first + k) regions) (library_with_object l z)) is object in
-    pushed ∙ ap₂ (λ l z. l ++ z ∷ []) before last ∙ sym (lent_more d regions entry first ls os k dl dp low (omega (arith, low, each)))
+    pairs_pushed (lent_in d regions) library_row_entries 1 entry first ls os k index number at dl x dp o [] old (y ∷ []) new i (let e : at ≡ first + 1 * k = omega (arith, a) in e) n (before ∙ lent_pairs d regions entry first (take k ls) (take k os))
+    low each is there (ap (λ z. z ∷ []) made) pushed
+    ∙ sym (lent_pairs d regions entry first (take (k + 1) ls) (take (k + 1) os))
 
--- ---- sizes
+-- ---- sizes, which ask for no entries and no places
 
-own_sizes_suc : (cs : List CompartmentRow) (os : List Assembled) (k : ℕ) (dc : CompartmentRow) (dp : Assembled) → k < length cs → k < length os
-    → compartment_sizes (own_built (take (suc k) cs) (take (suc k) os))
-    ≡ compartment_sizes (own_built (take k cs) (take k os))
-    ++ compartment_code_size (with_object (get_or cs k dc) (get_or os k dp))
-    ∷ (16 + 16 * length (get_or cs k dc).exports)
-    ∷ max (get_or cs k dc).globals (length (get_or os k dp).init)
-    ∷ []
-own_sizes_suc [] os k dc dp low less = absurd (omega (arith, low))
-own_sizes_suc (c ∷ cs) [] k dc dp low less = absurd (omega (arith, less))
-own_sizes_suc (c ∷ cs) (o ∷ os) zero dc dp low less = refl
-own_sizes_suc (c ∷ cs) (o ∷ os) (suc k) dc dp low less =
-    ap (λ l. compartment_code_size (with_object c o) ∷ (16 + 16 * length c.exports) ∷ max c.globals (length o.init) ∷ l)
-    (own_sizes_suc cs os k dc dp (omega (arith, low)) (omega (arith, less)))
+abbrev own_size : ℕ → ℕ → CompartmentRow → Assembled → List ℕ
+own_size n at c o = compartment_code_size (with_object c o) ∷ (16 + 16 * length c.exports) ∷ max c.globals (length o.init) ∷ []
 
-pub own_sizes_more : (cs : List CompartmentRow) (os : List Assembled) (k : ℕ) (dc : CompartmentRow) (dp : Assembled) → k < length cs → k < length os
-    → compartment_sizes (own_built (take (k + 1) cs) (take (k + 1) os))
-    ≡ compartment_sizes (own_built (take k cs) (take k os))
-    ++ compartment_code_size (with_object (get_or cs k dc) (get_or os k dp))
-    ∷ (16 + 16 * length (get_or cs k dc).exports)
-    ∷ max (get_or cs k dc).globals (length (get_or os k dp).init)
-    ∷ []
-own_sizes_more cs os k dc dp low less =
-    let on : k + 1 ≡ suc k = omega arith in
-    ap (λ n. compartment_sizes (own_built (take n cs) (take n os))) on ∙ own_sizes_suc cs os k dc dp low less
-
-lent_sizes_suc : (ls : List LibraryRow) (os : List Assembled) (k : ℕ) (dl : LibraryRow) (dp : Assembled) → k < length ls → k < length os
-    → map library_code_size (lent_built (take (suc k) ls) (take (suc k) os))
-    ≡ map library_code_size (lent_built (take k ls) (take k os)) ++ library_code_size (library_with_object (get_or ls k dl) (get_or os k dp)) ∷ []
-lent_sizes_suc [] os k dl dp low less = absurd (omega (arith, low))
-lent_sizes_suc (l ∷ ls) [] k dl dp low less = absurd (omega (arith, less))
-lent_sizes_suc (l ∷ ls) (o ∷ os) zero dl dp low less = refl
-lent_sizes_suc (l ∷ ls) (o ∷ os) (suc k) dl dp low less =
-    ap (λ r. library_code_size (library_with_object l o) ∷ r) (lent_sizes_suc ls os k dl dp (omega (arith, low)) (omega (arith, less)))
-
-pub lent_sizes_more : (ls : List LibraryRow) (os : List Assembled) (k : ℕ) (dl : LibraryRow) (dp : Assembled) → k < length ls → k < length os
-    → map library_code_size (lent_built (take (k + 1) ls) (take (k + 1) os))
-    ≡ map library_code_size (lent_built (take k ls) (take k os)) ++ library_code_size (library_with_object (get_or ls k dl) (get_or os k dp)) ∷ []
-lent_sizes_more ls os k dl dp low less =
-    let on : k + 1 ≡ suc k = omega arith in
-    ap (λ n. map library_code_size (lent_built (take n ls) (take n os))) on ∙ lent_sizes_suc ls os k dl dp low less
-
--- ---- one more size of a loop, pushed
-
-pub lent_pushed : (ls : List LibraryRow) (os : List Assembled) (k index : ℕ) (dl x : LibraryRow) (dp o : Assembled) (front old new : List ℕ) (y : ℕ)
-    → (index ≡ k) × (old ≡ front ++ map library_code_size (lent_built (take k ls) (take k os))) → k < length ls → length ls ≡ length os → x ≡ get_or ls k dl → o ≡ get_or os index dp
-    → y ≡ library_code_size (library_with_object x o) → new ≡ old ++ y ∷ []
-    → (index + 1 ≡ k + 1) × (new ≡ front ++ map library_code_size (lent_built (take (k + 1) ls) (take (k + 1) os)))
-lent_pushed ls os k index dl x dp o front old new y h low each is at made pushed =
-    let object : o ≡ get_or os k dp = at ∙ ap (λ n. get_or os n dp) h.0 in
-    let before = map library_code_size (lent_built (take k ls) (take k os)) in
-    let last : y ≡ library_code_size (library_with_object (get_or ls k dl) (get_or os k dp)) = made ∙ ap₂ (λ l z. library_code_size (library_with_object l z)) is object in (
-      ap (λ n. n + 1) h.0,
-      pushed ∙ ap₂ (λ l z. l ++ z ∷ []) h.1 last
-          ∙ append_assoc front before (library_code_size (library_with_object (get_or ls k dl) (get_or os k dp)) ∷ [])
-          ∙ ap (λ l. front ++ l) (sym (lent_sizes_more ls os k dl dp low (omega (arith, low, each)))),
-    )
+own_size_pairs : (cs : List CompartmentRow) (os : List Assembled) → compartment_sizes (own_built cs os) ≡ pairs own_size (λ c. 0) 0 0 0 cs os
+own_size_pairs [] os = refl
+own_size_pairs (c ∷ cs) [] = refl
+own_size_pairs (c ∷ cs) (o ∷ os) = ap (λ l. own_size 0 0 c o ++ l) (own_size_pairs cs os)
 
 pub own_pushed : (cs : List CompartmentRow) (os : List Assembled) (k index : ℕ) (dc x : CompartmentRow) (dp o : Assembled) (front old one two new : List ℕ) (a b e : ℕ)
     → (index ≡ k) × (old ≡ front ++ compartment_sizes (own_built (take k cs) (take k os))) → k < length cs → length cs ≡ length os → x ≡ get_or cs k dc → o ≡ get_or os index dp
@@ -206,16 +148,31 @@ pub own_pushed : (cs : List CompartmentRow) (os : List Assembled) (k index : ℕ
     → one ≡ old ++ a ∷ [] → two ≡ one ++ b ∷ [] → new ≡ two ++ e ∷ []
     → (index + 1 ≡ k + 1) × (new ≡ front ++ compartment_sizes (own_built (take (k + 1) cs) (take (k + 1) os)))
 own_pushed cs os k index dc x dp o front old one two new a b e h low each is at code table globals first second third =
-    let object : o ≡ get_or os k dp = at ∙ ap (λ n. get_or os n dp) h.0 in
-    let before = compartment_sizes (own_built (take k cs) (take k os)) in
     let three : List ℕ = a ∷ b ∷ e ∷ [] in
-    let last : three ≡ compartment_code_size (with_object (get_or cs k dc) (get_or os k dp)) ∷ (16 + 16 * length (get_or cs k dc).exports) ∷ max (get_or cs k dc).globals (length (get_or os k dp).init) ∷ [] =
-    ap₂ (λ m n. m ∷ n ∷ e ∷ []) code table ∙ ap (λ n. compartment_code_size (with_object x o) ∷ (16 + 16 * length x.exports) ∷ n ∷ []) globals
-    ∙ ap₂ (λ (c : CompartmentRow) (z : Assembled). compartment_code_size (with_object c z) ∷ (16 + 16 * length c.exports) ∷ max c.globals (length z.init) ∷ []) is object in (
+    let all : new ≡ old ++ three = third ∙ ap (λ l. l ++ e ∷ []) (second ∙ ap (λ l. l ++ b ∷ []) first)
+    ∙ ap (λ l. l ++ e ∷ []) (append_assoc old (a ∷ []) (b ∷ [])) ∙ append_assoc old (a ∷ b ∷ []) (e ∷ []) in
+    let made : three ≡ own_size 0 0 x o = ap₂ (λ m n. m ∷ n ∷ e ∷ []) code table ∙ ap (λ n. compartment_code_size (with_object x o) ∷ (16 + 16 * length x.exports) ∷ n ∷ []) globals in (
       ap (λ n. n + 1) h.0,
-      third ∙ ap (λ l. l ++ e ∷ []) (second ∙ ap (λ l. l ++ b ∷ []) first)
-          ∙ ap (λ l. l ++ e ∷ []) (append_assoc old (a ∷ []) (b ∷ [])) ∙ append_assoc old (a ∷ b ∷ []) (e ∷ [])
-          ∙ ap₂ (λ l r. l ++ r) h.1 last
-          ∙ append_assoc front before (compartment_code_size (with_object (get_or cs k dc) (get_or os k dp)) ∷ (16 + 16 * length (get_or cs k dc).exports) ∷ max (get_or cs k dc).globals (length (get_or os k dp).init) ∷ [])
-          ∙ ap (λ l. front ++ l) (sym (own_sizes_more cs os k dc dp low (omega (arith, low, each)))),
+      pairs_pushed own_size (λ c. 0) 0 0 0 cs os k index (0 + sum_of (λ (c : CompartmentRow). 0) (take k cs)) (0 + 0 * k) dc x dp o front old three new h.0 refl refl
+          (h.1 ∙ ap (λ l. front ++ l) (own_size_pairs (take k cs) (take k os))) low each is at made all
+          ∙ ap (λ l. front ++ l) (sym (own_size_pairs (take (k + 1) cs) (take (k + 1) os))),
     )
+
+abbrev lent_size : ℕ → ℕ → LibraryRow → Assembled → List ℕ
+lent_size n at l o = library_code_size (library_with_object l o) ∷ []
+
+lent_size_pairs : (ls : List LibraryRow) (os : List Assembled) → map library_code_size (lent_built ls os) ≡ pairs lent_size (λ l. 0) 0 0 0 ls os
+lent_size_pairs [] os = refl
+lent_size_pairs (l ∷ ls) [] = refl
+lent_size_pairs (l ∷ ls) (o ∷ os) = ap (λ r. lent_size 0 0 l o ++ r) (lent_size_pairs ls os)
+
+pub lent_pushed : (ls : List LibraryRow) (os : List Assembled) (k index : ℕ) (dl x : LibraryRow) (dp o : Assembled) (front old new : List ℕ) (y : ℕ)
+    → (index ≡ k) × (old ≡ front ++ map library_code_size (lent_built (take k ls) (take k os))) → k < length ls → length ls ≡ length os → x ≡ get_or ls k dl → o ≡ get_or os index dp
+    → y ≡ library_code_size (library_with_object x o) → new ≡ old ++ y ∷ []
+    → (index + 1 ≡ k + 1) × (new ≡ front ++ map library_code_size (lent_built (take (k + 1) ls) (take (k + 1) os)))
+lent_pushed ls os k index dl x dp o front old new y h low each is at made pushed = (
+  ap (λ n. n + 1) h.0,
+  pairs_pushed lent_size (λ l. 0) 0 0 0 ls os k index (0 + sum_of (λ (l : LibraryRow). 0) (take k ls)) (0 + 0 * k) dl x dp o front old (y ∷ []) new h.0 refl refl
+      (h.1 ∙ ap (λ l. front ++ l) (lent_size_pairs (take k ls) (take k os))) low each is at (ap (λ z. z ∷ []) made) pushed
+      ∙ ap (λ l. front ++ l) (sym (lent_size_pairs (take (k + 1) ls) (take (k + 1) os))),
+)

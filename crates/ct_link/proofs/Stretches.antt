@@ -1,19 +1,20 @@
 -- Elements of lists by their index.
-use Rattle.std.proofs.Common.{ℕ, zero, suc, ◌≡◌, ◌+◌, ◌≤◌, ◌<◌, List, [], ◌∷◌, ◌++◌, length, take, get_or, refl, sym, ap, ap₂, ◌∙◌, subst, arith}
+use Rattle.std.proofs.Common.{ℕ, suc, ◌≡◌, ◌+◌, ◌≤◌, ◌<◌, List, [], ◌∷◌, ◌++◌, length, take, get_or, sym, ap, ap₂, ◌∙◌, subst, arith, zero}
 use Rattle.std.specs.List.{AllByRecursion}
-use Rattle.std.proofs.lemmas.Option.{slice_get-get_or}
+use Rattle.std.proofs.lemmas.List.{take_all}
+use Rattle.law_lists.proofs.Places.{at_each}
 use Rattle.def_link.specs.Owners.{numbered}
-use Rattle.ct_link_objects.proofs.Walks.{numbered_one}
-use Rattle.ct_link_objects.proofs.Steps.{at_each as each}
+
+numbered_one : {A B : Type 0} (f : ℕ → A → B) (n : ℕ) (xs : List A) (k : ℕ) (d : A) → k < length xs → numbered f n (take (suc k) xs) ≡ numbered f n (take k xs) ++ f (n + k) (get_or xs k d) ∷ []
+numbered_one f n [] k d low = absurd (omega (arith, low))
+numbered_one f n (x ∷ xs) zero d low = ap (λ m. f m x ∷ []) (let e : n ≡ n + 0 = omega arith in e)
+numbered_one f n (x ∷ xs) (suc k) d low =
+    let on : n + 1 + k ≡ n + suc k = omega arith in
+    ap (λ l. f n x ∷ l) (numbered_one f (n + 1) xs k d (omega (arith, low)) ∙ ap (λ m. numbered f (n + 1) (take k xs) ++ f m (get_or xs k d) ∷ []) on)
 
 pub numbered_more : {A B : Type 0} (f : ℕ → A → B) (n : ℕ) (xs : List A) (k : ℕ) (d : A) → k < length xs
     → numbered f n (take (k + 1) xs) ≡ numbered f n (take k xs) ++ f (n + k) (get_or xs k d) ∷ []
-numbered_more f n xs k d low =
-    let on : k + 1 ≡ suc k = omega arith in
-    ap (λ m. numbered f n (take m xs)) on ∙ numbered_one f n xs k (get_or xs k d) (slice_get-get_or xs k d low)
-
-pub at_each : {A : Type 0} (P : A → Type 0) (xs : List A) (k : ℕ) (d : A) → AllByRecursion P xs → k < length xs → P (get_or xs k d)
-at_each P xs k d h low = each P xs k d h low
+numbered_more f n xs k d low = ap (λ m. numbered f n (take m xs)) (let on : k + 1 ≡ suc k = omega arith in on) ∙ numbered_one f n xs k d low
 
 -- what holds of each element holds of the one that a loop reads
 pub here : {A : Type 0} (P : A → Type 0) (xs : List A) (k : ℕ) (d x : A) → AllByRecursion P xs → k < length xs → x ≡ get_or xs k d → P x
@@ -35,12 +36,6 @@ numbered_pushed f n xs k at d x old new y h low is made pushed =
       pushed ∙ ap₂ (λ o z. o ++ z ∷ []) h.1 (made ∙ ap₂ f h.0 is) ∙ sym (numbered_more f n xs k d low),
     )
 
-take_whole : {A : Type 0} (k : ℕ) (xs : List A) → length xs ≤ k → take k xs ≡ xs
-take_whole zero [] h = refl
-take_whole (suc k) [] h = refl
-take_whole zero (x ∷ xs) h = absurd (omega (arith, h))
-take_whole (suc k) (x ∷ xs) h = ap (λ l. x ∷ l) (take_whole k xs (omega (arith, h)))
-
 -- all of them, where the loop has ended
 pub all_numbered : {A B : Type 0} (f : ℕ → A → B) (n : ℕ) (xs : List A) (k : ℕ) (items : List B) → items ≡ numbered f n (take k xs) → length xs ≤ k → items ≡ numbered f n xs
-all_numbered f n xs k items h end = h ∙ ap (λ l. numbered f n l) (take_whole k xs end)
+all_numbered f n xs k items h end = h ∙ ap (λ l. numbered f n l) (take_all k xs end)

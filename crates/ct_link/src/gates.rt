@@ -89,7 +89,7 @@ fn library_gate(
 /// The exports of a compartment whose object this is; the first has this entry.
 ///
 /// Condition: text and entries are of 32 bits, and no export has more arguments than a byte counts.
-#[tactic(auto, using(crate::proofs::Stretches::numbered_more, crate::proofs::Stretches::at_each))]
+#[tactic(auto, using(crate::proofs::Stretches::numbered_more, law_lists::proofs::Places::at_each))]
 pub(crate) fn compartment_gates(
     alloc: Global,
     object: &Object,

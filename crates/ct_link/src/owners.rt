@@ -28,7 +28,7 @@ fn entry_count(compartment: &Compartment) -> u32
 }
 
 /// How many entries compartments have together.
-#[tactic(auto, using(crate::proofs::Sums::sum_more, crate::proofs::Stretches::at_each))]
+#[tactic(auto, using(crate::proofs::Sums::sum_more, law_lists::proofs::Places::at_each))]
 pub(crate) fn entries_of(compartments: &[Compartment]) -> u32
     requires rows { AllByRecursion IsSmallOwner compartments.now }
     requires few { length compartments.now ≤ MOST_COMPARTMENTS }

@@ -107,7 +107,7 @@ fn add_shared(sizes: &mut Vec<u32>, all: &[Shared]) -> Result<(), AllocError>
     Ok(())
 }
 
-#[tactic(auto, using(crate::proofs::Stretches::at_each))]
+#[tactic(auto, using(law_lists::proofs::Places::at_each))]
 fn add_sealed(sizes: &mut Vec<u32>, all: &[Sealed]) -> Result<(), AllocError>
     requires { AllByRecursion IsLawfulSealed all.now }
     ensures { OnOk result
@@ -130,7 +130,7 @@ fn add_stacks(sizes: &mut Vec<u32>, threads: &[Thread]) -> Result<(), AllocError
 }
 
 /// The size of the threads' areas, each with its saved registers and frames.
-#[tactic(auto, using(crate::proofs::Sums::sum_more, crate::proofs::Stretches::at_each))]
+#[tactic(auto, using(crate::proofs::Sums::sum_more, law_lists::proofs::Places::at_each))]
 fn areas_size(threads: &[Thread]) -> u32
     requires frames { AllByRecursion (λ (t : ThreadRow). t.frames ≤ MOST_FRAMES) threads.now }
     requires few { length threads.now ≤ MOST_THREADS_2 }

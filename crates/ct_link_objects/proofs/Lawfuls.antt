@@ -1,102 +1,51 @@
--- What a lawful description and its sources grant to the loops over its owners, and what comes of
--- these.
-use Rattle.std.proofs.Common.{ℕ, ◌≡◌, ◌+◌, ◌≤◌, ◌<◌, ◌^◌, List, [], ◌∷◌, ◌++◌, length, drop, Option, Some, None, refl, sym, ap, ◌∙◌, subst, arith}
-use Rattle.std.specs.Prelude.{Result, Ok, Err}
+-- What a lawful description and its sources grant to the loop over its owners.
+use Rattle.std.proofs.Common.{ℕ, ◌≡◌, ◌+◌, ◌≤◌, ◌<◌, ◌^◌, List, [], ◌∷◌, length, Some, slice_get, subst, arith}
 use Rattle.std.specs.List.{AllByRecursion}
-use Rattle.def_desc.specs.Lawful.{IsLawful, IsLawfulCompartment, IsLawfulLibrary}
-use Rattle.def_desc.specs.Rows.{CompartmentRow, LibraryRow, DescRow}
-use Rattle.def_link.specs.declared.LinkFault.{LinkFault}
-use Rattle.def_link.specs.declared.LinkFault.TheVariants as fault
-use Rattle.def_link.specs.Owners.{Unit as OwnerUnit, numbered, compartment_unit, library_unit, units_of, all_built}
-use Rattle.ct_asm.specs.Labels.{Assembled}
-use Rattle.ct_link_objects.specs.Objects.{file_of, files_of, AreSourced, IsLinkable, IsOwn, IsShared, AreBuilt, Adds, RefusesLink}
+use Rattle.std.proofs.lemmas.List.{length-map}
+use Rattle.std.proofs.lemmas.Option.{slice_get_within, get_or_from_slice_get}
+use Rattle.law_lists.proofs.Alls.{all_joined}
+use Rattle.law_lists.proofs.Places.{at_each}
+use Rattle.def_desc.specs.Lawful.{IsLawfulCompartment, IsLawfulLibrary}
+use Rattle.def_desc.specs.Rows.{ExportRow, LexportRow, CompartmentRow, LibraryRow, DescRow}
+use Rattle.def_link.specs.Owners.{Unit as OwnerUnit, numbered, compartment_unit, library_unit, units_of}
+use Rattle.ct_link_objects.specs.Objects.{files_of, IsCounted, IsLinkable}
 use Rattle.ct_link_objects.proofs.Counts.{one_file}
-use Rattle.ct_link_objects.proofs.Walks.{files_joined, fails_joined}
-use Rattle.ct_link_objects.proofs.Progress.{both_built, second_fault}
+use Rattle.ct_link_objects.proofs.Rows.{owners_counted}
 
--- ---- rows
+own_counted : (d : DescRow) (n : ℕ) (cs : List CompartmentRow) → n + length cs < 2 ^ 32 → AllByRecursion (IsLawfulCompartment d) cs → AllByRecursion IsCounted (numbered compartment_unit n cs)
+own_counted d n [] few h = tt
+own_counted d n (c ∷ cs) few h =
+    let exports = h.0.exports in
+    let count = length-map c.exports (λ (e : ExportRow). e.at) in
+    (record { index = omega (arith, few); slots = h.0.slots; exports = omega (arith, exports, count) }, own_counted d (n + 1) cs (omega (arith, few)) h.1)
 
-own_each : (d : DescRow) (cs : List CompartmentRow) → AllByRecursion (IsLawfulCompartment d) cs → AllByRecursion IsOwn cs
-own_each d [] h = tt
-own_each d (c ∷ cs) h = (record { slots = h.0.slots; exports = (let few = h.0.exports in omega (arith, few)) }, own_each d cs h.1)
+lent_counted : (d : DescRow) (n : ℕ) (ls : List LibraryRow) → n + length ls < 2 ^ 32 → AllByRecursion (IsLawfulLibrary d) ls → AllByRecursion IsCounted (numbered library_unit n ls)
+lent_counted d n [] few h = tt
+lent_counted d n (l ∷ ls) few h =
+    let exports = h.0.exports in
+    let count = length-map l.exports (λ (e : LexportRow). e.at) in
+    (record { index = omega (arith, few); slots = h.0.slots; exports = omega (arith, exports, count) }, lent_counted d (n + 1) ls (omega (arith, few)) h.1)
 
-shared_each : (d : DescRow) (ls : List LibraryRow) → AllByRecursion (IsLawfulLibrary d) ls → AllByRecursion IsShared ls
-shared_each d [] h = tt
-shared_each d (l ∷ ls) h = (record { slots = h.0.slots; exports = (let few = h.0.exports in omega (arith, few)) }, shared_each d ls h.1)
+pub counted_at : (d : DescRow) (sources : List (List ℕ)) (k : ℕ) (u : OwnerUnit) → IsLinkable d sources → slice_get (units_of d) k ≡ Some u → IsCounted u
+counted_at d sources k u h is =
+    let own = h.lawful.few.compartments in
+    let lent = h.lawful.few.libraries in
+    let all = all_joined IsCounted (numbered compartment_unit 0 d.compartments) (numbered library_unit 0 d.libraries)
+    (own_counted d 0 d.compartments (omega (arith, own)) h.lawful.compartment) (lent_counted d 0 d.libraries (omega (arith, lent)) h.lawful.library) in
+    subst IsCounted (get_or_from_slice_get (units_of d) k u u is) (at_each IsCounted (units_of d) k u all (slice_get_within (units_of d) k u is))
 
-pub own_rows : (d : DescRow) (sources : List (List ℕ)) → IsLinkable d sources → AllByRecursion IsOwn d.compartments
-own_rows d sources h = own_each d d.compartments h.lawful.compartment
-
-pub shared_rows : (d : DescRow) (sources : List (List ℕ)) → IsLinkable d sources → AllByRecursion IsShared d.libraries
-shared_rows d sources h = shared_each d d.libraries h.lawful.library
-
-pub own_few : (d : DescRow) (sources : List (List ℕ)) → IsLinkable d sources → length d.compartments < 2 ^ 32
-own_few d sources h = let few = h.lawful.few.compartments in omega (arith, few)
-
-pub shared_few : (d : DescRow) (sources : List (List ℕ)) → IsLinkable d sources → length d.libraries < 2 ^ 32
-shared_few d sources h = let few = h.lawful.few.libraries in omega (arith, few)
-
--- ---- texts
-
-text_count : (d : DescRow) (sources : List (List ℕ)) → IsLinkable d sources
-    → length sources ≡ files_of (numbered compartment_unit 0 d.compartments) + files_of (numbered library_unit 0 d.libraries)
-text_count d sources h = h.sourced.each ∙ files_joined (numbered compartment_unit 0 d.compartments) (numbered library_unit 0 d.libraries)
-
-few_files : {A : Type 0} (f : ℕ → A → OwnerUnit) (n : ℕ) (xs : List A) → files_of (numbered f n xs) ≤ length xs
-few_files f n [] = omega arith
-few_files f n (x ∷ xs) =
-    let rest = few_files f (n + 1) xs in
-    let one = one_file (f n x).code.file in
+few_files : (us : List OwnerUnit) → files_of us ≤ length us
+few_files [] = omega arith
+few_files (u ∷ us) =
+    let rest = few_files us in
+    let one = one_file u.code.file in
     omega (arith, rest, one)
 
 pub texts_counted : (d : DescRow) (sources : List (List ℕ)) → IsLinkable d sources → length sources < 2 ^ 32
 texts_counted d sources h =
-    let count = text_count d sources h in
-    let own = few_files compartment_unit 0 d.compartments in
-    let lent = few_files library_unit 0 d.libraries in
-    let few = h.lawful.few.compartments in
-    let fewer = h.lawful.few.libraries in
-    omega (arith, count, own, lent, few, fewer)
-
-pub texts_there : (d : DescRow) (sources : List (List ℕ)) → IsLinkable d sources → files_of (numbered compartment_unit 0 d.compartments) ≤ length sources
-texts_there d sources h = let count = text_count d sources h in omega (arith, count)
-
-pub texts_left : (d : DescRow) (sources : List (List ℕ)) (used : ℕ) → IsLinkable d sources → used ≡ files_of (numbered compartment_unit 0 d.compartments)
-    → used + files_of (numbered library_unit 0 d.libraries) ≤ length sources
-texts_left d sources used h is = let count = text_count d sources h in omega (arith, count, is)
-
--- ---- what comes of all
-
-pub objects_done : (d : DescRow) (sources : List (List ℕ)) (used : ℕ) (first last : List Assembled) → used ≡ files_of (numbered compartment_unit 0 d.compartments)
-    → Adds (all_built (numbered compartment_unit 0 d.compartments) sources) [] first → Adds (all_built (numbered library_unit 0 d.libraries) (drop used sources)) first last
-    → AreBuilt (all_built (units_of d) sources) last
-objects_done d sources used first last count a b =
-    let all = both_built (numbered compartment_unit 0 d.compartments) (numbered library_unit 0 d.libraries) sources used [] first last count a b in
-    subst (AreBuilt (all_built (units_of d) sources)) (sym all.is) all.built
-
-fails_first : (d : DescRow) (sources : List (List ℕ)) (e : LinkFault) → all_built (numbered compartment_unit 0 d.compartments) sources ≡ Err e → all_built (units_of d) sources ≡ Err e
-fails_first d sources e h = fails_joined (numbered compartment_unit 0 d.compartments) (numbered library_unit 0 d.libraries) sources e h
-
-pub owners_refused : (d : DescRow) (sources : List (List ℕ)) (e : LinkFault) → RefusesLink (all_built (numbered compartment_unit 0 d.compartments) sources) e → RefusesLink (all_built (units_of d) sources) e
-owners_refused d sources fault.NoMemory h = tt
-owners_refused d sources (fault.Asm owner number line) h = fails_first d sources (fault.Asm owner number line) h
-owners_refused d sources (fault.Export owner item) h = fails_first d sources (fault.Export owner item) h
-owners_refused d sources (fault.NoRoom needed has) h = fails_first d sources (fault.NoRoom needed has) h
-owners_refused d sources (fault.Import owner line) h = fails_first d sources (fault.Import owner line) h
-owners_refused d sources (fault.Initial owner) h = fails_first d sources (fault.Initial owner) h
-
-fails_second : (d : DescRow) (sources : List (List ℕ)) (used : ℕ) (first : List Assembled) (e : LinkFault) → used ≡ files_of (numbered compartment_unit 0 d.compartments)
-    → Adds (all_built (numbered compartment_unit 0 d.compartments) sources) [] first → all_built (numbered library_unit 0 d.libraries) (drop used sources) ≡ Err e
-    → all_built (units_of d) sources ≡ Err e
-fails_second d sources used first e count a h =
-    second_fault (numbered compartment_unit 0 d.compartments) (numbered library_unit 0 d.libraries) sources used [] first e count a h
-
-pub libraries_refused : (d : DescRow) (sources : List (List ℕ)) (used : ℕ) (first : List Assembled) (e : LinkFault) → used ≡ files_of (numbered compartment_unit 0 d.compartments)
-    → Adds (all_built (numbered compartment_unit 0 d.compartments) sources) [] first → RefusesLink (all_built (numbered library_unit 0 d.libraries) (drop used sources)) e
-    → RefusesLink (all_built (units_of d) sources) e
-libraries_refused d sources used first fault.NoMemory count a h = tt
-libraries_refused d sources used first (fault.Asm owner number line) count a h = fails_second d sources used first (fault.Asm owner number line) count a h
-libraries_refused d sources used first (fault.Export owner item) count a h = fails_second d sources used first (fault.Export owner item) count a h
-libraries_refused d sources used first (fault.NoRoom needed has) count a h = fails_second d sources used first (fault.NoRoom needed has) count a h
-libraries_refused d sources used first (fault.Import owner line) count a h = fails_second d sources used first (fault.Import owner line) count a h
-libraries_refused d sources used first (fault.Initial owner) count a h = fails_second d sources used first (fault.Initial owner) count a h
+    let each = h.sourced.each in
+    let files = few_files (units_of d) in
+    let count = owners_counted d in
+    let own = h.lawful.few.compartments in
+    let lent = h.lawful.few.libraries in
+    omega (arith, each, files, count, own, lent)

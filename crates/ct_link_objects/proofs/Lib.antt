@@ -1,4 +1,5 @@
 pub mod Walks
+pub mod Rows
 pub mod Counts
 pub mod Slots
 pub mod Units

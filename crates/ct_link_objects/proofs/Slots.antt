@@ -3,6 +3,7 @@ use Rattle.std.proofs.Common.{ℕ, zero, suc, ◌≡◌, ◌+◌, Bool, true, fa
 use Rattle.std.specs.Prelude.{bytes_eq, is_none, Option}
 use Rattle.std.proofs.lemmas.Slice.Eq.{bytes_eq-Decides}
 use Rattle.std.proofs.lemmas.Option.{slice_get_within}
+use Rattle.law_lists.proofs.Places.{still_there}
 use Rattle.def_object.specs.Object.{slot_from, slot_of}
 use Rattle.def_desc.specs.Lawful.{AreNames}
 use Rattle.ct_link_objects.specs.Slots.{with_slot, with_slots}
@@ -24,11 +25,6 @@ fresh_last : (names : List (List ℕ)) (n : List ℕ) → Fresh names n → with
 unfolding slot_of
 fresh_last names n h = ap (λ (o : Option ℕ). cond (is_none o) (names ++ n ∷ []) names) (no_slot 0 names n h)
 
-kept : {A : Type 0} (xs ys : List A) (i : ℕ) (x : A) → slice_get xs i ≡ Some x → slice_get (xs ++ ys) i ≡ Some x
-kept [] ys i x is = absurd (let no : None ≡ Some x = is in cc)
-kept (y ∷ xs) ys zero x is = is
-kept (y ∷ xs) ys (suc i) x is = kept xs ys i x is
-
 seam : {A : Type 0} (xs ys : List A) (x : A) → slice_get (xs ++ x ∷ ys) (length xs) ≡ Some x
 seam [] ys x = refl
 seam (y ∷ xs) ys x = seam xs ys x
@@ -41,7 +37,7 @@ unfolding Once Fresh
 taken seen [] h = sym (append-nil seen)
 taken seen (n ∷ ns) h =
     let fresh : Fresh seen n = λ i is.
-    let same : i ≡ length seen = h i (length seen) n (kept seen (n ∷ ns) i n is) (seam seen ns n) in
+    let same : i ≡ length seen = h i (length seen) n (still_there seen (n ∷ ns) i n is) (seam seen ns n) in
     let low = slice_get_within seen i n is in
     absurd (omega (arith, same, low)) in
     let whole : (seen ++ n ∷ []) ++ ns ≡ seen ++ n ∷ ns = append_assoc seen (n ∷ []) ns in

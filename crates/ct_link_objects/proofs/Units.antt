@@ -1,13 +1,10 @@
 -- An owner's object: its exports begin in its text, and a library has no initial bytes.
-use Rattle.std.proofs.Common.{ℕ, ◌≡◌, ◌+◌, true, false, cond, List, [], ◌∷◌, length, map, Option, Some, None, refl, sym, ap, ap₂, ◌∙◌}
-use Rattle.std.specs.Prelude.{Ok, Err, is_none, nat_lt, option_and_then}
-use Rattle.ct_entry.specs.declared.rows.Owner.TheVariants.{Compartment, Library}
-use Rattle.def_desc.specs.Named.{slot_names, library_slot_names}
-use Rattle.def_desc.specs.Rows.{AtRow, ExportRow, CompartmentRow, LexportRow, LibraryRow}
+use Rattle.std.proofs.Common.{ℕ, ◌≡◌, ◌+◌, true, false, cond, List, [], ◌∷◌, Option, Some, None, refl, sym, ap, ap₂, ◌∙◌}
+use Rattle.std.specs.Prelude.{Ok, Err, is_none, option_and_then}
+use Rattle.def_desc.specs.Rows.{AtRow}
 use Rattle.def_link.specs.declared.LinkFault.{LinkFault}
 use Rattle.def_link.specs.declared.LinkFault.TheVariants as fault
-use Rattle.def_link.specs.Owners.{Unit as OwnerUnit, Built, built, label_or, is_begin, begin_of, first_lost, has_stray_bytes, placed_or, checked, unit_built, compartment_unit, library_unit}
-use Rattle.def_object.specs.declared.Label.{Label}
+use Rattle.def_link.specs.Owners.{Unit as OwnerUnit, Built, built, label_or, is_begin, begin_of, first_lost, has_stray_bytes, placed_or, checked, unit_built}
 use Rattle.def_object.specs.Object.{text_offset}
 use Rattle.ct_asm.specs.Labels.{Assembled}
 use Rattle.ct_link_objects.specs.Objects.{built_of, HoldsBuilt, IsBuilt, RefusesLink}
@@ -64,8 +61,6 @@ unit_placed u source o h is stray = record {
   held = h.held;
 }
 
--- ---- by compartment and by library
-
 -- a fault of the code is that of the owner
 pub unit_refused : (u : OwnerUnit) (source : List ℕ) (e : LinkFault) → RefusesLink (built u.owner u.slots u.code source) e → RefusesLink (unit_built u source) e
 unit_refused u source fault.NoMemory h = tt
@@ -74,32 +69,3 @@ unit_refused u source (fault.Export owner item) h = unit_fault u source (fault.E
 unit_refused u source (fault.NoRoom needed has) h = unit_fault u source (fault.NoRoom needed has) h
 unit_refused u source (fault.Import owner line) h = unit_fault u source (fault.Import owner line) h
 unit_refused u source (fault.Initial owner) h = unit_fault u source (fault.Initial owner) h
-
-pub compartment_refused : (i : ℕ) (c : CompartmentRow) (source : List ℕ) (e : LinkFault) → RefusesLink (built (Compartment i) (slot_names c) c.code source) e
-    → RefusesLink (unit_built (compartment_unit i c) source) e
-compartment_refused i c source e h = unit_refused (compartment_unit i c) source e h
-
-pub compartment_lost : (i : ℕ) (c : CompartmentRow) (source : List ℕ) (o : Assembled) (n : ℕ) → IsBuilt (built (Compartment i) (slot_names c) c.code source) o
-    → first_lost (built_of o) 0 (map (λ (x : ExportRow). x.at) c.exports) ≡ Some n → unit_built (compartment_unit i c) source ≡ Err (fault.Export (Compartment i) n)
-compartment_lost i c source o n h is = unit_lost (compartment_unit i c) source o n h is
-
-pub compartment_placed : (i : ℕ) (c : CompartmentRow) (source : List ℕ) (o : Assembled) → IsBuilt (built (Compartment i) (slot_names c) c.code source) o
-    → first_lost (built_of o) 0 (map (λ (x : ExportRow). x.at) c.exports) ≡ None → IsBuilt (unit_built (compartment_unit i c) source) o
-compartment_placed i c source o h is = unit_placed (compartment_unit i c) source o h is refl
-
-pub library_refused : (i : ℕ) (l : LibraryRow) (source : List ℕ) (e : LinkFault) → RefusesLink (built (Library i) (library_slot_names l) l.code source) e
-    → RefusesLink (unit_built (library_unit i l) source) e
-library_refused i l source e h = unit_refused (library_unit i l) source e h
-
-pub library_lost : (i : ℕ) (l : LibraryRow) (source : List ℕ) (o : Assembled) (n : ℕ) → IsBuilt (built (Library i) (library_slot_names l) l.code source) o
-    → first_lost (built_of o) 0 (map (λ (x : LexportRow). x.at) l.exports) ≡ Some n → unit_built (library_unit i l) source ≡ Err (fault.Export (Library i) n)
-library_lost i l source o n h is = unit_lost (library_unit i l) source o n h is
-
-pub library_stray : (i : ℕ) (l : LibraryRow) (source : List ℕ) (o : Assembled) → IsBuilt (built (Library i) (library_slot_names l) l.code source) o
-    → first_lost (built_of o) 0 (map (λ (x : LexportRow). x.at) l.exports) ≡ None → nat_lt 0 (length o.init) ≡ true
-    → unit_built (library_unit i l) source ≡ Err (fault.Initial (Library i))
-library_stray i l source o h is stray = unit_stray (library_unit i l) source o h is stray
-
-pub library_placed : (i : ℕ) (l : LibraryRow) (source : List ℕ) (o : Assembled) → IsBuilt (built (Library i) (library_slot_names l) l.code source) o
-    → first_lost (built_of o) 0 (map (λ (x : LexportRow). x.at) l.exports) ≡ None → nat_lt 0 (length o.init) ≡ false → IsBuilt (unit_built (library_unit i l) source) o
-library_placed i l source o h is clean = unit_placed (library_unit i l) source o h is clean

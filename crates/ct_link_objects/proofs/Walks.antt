@@ -1,35 +1,23 @@
--- Owners built one after another, in two stretches, and the texts that these take.
+-- Owners built in two stretches, and the texts that these take.
 use Rattle.std.proofs.Common.{ℕ, zero, suc, ◌≡◌, ◌+◌, List, [], ◌∷◌, ◌++◌, take, drop, Option, Some, None, slice_get, refl, sym, ap, ap₂, ◌∙◌, subst, arith}
 use Rattle.std.specs.Prelude.{Result, Ok, Err}
+use Rattle.std.proofs.Math.Seq.{take-suc, drop-cons}
+use Rattle.std.proofs.lemmas.List.{take-append-drop}
+use Rattle.std.proofs.lemmas.Option.{slice_get_within, get_or_from_slice_get}
 use Rattle.def_link.specs.declared.LinkFault.{LinkFault}
-use Rattle.def_link.specs.Owners.{Unit as OwnerUnit, Built, numbered, unit_built, with_front, source_for, rest_of, all_built}
+use Rattle.def_link.specs.Owners.{Unit as OwnerUnit, Built, unit_built, with_front, source_for, rest_of, all_built}
 use Rattle.ct_asm.specs.Labels.{Assembled}
 use Rattle.ct_link_objects.specs.Objects.{file_of, files_of, AllHold}
 
 -- ---- lists by index
 
-pub numbered_cut : {A B : Type 0} (f : ℕ → A → B) (n : ℕ) (xs : List A) (k : ℕ) (x : A) → slice_get xs k ≡ Some x
-    → numbered f n xs ≡ numbered f n (take k xs) ++ f (n + k) x ∷ numbered f (n + k + 1) (drop (suc k) xs)
-numbered_cut f n [] k x is = absurd (let no : None ≡ Some x = is in cc)
-numbered_cut f n (y ∷ ys) zero x is =
-    let same : y ≡ x = cc in
-    let none : n ≡ n + 0 = omega arith in
-    let more : n + 1 ≡ n + 0 + 1 = omega arith in
-    ap₂ (λ m z. f m z ∷ numbered f (n + 1) ys) none same ∙ ap (λ m. f (n + 0) x ∷ numbered f m ys) more
-numbered_cut f n (y ∷ ys) (suc k) x is =
-    let on : n + 1 + k ≡ n + suc k = omega arith in
-    ap (λ l. f n y ∷ l) (numbered_cut f (n + 1) ys k x is ∙ ap (λ m. numbered f (n + 1) (take k ys) ++ f m x ∷ numbered f (m + 1) (drop (suc k) ys)) on)
+pub take_one : {A : Type 0} (xs : List A) (k : ℕ) (x : A) → slice_get xs k ≡ Some x → take (suc k) xs ≡ take k xs ++ x ∷ []
+take_one xs k x is = take-suc xs k x (slice_get_within xs k x is) ∙ ap (λ z. take k xs ++ z ∷ []) (get_or_from_slice_get xs k x x is)
 
-pub numbered_one : {A B : Type 0} (f : ℕ → A → B) (n : ℕ) (xs : List A) (k : ℕ) (x : A) → slice_get xs k ≡ Some x
-    → numbered f n (take (suc k) xs) ≡ numbered f n (take k xs) ++ f (n + k) x ∷ []
-numbered_one f n [] k x is = absurd (let no : None ≡ Some x = is in cc)
-numbered_one f n (y ∷ ys) zero x is =
-    let same : y ≡ x = cc in
-    let none : n ≡ n + 0 = omega arith in
-    ap₂ (λ m z. f m z ∷ []) none same
-numbered_one f n (y ∷ ys) (suc k) x is =
-    let on : n + 1 + k ≡ n + suc k = omega arith in
-    ap (λ l. f n y ∷ l) (numbered_one f (n + 1) ys k x is ∙ ap (λ m. numbered f (n + 1) (take k ys) ++ f m x ∷ []) on)
+pub cut_at : {A : Type 0} (xs : List A) (k : ℕ) (x : A) → slice_get xs k ≡ Some x → xs ≡ take k xs ++ x ∷ drop (suc k) xs
+cut_at xs k x is =
+    sym (take-append-drop k xs)
+    ∙ ap (λ l. take k xs ++ l) (drop-cons xs k x (slice_get_within xs k x is) ∙ ap (λ z. z ∷ drop (suc k) xs) (get_or_from_slice_get xs k x x is))
 
 -- ---- texts
 
@@ -84,21 +72,6 @@ built_joined (u ∷ us) vs sources bs e = by (unit_built u (source_for u.code.fi
         let later = drop (files_of us) (rest_of u.code.file sources) in
         ap₂ (λ o r. with_front o r) is (so cs rest) ∙ front_prepended b cs (all_built vs later)
         ∙ ap₂ (λ (l : List Built) (s : List (List ℕ)). prepended l (all_built vs s)) same (sym (left u.code.file (files_of us) sources))
-
--- where it isn't, the fault is that of the whole
-pub fails_joined : (us vs : List OwnerUnit) (sources : List (List ℕ)) (e : LinkFault) → all_built us sources ≡ Err e → all_built (us ++ vs) sources ≡ Err e
-unfolding all_built
-fails_joined [] vs sources e h = absurd (let no : Ok [] ≡ Err e = h in cc)
-fails_joined (u ∷ us) vs sources e h = by (unit_built u (source_for u.code.file sources)) refl (all_built us (rest_of u.code.file sources)) refl h
-    (λ k. fails_joined us vs (rest_of u.code.file sources) e k)
-  where
-    by : (o : Result Built LinkFault) → unit_built u (source_for u.code.file sources) ≡ o
-        → (r : Result (List Built) LinkFault) → all_built us (rest_of u.code.file sources) ≡ r → with_front o r ≡ Err e
-        → (all_built us (rest_of u.code.file sources) ≡ Err e → all_built (us ++ vs) (rest_of u.code.file sources) ≡ Err e)
-        → with_front (unit_built u (source_for u.code.file sources)) (all_built (us ++ vs) (rest_of u.code.file sources)) ≡ Err e
-    by (Err f) is r rest k so = ap (λ o. with_front o (all_built (us ++ vs) (rest_of u.code.file sources))) is ∙ k
-    by (Ok b) is (Err f) rest k so = ap₂ (λ o r. with_front o r) is (so (rest ∙ k))
-    by (Ok b) is (Ok cs) rest k so = absurd (let no : Ok (b ∷ cs) ≡ Err e = k in cc)
 
 -- ---- objects
 

@@ -1,12 +1,15 @@
 -- What the objects of a description's compartments and libraries stand for, as def_link has it.
-use Rattle.std.specs.Prelude.{ℕ, ◌≡◌, ◌+◌, ◌<◌, ◌^◌, ⊤, List, [], ◌∷◌, ◌++◌, length, Option, Some, None, Result, Ok, Err}
+use Rattle.std.specs.Prelude.{ℕ, ◌≡◌, ◌+◌, ◌<◌, ◌^◌, ⊤, List, [], ◌∷◌, length, Option, Some, None, Result, Ok, Err}
 use Rattle.std.specs.List.{AllByRecursion}
+use Rattle.ct_entry.specs.declared.rows.Owner.{Owner}
+use Rattle.ct_entry.specs.declared.rows.Owner.TheVariants.{Compartment, Library}
 use Rattle.def_link.specs.declared.LinkFault.{LinkFault}
 use Rattle.def_link.specs.declared.LinkFault.TheVariants as fault
 use Rattle.def_desc.specs.Lawful.{AreNames, IsLawful}
-use Rattle.def_desc.specs.Named.{slot_names, library_slot_names}
-use Rattle.def_desc.specs.Rows.{CompartmentRow, LibraryRow, DescRow}
-use Rattle.def_link.specs.Owners.{Unit as OwnerUnit, Built, units_of}
+use Rattle.def_desc.specs.Rows.{DescRow}
+use Rattle.def_link.specs.Owners.{Unit as OwnerUnit, Built, compartment_unit, library_unit, units_of}
+use Rattle.ct_link_objects.specs.declared.owners.OwnerRow.{OwnerRow}
+use Rattle.ct_link_objects.specs.declared.owners.OwnerRow.TheVariants as row
 use Rattle.ct_asm.specs.Labels.{Assembled, label_named}
 
 -- ---- sources
@@ -29,14 +32,22 @@ pub record IsLinkable (d : DescRow) (sources : List (List ℕ)) : Type 0 where
   pub lawful : IsLawful d
   pub sourced : AreSourced d sources
 
--- what one owner's object asks of its row: names that stand once, exports that can be counted
-pub record IsOwn (c : CompartmentRow) : Type 0 where
-  pub slots : AreNames (slot_names c)
-  pub exports : length c.exports < 2 ^ 32
+-- the index of an owner within its kind
+abbrev pub index_of : Owner → ℕ
+index_of (Compartment i) = i
+index_of (Library i) = i
+index_of _ = 0
 
-pub record IsShared (l : LibraryRow) : Type 0 where
-  pub slots : AreNames (library_slot_names l)
-  pub exports : length l.exports < 2 ^ 32
+-- what an owner's object asks of it: names that stand once, and numbers of 32 bits
+pub record IsCounted (u : OwnerUnit) : Type 0 where
+  pub index : index_of u.owner < 2 ^ 32
+  pub slots : AreNames u.slots
+  pub exports : length u.exports < 2 ^ 32
+
+-- what a row stands for, as def_link has it
+abbrev pub unit_of : OwnerRow → OwnerUnit
+unit_of (row.Compartment i c) = compartment_unit i c.now
+unit_of (row.Library i l) = library_unit i l.now
 
 -- ---- objects
 
@@ -71,12 +82,6 @@ pub record AreBuilt (wanted : Result (List Built) LinkFault) (os : List Assemble
   pub built : List Built
   pub is : wanted ≡ Ok built
   pub held : AllHold built os
-
--- a list of objects with those added that hold what is to be built
-pub record Adds (wanted : Result (List Built) LinkFault) (old new : List Assembled) : Type 0 where
-  pub more : List Assembled
-  pub built : AreBuilt wanted more
-  pub is : new ≡ old ++ more
 
 -- want of memory comes of nothing; another fault is the one that the definition gives
 abbrev pub RefusesLink : {A : Type 0} → Result A LinkFault → LinkFault → Type 0

@@ -1,103 +1,61 @@
 //! The objects of all owners, or the first fault.
 
-ghost use Rattle.std.specs.Prelude.{◌≡◌, ◌≤◌, ◌<◌, ◌+◌, ◌^◌, ℕ, List, length, map, drop, nat_lt, MatchResult, IfOk, IfErr, OnOk};
+ghost use Rattle.std.specs.Prelude.{◌≡◌, ◌≤◌, ◌<◌, ◌+◌, ◌^◌, ℕ, List, length, map, drop, MatchResult, IfOk, IfErr};
 ghost use Rattle.std.specs.List.{AllByRecursion};
-ghost use Rattle.def_link.specs.Owners as owner;
-ghost use Rattle.ct_link_objects.specs.Objects.{IsLinkable, file_of, files_of, IsBuilt, AreBuilt, Adds, RefusesLink, IsOwn, IsShared};
+ghost use Rattle.def_link.specs.Owners as spec;
+ghost use Rattle.ct_link_objects.specs.Objects.{IsLinkable, built_of, file_of, unit_of, IsBuilt, AreBuilt, IsCounted, RefusesLink};
 
 use crate::code::code_object;
-use crate::exports::first_lost;
 use crate::files::files_in;
-use crate::names::{library_names_of, names_of};
+use crate::names::names_of;
+use crate::owners::{OwnerRow, owner_count, owner_row};
 use crate::sources::Sources;
 use ct_asm::Object;
-use ct_desc_rows::{Code, Compartment, Desc, Library};
+use ct_desc_rows::{Code, Desc};
 use ct_entry::Owner;
 use def_link::LinkFault;
 use std::alloc::Global;
 
-/// The object of a compartment: a fault of its code first, then an export that begins nowhere.
-#[tactic(auto, using(crate::proofs::Units::compartment_refused, crate::proofs::Units::compartment_lost, crate::proofs::Units::compartment_placed))]
-fn compartment_object(
-    alloc: Global,
-    index: u32,
-    compartment: &Compartment,
-    source: &[u8],
-) -> Result<Object, LinkFault>
-    requires own { IsOwn compartment.now }
-    requires short { length source.now < 2 ^ 32 }
-    ensures ok { IfOk result (λ o. IsBuilt
-        (owner.unit_built (owner.compartment_unit index compartment.now) source.now) o) }
-    ensures err { IfErr result (λ e. RefusesLink
-        (owner.unit_built (owner.compartment_unit index compartment.now) source.now) e) }
+/// Whether an object has initial bytes that its owner may not have: a library has no globals.
+fn has_stray_bytes(owner: Owner, object: &Object) -> bool
+    ensures { result ≡ spec.has_stray_bytes owner (built_of object.now) }
 {
-    let owner = Owner::Compartment(index);
-    let Ok(slots) = names_of(alloc, compartment) else {
-        return Err(LinkFault::NoMemory);
-    };
-    let made = code_object(alloc, owner, &slots, &compartment.code, source);
-    drop(slots);
-    let object = made?;
-    match first_lost(&object, compartment.exports.as_slice()) {
-        Some(item) => {
-            drop(object);
-            Err(LinkFault::Export { owner, item })
-        }
-        None => Ok(object),
-    }
+    matches!(owner, Owner::Library(_)) && 0 < object.init.len()
 }
 
-/// Whether an object has initial bytes.
-fn has_initial(object: &Object) -> bool
-    ensures { result ≡ nat_lt 0 (length object.now.init) }
-{
-    0 < object.init.len()
-}
-
-/// The object of a library: a fault of its code first, then an export that begins nowhere, then
-/// initial bytes, which it may not have.
-#[tactic(auto, using(crate::proofs::Units::library_refused, crate::proofs::Units::library_lost, crate::proofs::Units::library_stray, crate::proofs::Units::library_placed))]
-fn library_object(
-    alloc: Global,
-    index: u32,
-    library: &Library,
-    source: &[u8],
-) -> Result<Object, LinkFault>
-    requires own { IsShared library.now }
+/// The object of an owner: a fault of its code first, then an export that begins nowhere, then a
+/// library's initial bytes.
+#[tactic(auto, using(crate::proofs::Units::unit_refused, crate::proofs::Units::unit_lost, crate::proofs::Units::unit_stray, crate::proofs::Units::unit_placed))]
+fn unit_object(alloc: Global, row: OwnerRow<'_>, source: &[u8]) -> Result<Object, LinkFault>
+    requires counted { IsCounted (unit_of row) }
     requires short { length source.now < 2 ^ 32 }
-    ensures ok { IfOk result (λ o. IsBuilt
-        (owner.unit_built (owner.library_unit index library.now) source.now) o) }
-    ensures err { IfErr result (λ e. RefusesLink
-        (owner.unit_built (owner.library_unit index library.now) source.now) e) }
+    ensures ok { IfOk result (λ o. IsBuilt (spec.unit_built (unit_of row.entry) source.now) o) }
+    ensures err { IfErr result
+        (λ e. RefusesLink (spec.unit_built (unit_of row.entry) source.now) e) }
 {
-    let owner = Owner::Library(index);
-    let Ok(slots) = library_names_of(alloc, library) else {
+    let owner = row.owner();
+    let Ok(slots) = names_of(alloc, row) else {
         return Err(LinkFault::NoMemory);
     };
-    let made = code_object(alloc, owner, &slots, &library.code, source);
+    let made = code_object(alloc, owner, &slots, row.code(), source);
     drop(slots);
     let object = made?;
-    match first_lost(&object, library.exports.as_slice()) {
-        Some(item) => {
-            drop(object);
-            Err(LinkFault::Export { owner, item })
-        }
-        None => {
-            if has_initial(&object) {
-                drop(object);
-                Err(LinkFault::Initial { owner })
-            } else {
-                Ok(object)
-            }
-        }
+    if let Some(item) = row.first_lost(&object) {
+        drop(object);
+        return Err(LinkFault::Export { owner, item });
     }
+    if has_stray_bytes(owner, &object) {
+        drop(object);
+        return Err(LinkFault::Initial { owner });
+    }
+    Ok(object)
 }
 
 /// The text that stands next.
 #[tactic(auto, using(crate::proofs::Steps::head_at))]
 fn text_at(texts: &[Vec<u8>], next: usize) -> &[u8]
     requires { next < length texts.now }
-    ensures { result.now ≡ owner.head_or_none (drop next (map (λ t. t.items) texts.now)) }
+    ensures { result.now ≡ spec.head_or_none (drop next (map (λ t. t.items) texts.now)) }
 {
     texts[next].as_slice()
 }
@@ -106,86 +64,13 @@ fn text_at(texts: &[Vec<u8>], next: usize) -> &[u8]
 fn source_for<'a>(code: &Code, sources: &'a Sources, next: usize) -> &'a [u8]
     requires there { next + file_of code.now.file ≤ length sources.now }
     requires short { AllByRecursion (λ (t : List ℕ). length t < 2 ^ 32) sources.now }
-    ensures value { result.now ≡ owner.source_for code.now.file (drop next sources.now) }
+    ensures value { result.now ≡ spec.source_for code.now.file (drop next sources.now) }
     ensures short { length result.now < 2 ^ 32 }
 {
     match code.file {
         None => &[],
         Some(_) => text_at(sources.texts.as_slice(), next),
     }
-}
-
-/// Adds the objects of compartments, and says how many texts these took.
-#[tactic(auto, using(crate::proofs::Steps::at_each, crate::proofs::Steps::all_done, crate::proofs::Steps::all_taken))]
-fn add_compartments(
-    all: &mut Vec<Object>,
-    alloc: Global,
-    compartments: &[Compartment],
-    sources: &Sources,
-) -> Result<usize, LinkFault>
-    requires own { AllByRecursion IsOwn compartments.now }
-    requires few { length compartments.now < 2 ^ 32 }
-    requires there { files_of (owner.numbered owner.compartment_unit 0 compartments.now)
-        ≤ length sources.now }
-    requires short { AllByRecursion (λ (t : List ℕ). length t < 2 ^ 32) sources.now }
-    requires counted { length sources.now < 2 ^ 32 }
-    ensures used { IfOk result (λ used. used
-        ≡ files_of (owner.numbered owner.compartment_unit 0 compartments.now)) }
-    ensures ok { IfOk result (λ used. Adds
-        (owner.all_built (owner.numbered owner.compartment_unit 0 compartments.now)
-        sources.now) all.old.items all.new.items) }
-    ensures err { IfErr result (λ e. RefusesLink
-        (owner.all_built (owner.numbered owner.compartment_unit 0 compartments.now)
-        sources.now) e) }
-{
-    let mut index = 0;
-    let mut next = 0;
-    for compartment in compartments {
-        let source = source_for(&compartment.code, sources, next);
-        let object = compartment_object(alloc, index, compartment, source)?;
-        let Ok(()) = all.push(object) else {
-            return Err(LinkFault::NoMemory);
-        };
-        next += files_in(&compartment.code);
-        index += 1;
-    }
-    Ok(next)
-}
-
-/// Adds the objects of libraries, whose texts stand from the next on.
-#[tactic(auto, using(crate::proofs::Steps::at_each, crate::proofs::Steps::all_done, crate::proofs::Steps::all_taken))]
-fn add_libraries(
-    all: &mut Vec<Object>,
-    alloc: Global,
-    libraries: &[Library],
-    sources: &Sources,
-    used: usize,
-) -> Result<(), LinkFault>
-    requires own { AllByRecursion IsShared libraries.now }
-    requires few { length libraries.now < 2 ^ 32 }
-    requires there { used + files_of (owner.numbered owner.library_unit 0 libraries.now)
-        ≤ length sources.now }
-    requires short { AllByRecursion (λ (t : List ℕ). length t < 2 ^ 32) sources.now }
-    requires counted { length sources.now < 2 ^ 32 }
-    ensures ok { OnOk result (Adds
-        (owner.all_built (owner.numbered owner.library_unit 0 libraries.now)
-        (drop used sources.now)) all.old.items all.new.items) }
-    ensures err { IfErr result (λ e. RefusesLink
-        (owner.all_built (owner.numbered owner.library_unit 0 libraries.now)
-        (drop used sources.now)) e) }
-{
-    let mut index = 0;
-    let mut next = used;
-    for library in libraries {
-        let source = source_for(&library.code, sources, next);
-        let object = library_object(alloc, index, library, source)?;
-        let Ok(()) = all.push(object) else {
-            return Err(LinkFault::NoMemory);
-        };
-        next += files_in(&library.code);
-        index += 1;
-    }
-    Ok(())
 }
 
 /// The object of each compartment, then of each library: its text, initial bytes and labels.
@@ -196,15 +81,23 @@ fn add_libraries(
 ///
 /// Condition: the description is lawful, and there is one text, of fewer than 2 to the 32 bytes,
 /// for each of its codes that is a file.
-#[tactic(auto, using(crate::proofs::Lawfuls::own_rows, crate::proofs::Lawfuls::shared_rows, crate::proofs::Lawfuls::own_few, crate::proofs::Lawfuls::shared_few, crate::proofs::Lawfuls::texts_there, crate::proofs::Lawfuls::texts_left, crate::proofs::Lawfuls::texts_counted, crate::proofs::Lawfuls::objects_done, crate::proofs::Lawfuls::owners_refused, crate::proofs::Lawfuls::libraries_refused))]
+#[tactic(auto, using(crate::proofs::Progress::all_done))]
 pub fn objects(alloc: Global, desc: &Desc, sources: &Sources) -> Result<Vec<Object>, LinkFault>
     requires { IsLinkable desc.now sources.now }
     ensures { MatchResult result
-        (λ all. AreBuilt (owner.all_built (owner.units_of desc.now) sources.now) all.items)
-        (λ e. RefusesLink (owner.all_built (owner.units_of desc.now) sources.now) e) }
+        (λ all. AreBuilt (spec.all_built (spec.units_of desc.now) sources.now) all.items)
+        (λ e. RefusesLink (spec.all_built (spec.units_of desc.now) sources.now) e) }
 {
     let mut all = Vec::new(alloc);
-    let used = add_compartments(&mut all, alloc, desc.compartments.as_slice(), sources)?;
-    add_libraries(&mut all, alloc, desc.libraries.as_slice(), sources, used)?;
+    let mut next = 0;
+    for owner in 0..owner_count(desc) {
+        let row = owner_row(desc, owner);
+        let source = source_for(row.code(), sources, next);
+        let object = unit_object(alloc, row, source)?;
+        let Ok(()) = all.push(object) else {
+            return Err(LinkFault::NoMemory);
+        };
+        next += files_in(row.code());
+    }
     Ok(all)
 }

@@ -1,17 +1,16 @@
 //! The object of one owner's code.
 
-ghost use Rattle.std.specs.Prelude.{◌≡◌, ◌<◌, ◌^◌, [], length, IfOk, IfErr, Ok};
+ghost use Rattle.std.specs.Prelude.{◌≡◌, ◌<◌, ◌^◌, [], length, IfOk, IfErr, Ok, Err};
 ghost use Rattle.std.specs.List.{flat_map};
 ghost use Rattle.def_source.specs.Source.{program_of};
 ghost use Rattle.def_object.specs.Object.{word_bytes};
 ghost use Rattle.def_link.specs.Owners as owners;
-ghost use Rattle.ct_asm.specs.Labels.{IsAssembled};
 ghost use Rattle.ct_link_objects.specs.Objects.{IsBuilt, RefusesLink};
 
 use ct_asm::{Names, Object, assemble, undeclared};
 use ct_desc_rows::Code;
 use ct_entry::Owner;
-use ct_source::{Program, statements};
+use ct_source::statements;
 use def_link::LinkFault;
 use def_source::AsmFault;
 use std::alloc::{AllocError, Global};
@@ -27,31 +26,29 @@ fn words_text(alloc: Global, words: &[u32]) -> Result<Vec<u8>, AllocError>
     Ok(text)
 }
 
-/// The object of no statements.
-fn no_object(alloc: Global) -> Result<Object, AsmFault>
-    ensures { IfOk result (λ o. IsAssembled [] [] o) }
-{
-    let nothing = Program {
-        statements: Vec::new(alloc),
-    };
-    assemble(alloc, &nothing, &Names::new(alloc))
-}
-
 /// The object of words: their bytes alone.
 #[tactic(auto, using(crate::proofs::Codes::words_hold))]
 fn words_object(alloc: Global, words: &[u32]) -> Result<Object, LinkFault>
     ensures ok { IfOk result (λ o. IsBuilt (Ok (owners.words_built words.now)) o) }
     ensures err { IfErr result (λ e. RefusesLink (Ok (owners.words_built words.now)) e) }
 {
-    let Ok(text) = words_text(alloc, words) else {
-        return Err(LinkFault::NoMemory);
-    };
-    match no_object(alloc) {
-        Ok(mut object) => {
-            object.text = text;
-            Ok(object)
-        }
+    match words_text(alloc, words) {
+        Ok(text) => Ok(Object::of_text(alloc, text)),
         Err(_) => Err(LinkFault::NoMemory),
+    }
+}
+
+/// What a fault of an owner's source is as a fault of linking.
+fn at(owner: Owner, fault: AsmFault) -> LinkFault
+    ensures { owners.read_or owner [] (Err fault) ≡ Err result }
+{
+    match fault {
+        AsmFault::At { number, line } => LinkFault::Asm {
+            owner,
+            number,
+            line,
+        },
+        AsmFault::NoMemory => LinkFault::NoMemory,
     }
 }
 
@@ -72,26 +69,14 @@ fn source_object(
 {
     let program = match statements(alloc, source) {
         Ok(program) => program,
-        Err(AsmFault::At { number, line }) => {
-            return Err(LinkFault::Asm {
-                owner,
-                number,
-                line,
-            });
-        }
-        Err(AsmFault::NoMemory) => return Err(LinkFault::NoMemory),
+        Err(fault) => return Err(at(owner, fault)),
     };
     if let Some(line) = undeclared(&program, slots) {
         return Err(LinkFault::Import { owner, line });
     }
     match assemble(alloc, &program, slots) {
         Ok(object) => Ok(object),
-        Err(AsmFault::At { number, line }) => Err(LinkFault::Asm {
-            owner,
-            number,
-            line,
-        }),
-        Err(AsmFault::NoMemory) => Err(LinkFault::NoMemory),
+        Err(fault) => Err(at(owner, fault)),
     }
 }
 

@@ -8,6 +8,7 @@ mod code;
 mod exports;
 mod files;
 mod names;
+mod owners;
 mod sources;
 
 pub use built::objects;

@@ -2,13 +2,15 @@
 
 ghost use Rattle.std.specs.Prelude.{◌≡◌, IfOk, OnOk, map};
 ghost use Rattle.def_desc.specs.Names as name;
-ghost use Rattle.def_desc.specs.Named.{slot_names, library_slot_names};
+ghost use Rattle.def_desc.specs.Named.{slot_names};
 ghost use Rattle.def_desc.specs.Rows.{ImportRow, QuotaRow, LimportRow};
 ghost use Rattle.def_desc.specs.Lawful.{AreNames};
+ghost use Rattle.ct_link_objects.specs.Objects.{unit_of};
 ghost use Rattle.ct_link_objects.specs.Slots.{with_slot, with_slots};
 
+use crate::owners::OwnerRow;
 use ct_asm::Names;
-use ct_desc_rows::{Compartment, Import, Library, LibraryImport, Quota, key_name};
+use ct_desc_rows::{Compartment, Import, LibraryImport, Quota, key_name};
 use std::alloc::{AllocError, Global};
 
 fn add(names: &mut Names, alloc: Global, name: &str) -> Result<(), AllocError>
@@ -50,7 +52,11 @@ fn add_keys(names: &mut Names, alloc: Global, keys: &[u64]) -> Result<(), AllocE
 }
 
 /// Adds the names of a compartment's slots: `switch`, the imports, the quotas, the keys.
-fn add_slots(names: &mut Names, alloc: Global, compartment: &Compartment) -> Result<(), AllocError>
+fn add_compartment_slots(
+    names: &mut Names,
+    alloc: Global,
+    compartment: &Compartment,
+) -> Result<(), AllocError>
     ensures { OnOk result (names.new ≡ with_slots names.old (slot_names compartment.now)) }
 {
     add(names, alloc, "switch")?;
@@ -60,22 +66,8 @@ fn add_slots(names: &mut Names, alloc: Global, compartment: &Compartment) -> Res
     Ok(())
 }
 
-/// The names of a compartment's slots.
-pub(crate) fn names_of(alloc: Global, compartment: &Compartment) -> Result<Names, AllocError>
-    requires { AreNames (slot_names compartment.now) }
-    ensures { IfOk result (λ names. names ≡ slot_names compartment.now) }
-{
-    let mut names = Names::new(alloc);
-    match add_slots(&mut names, alloc, compartment) {
-        Ok(()) => Ok(names),
-        Err(error) => {
-            drop(names);
-            Err(error)
-        }
-    }
-}
-
-fn add_library_imports(
+/// Adds the names of a library's slots: its imports.
+fn add_library_slots(
     names: &mut Names,
     alloc: Global,
     imports: &[LibraryImport],
@@ -89,13 +81,23 @@ fn add_library_imports(
     Ok(())
 }
 
-/// The names of a library's slots: its imports.
+/// Adds the names of an owner's slots.
+fn add_slots(names: &mut Names, alloc: Global, row: OwnerRow<'_>) -> Result<(), AllocError>
+    ensures { OnOk result (names.new ≡ with_slots names.old (unit_of row.entry).slots) }
+{
+    match row {
+        OwnerRow::Compartment(_, row) => add_compartment_slots(names, alloc, row),
+        OwnerRow::Library(_, row) => add_library_slots(names, alloc, row.imports.as_slice()),
+    }
+}
+
+/// The names of an owner's slots.
 #[tactic(auto, using(crate::proofs::Slots::once_taken))]
-pub(crate) fn library_names_of(alloc: Global, library: &Library) -> Result<Names, AllocError>
-    requires { AreNames (library_slot_names library.now) }
-    ensures { IfOk result (λ names. names ≡ library_slot_names library.now) }
+pub(crate) fn names_of(alloc: Global, row: OwnerRow<'_>) -> Result<Names, AllocError>
+    requires { AreNames (unit_of row).slots }
+    ensures { IfOk result (λ names. names ≡ (unit_of row.entry).slots) }
 {
     let mut names = Names::new(alloc);
-    add_library_imports(&mut names, alloc, library.imports.as_slice())?;
+    add_slots(&mut names, alloc, row)?;
     Ok(names)
 }

@@ -59,7 +59,7 @@ fn export_in<T: Named>(text: &[u8], owner: &[u8], exports: &[T]) -> u32
 }
 
 /// The export of a compartment that a text names; a lawful one names one.
-#[tactic(auto, using(crate::proofs::Members::at_each, crate::proofs::Names::call_met, crate::proofs::Names::call_passed))]
+#[tactic(auto, using(law_lists::proofs::Places::at_each, crate::proofs::Names::call_met, crate::proofs::Names::call_passed))]
 pub fn called(compartments: &[Compartment], text: &[u8]) -> Exported
     requires few { length compartments.now < 2 ^ 32 }
     requires each { AllByRecursion IsExporter compartments.now }
@@ -78,7 +78,7 @@ pub fn called(compartments: &[Compartment], text: &[u8]) -> Exported
 }
 
 /// The export of a library that a text names; a lawful one names one.
-#[tactic(auto, using(crate::proofs::Members::at_each, crate::proofs::Names::lent_met, crate::proofs::Names::lent_passed))]
+#[tactic(auto, using(law_lists::proofs::Places::at_each, crate::proofs::Names::lent_met, crate::proofs::Names::lent_passed))]
 pub(crate) fn lent(libraries: &[Library], text: &[u8]) -> Exported
     requires few { length libraries.now < 2 ^ 32 }
     requires each { AllByRecursion IsLibraryExporter libraries.now }

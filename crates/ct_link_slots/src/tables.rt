@@ -36,7 +36,7 @@ fn add_quotas(slots: &mut Vec<Slot>, alloc: Global, quotas: &[Quota]) -> Result<
     Ok(())
 }
 
-#[tactic(auto, using(crate::proofs::Members::at_each))]
+#[tactic(auto, using(law_lists::proofs::Places::at_each))]
 fn add_keys(slots: &mut Vec<Slot>, alloc: Global, keys: &[u64]) -> Result<(), AllocError>
     requires { AreKeys keys.now }
     ensures { OnOk result (slots.new.items ≡ slots.old.items ++ map spec.key_slot keys.now) }

@@ -33,11 +33,12 @@ use Rattle.ct_services.specs.Served.{answered_in, switched_in}
 use Rattle.law_callable.specs.Showing.{IsOfSound, ShowsCaller}
 use Rattle.ct_machine.specs.Parts.{state_by, IsKept}
 use Rattle.ct_machine.specs.Going.{ran_by_call, CameTo}
-use Rattle.ct_machine.proofs.Statuses.{thread_with, like_with, set_with}
+use Rattle.ct_machine.proofs.Statuses.{like_with, set_with}
 use Rattle.ct_machine.proofs.Taking.{ram_is, frames_with}
 use Rattle.ct_machine.proofs.Keeping.{machine_by, same_kept}
 use Rattle.ct_machine.proofs.Opened.{placed_at}
 use Rattle.ct_machine.proofs.Resting.{answers_are, register_alike}
+use Rattle.law_events.proofs.Waiting.{given_status}
 
 module _ (i : Image) (e : Seen) (r : SchedRow) (k : DeviceStates) (pending : Bool) (time : ℕ) (c : Counts) (t : ℕ) (kept : IsKept i e r)
     (base : (area_at e t).stack ≡ stack_base i t) (most : areas.frames_most (area_at e t) ≡ frames_most i t) where
@@ -74,7 +75,7 @@ module _ (i : Image) (e : Seen) (r : SchedRow) (k : DeviceStates) (pending : Boo
   entered_alike : (export high : ℕ) → threads.with_status (callee_thread i twin t export high) (get_or r.statuses t Ended)
       ≡ entered i (thread here t) (callee export) export high (callee_start i (thread here t) t (callee export) export high)
   entered_alike export high =
-      ap (λ (u : Thread). entered i u (callee export) export high (callee_start i u t (callee export) export high)) (sym (thread_with e.threads r.statuses t kept.statuses))
+      ap (λ (u : Thread). entered i u (callee export) export high (callee_start i u t (callee export) export high)) (sym (given_status e.threads r.statuses t kept.statuses))
 
   enters_so : (export high : ℕ) → HeadStands i e t export
       → state_by ((after_call e i.entries t (Enters export high))) r pending k.states time c

@@ -42,9 +42,10 @@ use Rattle.ct_execute.specs.Deciding.{act_by, Decision, Goes, Returns, Serves, T
 use Rattle.ct_execute.proofs.Executed.{executed_is}
 use Rattle.ct_machine.specs.Parts.{state_by, IsKept}
 use Rattle.ct_machine.specs.Going.{return_at, trap_at, goes_trapped, left_after, goes_after, status_after, deed_by, finished, IsDone, CameTo}
-use Rattle.ct_machine.proofs.Statuses.{thread_with, set_with, end_with, like_with}
+use Rattle.ct_machine.proofs.Statuses.{set_with, end_with, like_with}
 use Rattle.ct_machine.proofs.Keeping.{machine_by, two_more, unfinished_map}
 use Rattle.ct_machine.proofs.Taking.{ram_is, frames_with}
+use Rattle.law_events.proofs.Waiting.{given_status}
 
 -- the error handler of a compartment, where it has one: it is of that compartment, and its table's head is as boot made it
 pub record Handles (i : Image) (e : Seen) (t actor handler : ℕ) : Type 0 where
@@ -72,7 +73,7 @@ module _ (i : Image) (e : Seen) (r : SchedRow) (pending : Bool) (devices : List 
       let there : with_statuses (set e.threads t (jumped (get_or e.threads t nobody) pcc posture to value)) r.statuses
       ≡ set (with_statuses e.threads r.statuses) t (jumped (get_or (with_statuses e.threads r.statuses) t nobody) pcc posture to value) =
       set_with e.threads r.statuses t (jumped (get_or e.threads t nobody) pcc posture to value) kept.statuses
-      ∙ ap (λ (x : Thread). set (with_statuses e.threads r.statuses) t (jumped x pcc posture to value)) (sym (thread_with e.threads r.statuses t kept.statuses)) in
+      ∙ ap (λ (x : Thread). set (with_statuses e.threads r.statuses) t (jumped x pcc posture to value)) (sym (given_status e.threads r.statuses t kept.statuses)) in
       rw there refl
 
   -- its last frame ends
@@ -89,7 +90,7 @@ module _ (i : Image) (e : Seen) (r : SchedRow) (pending : Bool) (devices : List 
       let there : with_statuses (set e.threads t (left_with (filtered_in e.region.ram e.granules) (get_or e.threads t nobody) f fs first second)) r.statuses
       ≡ set (with_statuses e.threads r.statuses) t (left_with (filtered_in e.region.ram e.granules) (get_or (with_statuses e.threads r.statuses) t nobody) f fs first second) =
       set_with e.threads r.statuses t (left_with (filtered_in e.region.ram e.granules) (get_or e.threads t nobody) f fs first second) kept.statuses
-      ∙ ap (λ (x : Thread). set (with_statuses e.threads r.statuses) t (left_with (filtered_in e.region.ram e.granules) x f fs first second)) (sym (thread_with e.threads r.statuses t kept.statuses)) in
+      ∙ ap (λ (x : Thread). set (with_statuses e.threads r.statuses) t (left_with (filtered_in e.region.ram e.granules) x f fs first second)) (sym (given_status e.threads r.statuses t kept.statuses)) in
       rw (there, base, ram_is i e r kept) refl
 
   -- the return
@@ -160,7 +161,7 @@ module _ (i : Image) (e : Seen) (r : SchedRow) (pending : Bool) (devices : List 
       let there : with_statuses (set e.threads t (handled_by (handed i f.actor) (get_or e.threads t nobody) why f fs)) r.statuses
       ≡ set (with_statuses e.threads r.statuses) t (handled i (get_or (with_statuses e.threads r.statuses) t nobody) why f fs) =
       set_with e.threads r.statuses t (handled_by (handed i f.actor) (get_or e.threads t nobody) why f fs) kept.statuses
-      ∙ ap (λ (x : Thread). set (with_statuses e.threads r.statuses) t (handled_by (handed i f.actor) x why f fs)) (sym (thread_with e.threads r.statuses t kept.statuses)) in
+      ∙ ap (λ (x : Thread). set (with_statuses e.threads r.statuses) t (handled_by (handed i f.actor) x why f fs)) (sym (given_status e.threads r.statuses t kept.statuses)) in
       ap (λ (h : Handed). whole (written e.region.ram old) (begun h)) made
       ∙ ap (λ n. whole (written n old) (begun (handed i f.actor))) (ram_is i e r kept)
       ∙ ap (λ (x : Thread). whole (written i.ram x) (begun (handed i f.actor))) (sym (like_with e.threads r.statuses t Ended))

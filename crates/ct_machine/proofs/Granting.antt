@@ -54,11 +54,12 @@ use Rattle.ct_services.specs.Served.{answered_in}
 use Rattle.ct_machine.specs.declared.parts.Parts.TheInside.{Inside}
 use Rattle.ct_machine.specs.Parts.{state_by, IsCounted, IsKept}
 use Rattle.ct_machine.specs.Going.{CameTo, IsDone, MayGoOn, deed_by}
-use Rattle.ct_machine.proofs.Statuses.{thread_with, set_with}
+use Rattle.ct_machine.proofs.Statuses.{set_with}
 use Rattle.ct_machine.proofs.Taking.{ram_is}
 use Rattle.ct_machine.proofs.Keeping.{came_by, machine_by, stays_kept}
 use Rattle.ct_machine.proofs.Sizes.{same_by}
 use Rattle.ct_machine.proofs.Resting.{by_trap, checked_once, answers_are, register_alike}
+use Rattle.law_events.proofs.Waiting.{given_status}
 
 -- what passed the load filter of the memory that the machine has
 sifted_is : (i : Image) (x : Seen) (r : SchedRow) (k : DeviceStates) (pending : Bool) (time : ℕ) (c : Counts) (t : ℕ) → IsKept i x r
@@ -72,7 +73,7 @@ sifted_is i x r k pending time c t kept =
     let new : Thread → Thread = λ u. record u { registers = map (filtered_in x.region.ram x.granules) u.registers } in
     let there : with_statuses (set x.threads t (new (get_or x.threads t nobody))) r.statuses ≡ set (with_statuses x.threads r.statuses) t (new (get_or (with_statuses x.threads r.statuses) t nobody)) =
     set_with x.threads r.statuses t (new (get_or x.threads t nobody)) kept.statuses
-    ∙ ap (λ (u : Thread). set (with_statuses x.threads r.statuses) t (new u)) (sym (thread_with x.threads r.statuses t kept.statuses)) in
+    ∙ ap (λ (u : Thread). set (with_statuses x.threads r.statuses) t (new u)) (sym (given_status x.threads r.statuses t kept.statuses)) in
     ap (λ (ts : List Thread). record (state_by x r pending k.states time c) { threads = ts }) there
     ∙ ap (λ n. record (state_by x r pending k.states time c) {
       threads = set (with_statuses x.threads r.statuses) t (record (get_or (with_statuses x.threads r.statuses) t nobody) {

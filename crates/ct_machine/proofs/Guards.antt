@@ -2,7 +2,6 @@
 use Rattle.std.proofs.Common.{◌≡◌, Bool, true, false, refl, ap, subst, sym}
 use Rattle.ct_entry.specs.declared.acts.Happened.{Happened}
 use Rattle.def_events.specs.Guarded.{Guarded}
-use Rattle.def_machine.specs.Rows.{RowsFit}
 use Rattle.def_confined.specs.Telling.{IsLicensedEvent}
 use Rattle.def_machine.specs.State.{State}
 use Rattle.def_step.specs.declared.Event.{Event}
@@ -11,7 +10,7 @@ use Rattle.def_machine.specs.Platform.{Platform, MachineRow}
 use Rattle.def_step.specs.Events.{happens}
 use Rattle.def_image.specs.Parts.{PartsRow}
 use Rattle.def_image.specs.Sound.{Sound}
-use Rattle.def_boot.specs.Boot.{booted_machine, boot_state}
+use Rattle.def_boot.specs.Boot.{booted_machine}
 use Rattle.law_boot.proofs.Wiring.{wired}
 use Rattle.law_boot.proofs.Ranges.{inside}
 use Rattle.law_boot.proofs.Holding.{holds}
@@ -26,12 +25,8 @@ use Rattle.law_events.proofs.BlankEvents.{event_blank}
 use Rattle.law_history.proofs.TokensEvents.{event_fit}
 use Rattle.law_history.proofs.Whole.{event_tokened}
 use Rattle.law_events.proofs.Events.{event_keeps, deed_licensed, span_licensed}
+use Rattle.law_started.proofs.Starting.{no_rows}
 use Rattle.ct_machine.specs.Going.{silence}
-
--- boot makes no key and no token
-no_rows : (p : PartsRow) → RowsFit (boot_state p).objects (boot_state p).tokens
-unfolding boot_state
-no_rows p = record { differ = tt; live = tt }
 
 pub at_boot : (p : PartsRow) → Sound p → Guarded (booted_machine p)
 at_boot p s = record {

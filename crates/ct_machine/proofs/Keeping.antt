@@ -1,8 +1,8 @@
 -- What is kept beside the state is kept by a step.
-use Rattle.std.proofs.Common.{ℕ, zero, suc, ◌*◌, ◌≡◌, ◌==◌, ◌<◌, ◌&&◌, Bool, true, false, cond, inl, inr, nat_lt, map, List, [], ◌∷◌, length, Option, Some, None, refl, sym, ap, ◌∙◌, subst, slice_index_or, arith}
+use Rattle.std.proofs.Common.{ℕ, zero, suc, ◌*◌, ◌≡◌, ◌==◌, ◌<◌, Bool, true, false, cond, inl, inr, nat_lt, map, List, [], ◌∷◌, length, Option, Some, None, refl, sym, ap, ◌∙◌, subst, slice_index_or, arith}
 use Rattle.std.proofs.Math.ListN.{set}
 use Rattle.std.proofs.lemmas.List.{length-set, length-map}
-use Rattle.law_lists.proofs.Tests.{bool_tells, lt_tells, chosen}
+use Rattle.law_lists.proofs.Tests.{bool_tells, lt_tells, chosen, both_left}
 use Rattle.law_lists.proofs.Finds.{find_tells}
 use Rattle.ct_entry.specs.Listed.{Listed}
 use Rattle.def_words.specs.declared.Cap.{Cap}
@@ -238,13 +238,9 @@ ready_is (Sleeping n) is = absurd (let clash : false ≡ true = is in cc)
 ready_is (Waiting a) is = absurd (let clash : false ≡ true = is in cc)
 ready_is Ended is = absurd (let clash : false ≡ true = is in cc)
 
-both_first : (a b : Bool) → (a && b) ≡ true → a ≡ true
-both_first true b e = refl
-both_first false b e = e
-
 -- who is picked is ready
 picked_ready : (r : SchedRow) (t : ℕ) → pick r.priorities r.statuses r.order ≡ Some t → status_of r.statuses t ≡ Ready
-picked_ready r t is = ready_is (status_of r.statuses t) (both_first (is_ready (status_of r.statuses t)) _ (find_tells (is_foremost r.priorities r.statuses r.order) r.order t is).passes)
+picked_ready r t is = ready_is (status_of r.statuses t) (both_left (is_ready (status_of r.statuses t)) _ (find_tells (is_foremost r.priorities r.statuses r.order) r.order t is).passes)
 
 same_some : (t u : ℕ) → Some t ≡ Some u → t ≡ u
 same_some t u is = cc

@@ -1,7 +1,7 @@
 -- A step that tells nothing: what the code leaves of it is what the written step leaves.
-use Rattle.std.proofs.Common.{ℕ, zero, suc, ◌+◌, ◌≡◌, ◌&&◌, ◌||◌, nat_eq, is_none, is_some, Bool, true, false, inl, inr, if◌then◌else◌, List, [], ◌∷◌, Option, Some, None, option_map, refl, sym, ap, ◌∙◌, subst}
+use Rattle.std.proofs.Common.{ℕ, zero, suc, ◌+◌, ◌≡◌, ◌&&◌, ◌||◌, is_none, is_some, Bool, true, false, if◌then◌else◌, cond, List, [], ◌∷◌, Option, Some, None, option_map, refl, sym, ap, ◌∙◌, subst}
 use Rattle.std.proofs.Math.ListN.{get_or, set}
-use Rattle.law_lists.proofs.Tests.{eq_tells}
+use Rattle.std.proofs.lemmas.Bool.{eq-eqb}
 use Rattle.ct_entry.specs.declared.acts.Act.{Act}
 use Rattle.ct_entry.specs.declared.acts.Owned.{Owned}
 use Rattle.def_words.specs.declared.Posture.{Posture}
@@ -36,12 +36,13 @@ use Rattle.def_step.specs.Operands.{class_of}
 use Rattle.ct_loadstore.specs.Shapes.{space_of}
 use Rattle.ct_execute.specs.Quiet.{goes_quietly, goes_at, goes_by, jump_by, jumps_whole, offset_of}
 use Rattle.ct_machine.specs.Going.{silence, runner_goes, steps_quietly}
-use Rattle.ct_machine.specs.Quiet.{has_sweep}
+use Rattle.ct_machine.specs.Quiet.{has_sweep, undisturbed}
 use Rattle.ct_machine.proofs.Carried.{came}
 use Rattle.ct_machine.proofs.Keeping.{machine_by, ran_kept, counted_so}
-use Rattle.ct_machine.proofs.Statuses.{thread_with, ready_goes, end_none}
+use Rattle.ct_machine.proofs.Statuses.{ready_goes, end_none}
 use Rattle.ct_machine.proofs.Stepping.{carried_so, quietly_left}
 use Rattle.ct_machine.proofs.Taking.{ram_is, posture_with, not_pending, runs_scheduled}
+use Rattle.law_events.proofs.Waiting.{given_status}
 
 -- ---- what was decided
 
@@ -65,12 +66,9 @@ same_posture (Traps why) t s k new h = absurd h
 
 -- ---- no span with interrupts off begins
 
-is_same : (n : ℕ) → nat_eq n n ≡ true
-is_same n = elim (eq_tells n n) [ inl z ↦ z.0 | inr z ↦ absurd (z.1 refl) ]
-
 held_still : (o : Option (ℕ × ℕ)) (after : State) → begun_since o after o ≡ None
 held_still None after = refl
-held_still (Some h) after = rw (is_same h.0, is_same h.1) refl
+held_still (Some h) after = rw (eq-eqb h.0 h.0 refl, eq-eqb h.1 h.1 refl) refl
 
 holder_still : (s new : State) (t : ℕ) → s.running ≡ Some t → new.running ≡ Some t → (thread new t).posture ≡ (thread s t).posture → holder new ≡ holder s
 holder_still s new t runs still posture =
@@ -123,14 +121,8 @@ module _ (i : Image) (e : Seen) (r : SchedRow) (k : DeviceStates) (pending : Boo
   abbrev here : MachineRow
   here = machine_by i e r k pending time c
 
-  pub when_late : pending ≡ true → false ≡ steps_quietly here
-  when_late late = rw late refl
-
   by_runner : (o : Option ℕ) (b : Bool) → pending ≡ false → o ≡ e.running → b ≡ runner_goes i.ram here.state o → b ≡ steps_quietly here
   by_runner o b none runs is = rw (none, ← runs) is
-
-  pub when_idle : pending ≡ false → None ≡ e.running → false ≡ steps_quietly here
-  when_idle none idle = by_runner None false none idle refl
 
   -- a thread runs; its status aside, it is the engine's
   pub when_runs : (t : ℕ) (went : Bool) → IsKept i e r → pending ≡ false → Some t ≡ e.running
@@ -139,8 +131,25 @@ module _ (i : Image) (e : Seen) (r : SchedRow) (k : DeviceStates) (pending : Boo
       by_runner (Some t) went none runs
       (is
       ∙ sym (goes_alike (engine.thread e t) (get_or r.statuses t Ended) e.region.ram e.granules)
-      ∙ ap (λ (w : Thread). goes_quietly w e.region.ram e.granules) (sym (thread_with e.threads r.statuses t kept.statuses))
+      ∙ ap (λ (w : Thread). goes_quietly w e.region.ram e.granules) (sym (given_status e.threads r.statuses t kept.statuses))
       ∙ ap (λ n. goes_quietly (thread here.state t) n e.granules) (ram_is i e r kept))
+
+-- ---- who runs, where no tick is pending
+
+parts_of : (b : Bool) (o : Option ℕ) (t : ℕ) → Some t ≡ cond b None o → (b ≡ false) × (o ≡ Some t)
+parts_of true o t is = absurd (cc)
+parts_of false o t is = (refl, sym is)
+
+pub undisturbed_parts : (s : State) (t : ℕ) → Some t ≡ undisturbed s → (s.pending ≡ false) × (s.running ≡ Some t)
+undisturbed_parts s t is = parts_of s.pending s.running t is
+
+loud_by : (b : Bool) (o : Option ℕ) (m : MachineRow) → m.state.pending ≡ b → m.state.running ≡ o → None ≡ cond b None o → steps_quietly m ≡ false
+loud_by true o m late runs is = rw late refl
+loud_by false None m none runs is = rw (none, runs) refl
+loud_by false (Some t) m none runs is = absurd (cc)
+
+pub disturbed_loud : (m : MachineRow) → None ≡ undisturbed m.state → false ≡ steps_quietly m
+disturbed_loud m is = sym (loud_by m.state.pending m.state.running m refl refl is)
 
 -- ---- what the code leaves
 

@@ -33,7 +33,8 @@ use Rattle.ct_services.specs.Served.{answered_in, rested, waited, with_status, e
 use Rattle.ct_machine.specs.Parts.{state_by, IsKept}
 use Rattle.ct_machine.specs.Going.{ran_by_service, rests_for, CameTo}
 use Rattle.ct_machine.proofs.Keeping.{machine_by, RunsReady, kept_so, none_runs}
-use Rattle.ct_machine.proofs.Statuses.{thread_with, like_with, set_with, set_both, set_over, statuses_with}
+use Rattle.ct_machine.proofs.Statuses.{like_with, set_with, set_both, set_over, statuses_with}
+use Rattle.law_events.proofs.Waiting.{given_status}
 
 -- ---- checks
 
@@ -107,7 +108,7 @@ module _ (i : Image) (e : Seen) (r : SchedRow) (k : DeviceStates) (pending : Boo
   answers_are v =
       let there : with_statuses (set e.threads t (answered (engine.thread e t) v)) r.statuses ≡ set (with_statuses e.threads r.statuses) t (answered (thread here t) v) =
       set_with e.threads r.statuses t (answered (engine.thread e t) v) kept.statuses
-      ∙ ap (λ (x : Thread). set (with_statuses e.threads r.statuses) t (answered x v)) (sym (thread_with e.threads r.statuses t kept.statuses)) in
+      ∙ ap (λ (x : Thread). set (with_statuses e.threads r.statuses) t (answered x v)) (sym (given_status e.threads r.statuses t kept.statuses)) in
       rw there refl
 
   rests : (status : Status) → state_by (rested e t) (with_status r t status) pending k.states time c

@@ -58,6 +58,8 @@ round_is m n mid counted is aside swept board stepped last going =
       steps = ap (λ (s : State). s.counts.steps) whole;
       sweeps = ap (λ (s : State). s.counts.sweeps) whole;
       sweep = ap has_sweep whole ∙ aside.sweep;
+      pending = ap (λ (s : State). s.pending) whole ∙ aside.pending;
+      running = ap (λ (s : State). s.running) whole ∙ aside.running;
       going = going;
     }
 
@@ -142,22 +144,33 @@ one_more_went first m n made went idle quiet w =
 -- ---- the loop
 
 -- after so many rounds of a machine that was so first
-pub record Rounding (first m : MachineRow) (most made : ℕ) : Type 0 where
+pub record Rounding (first m : MachineRow) (t most made : ℕ) : Type 0 where
   pub within : made ≤ most
   pub went : WentRounds first m made
   pub guarded : Guarded m
   pub idle : has_sweep m.state ≡ false
+  pub pending : m.state.pending ≡ false
+  pub runs : m.state.running ≡ Some t
   pub steps : m.state.counts.steps ≡ first.state.counts.steps + made
   pub sweeps : m.state.counts.sweeps ≡ first.state.counts.sweeps + made
 
-pub starts : (m : MachineRow) (most : ℕ) → Guarded m → has_sweep m.state ≡ false → Rounding m m most 0
-starts m most g idle = record { within = omega arith; went = none_went m; guarded = g; idle = idle; steps = omega arith; sweeps = omega arith }
+pub starts : (m : MachineRow) (t most : ℕ) → Guarded m → has_sweep m.state ≡ false → m.state.pending ≡ false → m.state.running ≡ Some t → Rounding m m t most 0
+starts m t most g idle none runs = record {
+  within = omega arith;
+  went = none_went m;
+  guarded = g;
+  idle = idle;
+  pending = none;
+  runs = runs;
+  steps = omega arith;
+  sweeps = omega arith;
+}
 
 pub has_room : (first now made most most_steps : ℕ) → now ≡ first + made → first + most ≤ most_steps → made < most → now < most_steps
 has_room first now made most most_steps is room more = omega (arith, is, room, more)
 
-pub goes_on : (first m n : MachineRow) (most made : ℕ) → Rounding first m most made → made < most → steps_quietly m ≡ true → WentRound m n → Rounding first n most (made + 1)
-goes_on first m n most made r more quiet w =
+pub goes_on : (first m n : MachineRow) (t most made : ℕ) → Rounding first m t most made → made < most → steps_quietly m ≡ true → WentRound m n → Rounding first n t most (made + 1)
+goes_on first m n t most made r more quiet w =
     let next : suc made ≡ made + 1 = omega arith in
     let steps = w.steps in
     let sweeps = w.sweeps in
@@ -168,13 +181,15 @@ goes_on first m n most made r more quiet w =
       went = subst (λ k. WentRounds first n k) next (one_more_went first m n made r.went r.idle quiet w);
       guarded = round_guarded m n r.idle w r.guarded;
       idle = w.sweep ∙ r.idle;
+      pending = w.pending ∙ r.pending;
+      runs = w.running ∙ r.runs;
       steps = omega (arith, steps, steps_so);
       sweeps = omega (arith, sweeps, sweeps_so);
     }
 
 -- where the next step isn't quiet nothing has changed
-pub still_went : (first m n : MachineRow) (most made : ℕ) → Rounding first m most made → n.state ≡ m.state → n.board ≡ m.board → WentRounds first n made
-still_went first m n most made r state board = record {
+pub still_went : (first m n : MachineRow) (t most made : ℕ) → Rounding first m t most made → n.state ≡ m.state → n.board ≡ m.board → WentRounds first n made
+still_went first m n t most made r state board = record {
   board = board ∙ r.went.board;
   state = state ∙ r.went.state;
   silent = r.went.silent;
@@ -182,16 +197,16 @@ still_went first m n most made r state board = record {
   going = r.went.going;
 }
 
-pub still_guarded : (first m n : MachineRow) (most made : ℕ) → Rounding first m most made → n.state ≡ m.state → n.board ≡ m.board → Guarded n
-still_guarded first m n most made r state board = same_by m n state board r.guarded
+pub still_guarded : (first m n : MachineRow) (t most made : ℕ) → Rounding first m t most made → n.state ≡ m.state → n.board ≡ m.board → Guarded n
+still_guarded first m n t most made r state board = same_by m n state board r.guarded
 
 pub loud_next : (m n : MachineRow) → steps_quietly m ≡ false → n.state ≡ m.state → n.board ≡ m.board → goes_on_quietly n ≡ false
 loud_next m n loud state board =
     ap goes_on_quietly (same_machine n m board state) ∙ ap (λ (b : Bool). not (has_sweep m.state) && b) loud ∙ and_none (not (has_sweep m.state))
 
 -- all of them
-pub all_went : (first m : MachineRow) (most made : ℕ) → Rounding first m most made → most ≤ made → WentRounds first m most
-all_went first m most made r past =
+pub all_went : (first m : MachineRow) (t most made : ℕ) → Rounding first m t most made → most ≤ made → WentRounds first m most
+all_went first m t most made r past =
     let within = r.within in
     let all : made ≡ most = omega (arith, within, past) in
     subst (λ k. WentRounds first m k) all r.went

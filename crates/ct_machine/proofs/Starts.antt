@@ -1,7 +1,6 @@
 -- A machine put together from booted parts: what contracts see of it, and that it is kept so.
 use Rattle.std.proofs.Common.{ℕ, zero, suc, ◌+◌, ◌*◌, ◌≡◌, ◌≤◌, ◌<◌, ◌∙◌, true, false, List, [], ◌∷◌, length, map, replicate, slice_get, slice_index_or, refl, ap, sym, subst, arith}
 use Rattle.std.proofs.lemmas.List.{length-map, length-replicate}
-use Rattle.def_profile.specs.declared.layout.TheConstants.{GRANULE}
 use Rattle.ct_entry.specs.Listed.{Listed}
 use Rattle.ct_entry.specs.declared.rows.Entry.{Entry}
 use Rattle.ct_entry.specs.declared.rows.Gate.{Gate}
@@ -17,8 +16,9 @@ use Rattle.def_image.specs.Sound.{Sound}
 use Rattle.def_boot.specs.Gates.{entries_of}
 use Rattle.def_boot.specs.Entries as listed
 use Rattle.law_boot.proofs.Few.{few_entries}
+use Rattle.law_boot.proofs.Contents.{granules_count}
 use Rattle.def_boot.specs.Boot.{boot_state, booted_machine, first_thread, first_threads, image_of}
-use Rattle.def_boot.specs.Contents.{boot_granules, granules_from, granules_in}
+use Rattle.def_boot.specs.Contents.{boot_granules, granules_in}
 use Rattle.ct_threads.specs.Steps.{IsHeapPlaced}
 use Rattle.ct_engine.specs.Seen.{Seen}
 use Rattle.ct_engine.specs.Written.{HasHeap}
@@ -27,6 +27,8 @@ use Rattle.ct_boot.specs.Launching.{launched}
 use Rattle.ct_boot.specs.Placed.{ArePlaced}
 use Rattle.ct_machine.specs.Parts.{HasQuotas, IsKept, IsCounted}
 use Rattle.ct_machine.proofs.Keeping.{machine_by}
+use Rattle.law_boot.proofs.Contents.{granules_count}
+use Rattle.law_started.proofs.Starting.{threads_count}
 use Rattle.ct_machine.specs.Starting.{IsPlan, bank_of, limits_of, rows_of}
 
 -- ---- what contracts see
@@ -47,17 +49,9 @@ started_is p limits i e r k image engine rows bank = rw (image, engine, rows, ba
 
 -- ---- what it keeps
 
-how_many : (p : PartsRow) (x n : ℕ) → length (granules_from p x n) ≡ n
-how_many p x zero = refl
-how_many p x (suc n) = ap suc (how_many p (x + GRANULE) n)
-
 boot_length : (p : PartsRow) → length (boot_state p).granules ≡ granules_in p
 unfolding boot_state boot_granules
-boot_length p = how_many p p.ram (granules_in p)
-
-threads_count : (p : PartsRow) (n : ℕ) (ts : List ThreadRow) → length (first_threads p n ts) ≡ length ts
-threads_count p n [] = refl
-threads_count p n (t ∷ ts) = ap suc (threads_count p (n + 1) ts)
+boot_length p = granules_count p p.ram (granules_in p)
 
 frames_count : (p : PartsRow) → length (image_of p).frames ≡ length p.threads
 unfolding image_of

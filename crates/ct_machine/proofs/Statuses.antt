@@ -4,6 +4,7 @@ use Rattle.std.proofs.Math.ListN.{get_or, set}
 use Rattle.std.specs.List.{list_all}
 use Rattle.std.specs.Prelude.{count_by}
 use Rattle.std.proofs.lemmas.List.Sums.{sum_by-cons}
+use Rattle.std.proofs.lemmas.Bool.{and_right}
 use Rattle.def_sched.specs.declared.Status.{Status}
 use Rattle.def_sched.specs.declared.Status.TheVariants.{Ready, Sleeping, Waiting, Ended}
 use Rattle.def_sched.specs.Statuses.{goes_on, is_ended, is_waiting, after_tick, status_of}
@@ -14,24 +15,12 @@ use Rattle.def_step.specs.Events.{all_ended, one_waits, none_goes_on, end_of}
 
 -- ---- one thread of them
 
-pub thread_with : (ts : List Thread) (ss : List Status) (t : ℕ) → length ss ≡ length ts → get_or (with_statuses ts ss) t nobody ≡ with_status (get_or ts t nobody) (get_or ss t Ended)
-thread_with [] [] t e = refl
-thread_with [] (s ∷ ss) t e = absurd (omega (arith, e))
-thread_with (x ∷ ts) [] t e = absurd (omega (arith, e))
-thread_with (x ∷ ts) (s ∷ ss) zero e = refl
-thread_with (x ∷ ts) (s ∷ ss) (suc t) e = thread_with ts ss t (omega (arith, e))
-
 -- its status aside, it is as it was, whatever the statuses are
 pub like_with : (ts : List Thread) (ss : List Status) (t : ℕ) (s : Status) → with_status (get_or (with_statuses ts ss) t nobody) s ≡ with_status (get_or ts t nobody) s
 like_with [] ss t s = refl
 like_with (x ∷ ts) [] t s = refl
 like_with (x ∷ ts) (r ∷ ss) zero s = refl
 like_with (x ∷ ts) (r ∷ ss) (suc t) s = like_with ts ss t s
-
-pub length_with : (ts : List Thread) (ss : List Status) → length (with_statuses ts ss) ≡ length ts
-length_with [] ss = refl
-length_with (x ∷ ts) [] = refl
-length_with (x ∷ ts) (s ∷ ss) = ap (λ n. suc n) (length_with ts ss)
 
 -- statuses are given twice
 twice_with : (ts : List Thread) (ss new : List Status) → length ss ≡ length ts → length new ≡ length ts → with_statuses (with_statuses ts ss) new ≡ with_statuses ts new
@@ -97,10 +86,6 @@ ended_with [] (s ∷ ss) e = absurd (omega (arith, e))
 ended_with (x ∷ ts) [] e = absurd (omega (arith, e))
 ended_with (x ∷ ts) (s ∷ ss) e = ap (λ b. is_ended s && b) (ended_with ts ss (omega (arith, e)))
 
-both_no : (a b : Bool) → b ≡ false → (a && b) ≡ false
-both_no true b e = e
-both_no false b e = refl
-
 -- where one goes on they haven't all ended, and it isn't so that none goes on
 pub record SomeGoes (ts : List Thread) : Type 0 where
   pub ended : all_ended ts ≡ false
@@ -108,8 +93,8 @@ pub record SomeGoes (ts : List Thread) : Type 0 where
 
 more_go : (x : Thread) (ts : List Thread) → SomeGoes ts → SomeGoes (x ∷ ts)
 more_go x ts h = record {
-  ended = both_no (is_ended x.status) (all_ended ts) h.ended;
-  goes = both_no (is_ended x.status || is_waiting x.status) (none_goes_on ts) h.goes;
+  ended = and_right (is_ended x.status) (all_ended ts) h.ended;
+  goes = and_right (is_ended x.status || is_waiting x.status) (none_goes_on ts) h.goes;
 }
 
 pub goes_with : (ts : List Thread) (ss : List Status) → length ss ≡ length ts → 0 < count_by goes_on ss → SomeGoes (with_statuses ts ss)

@@ -1,26 +1,25 @@
 -- What a slice of the revoker leaves of the engine is what the written sweep leaves, and what it asks where it ends.
-use Rattle.std.proofs.Common.{ℕ, zero, suc, ◌+◌, ◌*◌, ◌≡◌, ◌≤◌, inl, inr, Bool, true, false, cond, min, nat_eq, nat_le, get_or, if◌then◌else◌, List, [], ◌∷◌, length, Option, Some, None, refl, sym, ap, ◌∙◌, subst}
+use Rattle.std.proofs.Common.{ℕ, zero, suc, ◌+◌, ◌*◌, ◌≡◌, ◌≤◌, Bool, true, false, cond, min, nat_le, get_or, if◌then◌else◌, List, [], ◌∷◌, length, Option, Some, None, refl, sym, ap, ◌∙◌, subst}
+use Rattle.std.proofs.lemmas.Bool.{eq-eqb}
 use Rattle.ct_entry.specs.declared.acts.Happened.{Happened}
 use Rattle.ct_entry.specs.declared.acts.Owned.{Owned}
 use Rattle.def_words.specs.declared.Cap.{Cap}
 use Rattle.def_words.specs.declared.Posture.{Posture}
-use Rattle.def_memory.specs.declared.Granule.{Granule}
 use Rattle.def_sched.specs.declared.Status.TheVariants.{Ready}
 use Rattle.def_events.specs.Guarded.{Guarded}
 use Rattle.def_confined.specs.Keeps.{Keeps}
 use Rattle.def_confined.specs.Partitioned.{Partitioned}
 use Rattle.def_confined.specs.Facts.{RootsAway}
 use Rattle.def_machine.specs.Image.{Image}
-use Rattle.def_machine.specs.State.{State, Thread, Frame, Object, Counts, thread, nobody}
+use Rattle.def_machine.specs.State.{State, Thread, Frame, Counts, thread, nobody}
 use Rattle.def_machine.specs.Objects.{Each, has_quarantined, painted}
 use Rattle.def_machine.specs.Heap as heap
-use Rattle.def_machine.specs.Slices.{kept_threads, marks_cleared}
+use Rattle.def_machine.specs.Slices.{kept_threads}
 use Rattle.def_machine.specs.Threads.{Clockwork, with_status}
 use Rattle.def_step.specs.Devices.{DeviceStates}
 use Rattle.def_machine.specs.Platform.{Platform, MachineRow}
 use Rattle.def_step.specs.Events.{happens, holder, holder_by, begun_since, swept_on}
 use Rattle.def_step.specs.declared.Event.TheVariants.{Sweep}
-use Rattle.law_lists.proofs.Tests.{eq_tells}
 use Rattle.law_moves.proofs.TurnsMoves.{clock_confined}
 use Rattle.law_moves.proofs.SweepsMoves.{clock_beside}
 use Rattle.def_confined.specs.Stale.{SavedClean, StoppedClean, IsClean}
@@ -38,6 +37,7 @@ use Rattle.ct_machine.specs.Going.{MaySweep, one_more_sweep, silence}
 use Rattle.ct_machine.proofs.Statuses.{like_with}
 use Rattle.ct_machine.proofs.Taking.{ram_is, frames_with}
 use Rattle.ct_machine.proofs.Keeping.{StaysBeside, stays_kept, still_ready}
+use Rattle.law_moves.proofs.Ends.{unmarked_length}
 
 -- ---- what a slice changes of an engine
 
@@ -94,13 +94,9 @@ slice_stays e low high = record {
   next = refl;
 }
 
-cleared_many : (rs : List Object) (x : ℕ) (gs : List Granule) → length (marks_cleared rs x gs) ≡ length gs
-cleared_many rs x [] = refl
-cleared_many rs x (g ∷ gs) = ap suc (cleared_many rs (x + 8) gs)
-
 over_stays : (e : Seen) → SweepStays e (over e)
 over_stays e = record {
-  beside = record { region = refl; areas = refl; size = cleared_many e.objects e.region.ram e.granules; threads = refl; heap_base = refl; heap_end = refl; limits = refl };
+  beside = record { region = refl; areas = refl; size = unmarked_length e.objects e.region.ram e.granules; threads = refl; heap_base = refl; heap_end = refl; limits = refl };
   running = refl;
   next = refl;
 }
@@ -240,13 +236,10 @@ holder_stays x y h = ap (holder_by y) h.running ∙ by x.running
     by None = refl
     by (Some t) = ap (λ (p : Posture). if p.off then Some (t, p.source) else None) (h.postures t)
 
-same_number : (n : ℕ) → nat_eq n n ≡ true
-same_number n = elim (eq_tells n n) [ inl z ↦ z.0 | inr z ↦ absurd (z.1 refl) ]
-
 -- whoever holds interrupts off already begins no span
 none_begins : (s : State) (o : Option (ℕ × ℕ)) → begun_since o s o ≡ None
 none_begins s None = refl
-none_begins s (Some h) = rw (same_number h.0, same_number h.1) refl
+none_begins s (Some h) = rw (eq-eqb h.0 h.0 refl, eq-eqb h.1 h.1 refl) refl
 
 pub sweep_silent : (b : Platform) (s : State) → (happens b s Sweep).1 ≡ silence
 sweep_silent b s =

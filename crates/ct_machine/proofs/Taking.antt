@@ -1,7 +1,8 @@
 -- Turns of threads: what the written machine does in each case, and that what the code leaves is that.
-use Rattle.std.proofs.Common.{ℕ, ◌≡◌, ◌&&◌, Bool, true, false, not, List, [], ◌∷◌, length, map, ◌<◌, Option, Some, None, refl, sym, ap, ◌∙◌, arith}
+use Rattle.std.proofs.Common.{ℕ, ◌≡◌, Bool, true, false, List, [], ◌∷◌, length, map, ◌<◌, Option, Some, None, refl, sym, ap, ◌∙◌, arith}
 use Rattle.std.proofs.Math.ListN.{get_or, set}
 use Rattle.law_lists.proofs.Finds.{find_tells}
+use Rattle.law_lists.proofs.Tests.{both_left}
 use Rattle.ct_entry.specs.declared.acts.Owned.{Owned}
 use Rattle.def_words.specs.declared.Posture.{Posture}
 use Rattle.def_sched.specs.declared.Status.{Status}
@@ -24,15 +25,8 @@ use Rattle.ct_engine.specs.Seen as engine
 use Rattle.ct_engine.specs.Seen.{resumed, with_running, Seen}
 use Rattle.ct_machine.specs.Parts.{state_by, IsKept}
 use Rattle.ct_machine.specs.Going.{clock_on, sleepers_on}
-use Rattle.ct_machine.proofs.Statuses.{thread_with, like_with, set_with, statuses_with, timed_with}
-
-pub not_true : (b : Bool) → not b ≡ true → b ≡ false
-not_true true e = sym e
-not_true false e = refl
-
-pub not_false : (b : Bool) → not b ≡ false → b ≡ true
-not_false true e = refl
-not_false false e = sym e
+use Rattle.ct_machine.proofs.Statuses.{like_with, set_with, statuses_with, timed_with}
+use Rattle.law_events.proofs.Waiting.{given_status}
 
 -- RAM begins where the image says
 pub ram_is : (i : Image) (e : Seen) (r : SchedRow) → IsKept i e r → e.region.ram ≡ i.ram
@@ -153,7 +147,7 @@ module _ (b : Platform) (e : Seen) (r : SchedRow) (pending : Bool) (devices : Li
       let there : with_statuses (set e.threads t (picked_with (filtered_in e.region.ram e.granules) (get_or e.threads t nobody))) r.statuses
       ≡ set (with_statuses e.threads r.statuses) t (picked_with (filtered_in e.region.ram e.granules) (get_or (with_statuses e.threads r.statuses) t nobody)) =
       set_with e.threads r.statuses t (picked_with (filtered_in e.region.ram e.granules) (get_or e.threads t nobody)) kept.statuses
-      ∙ ap (λ (x : Thread). set (with_statuses e.threads r.statuses) t (picked_with (filtered_in e.region.ram e.granules) x)) (sym (thread_with e.threads r.statuses t kept.statuses)) in
+      ∙ ap (λ (x : Thread). set (with_statuses e.threads r.statuses) t (picked_with (filtered_in e.region.ram e.granules) x)) (sym (given_status e.threads r.statuses t kept.statuses)) in
       rw (there, ram_is b.image e r kept) (sym (picks_as (Some t) kept idle is))
 
   pub none_is : (r' : SchedRow) → IsKept b.image e r → None ≡ e.running → None ≡ pick r.priorities r.statuses r.order → r' ≡ after_pick r None
@@ -166,10 +160,6 @@ module _ (b : Platform) (e : Seen) (r : SchedRow) (pending : Bool) (devices : Li
 
 -- ---- who is picked has frames
 
-first_true : (a b : Bool) → (a && b) ≡ true → a ≡ true
-first_true true b e = refl
-first_true false b e = e
-
 unready : (s : Status) → s ≡ Ended → is_ready s ≡ true → ⊥
 unready s is ready = let clash : false ≡ true = sym (ap is_ready is) ∙ ready in cc
 
@@ -180,8 +170,8 @@ some_frames (f ∷ fs) some = omega arith
 pub picked_alive : (e : Seen) (r : SchedRow) (pending : Bool) (devices : List DeviceState) (time : ℕ) (counts : Counts) (t : ℕ) → length r.statuses ≡ length e.threads
     → EndsFit (state_by e r pending devices time counts) → Some t ≡ pick r.priorities r.statuses r.order → 0 < length (engine.thread e t).frames
 picked_alive e r pending devices time counts t many ends is =
-    let ready : is_ready (status_of r.statuses t) ≡ true = first_true (is_ready (status_of r.statuses t)) _ (find_tells (is_foremost r.priorities r.statuses r.order) r.order t (sym is)).passes in
-    let status : (get_or (with_statuses e.threads r.statuses) t nobody).status ≡ get_or r.statuses t Ended = ap (λ (u : Thread). u.status) (thread_with e.threads r.statuses t many) in
+    let ready : is_ready (status_of r.statuses t) ≡ true = both_left (is_ready (status_of r.statuses t)) _ (find_tells (is_foremost r.priorities r.statuses r.order) r.order t (sym is)).passes in
+    let status : (get_or (with_statuses e.threads r.statuses) t nobody).status ≡ get_or r.statuses t Ended = ap (λ (u : Thread). u.status) (given_status e.threads r.statuses t many) in
     some_frames (engine.thread e t).frames
     (λ none. unready (status_of r.statuses t) (sym status ∙ ((ends t).none (frames_with e.threads r.statuses t ∙ none)).0) ready)
 

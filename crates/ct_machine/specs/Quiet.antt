@@ -1,5 +1,5 @@
 -- Rounds that tell nothing: slices of a sweep that has no work, each with a quiet step after it.
-use Rattle.std.specs.Prelude.{ℕ, zero, suc, ◌+◌, ◌≡◌, ◌<◌, ◌&&◌, ◌||◌, Bool, true, not, is_some, List, [], ◌∷◌, All, None}
+use Rattle.std.specs.Prelude.{ℕ, zero, suc, ◌+◌, ◌≡◌, ◌<◌, ◌&&◌, ◌||◌, Bool, true, not, is_some, cond, List, [], ◌∷◌, All, Option, None}
 use Rattle.def_machine.specs.Objects.{has_quarantined}
 use Rattle.def_machine.specs.Platform.{MachineRow}
 use Rattle.def_machine.specs.State.{State, Counts}
@@ -11,6 +11,10 @@ use Rattle.ct_machine.specs.Going.{silence, one_more_sweep, steps_quietly}
 -- a sweep runs, or is to begin
 abbrev pub has_sweep : State → Bool
 has_sweep s = is_some s.front || has_quarantined s.objects
+
+-- who runs, where no tick is pending
+abbrev pub undisturbed : State → Option ℕ
+undisturbed s = cond s.pending None s.running
 
 -- no sweep has work, and the next step is quiet
 abbrev pub goes_on_quietly : MachineRow → Bool
@@ -29,11 +33,13 @@ after_rounds m n = record { board = m.board; state = run m.board m.state (rounds
 abbrev pub with_counts : State → Counts → State
 with_counts s c = record s { counts = c }
 
--- Board and counts are as they were, and so is whether a sweep has work.
+-- Board and counts are as they were, and so are whether a sweep has work, whether a tick is pending, and who runs.
 pub record StaysAside (m n : MachineRow) : Type 0 where
   pub board : n.board ≡ m.board
   pub counts : n.state.counts ≡ m.state.counts
   pub sweep : has_sweep n.state ≡ has_sweep m.state
+  pub pending : n.state.pending ≡ m.state.pending
+  pub running : n.state.running ≡ m.state.running
 
 -- One quiet round of machine m, which had come to no end, left machine n: where the sweep had no work it only counted.
 pub record WentRound (m n : MachineRow) : Type 0 where
@@ -42,6 +48,8 @@ pub record WentRound (m n : MachineRow) : Type 0 where
   pub steps : n.state.counts.steps ≡ m.state.counts.steps + 1
   pub sweeps : n.state.counts.sweeps ≡ m.state.counts.sweeps + 1
   pub sweep : has_sweep n.state ≡ has_sweep m.state
+  pub pending : n.state.pending ≡ m.state.pending
+  pub running : n.state.running ≡ m.state.running
   pub going : end_of m.state ≡ None
 
 -- So many rounds of machine m left machine n. They told nothing; each was quiet, and began where the machine had come

@@ -7,13 +7,43 @@ ghost use Rattle.def_machine.specs.State.{Counts};
 ghost use Rattle.def_step.specs.Events.{end_of, happens, is_lawful, one_more_step};
 ghost use Rattle.def_step.specs.declared.Event.TheVariants as event;
 ghost use Rattle.ct_machine.specs.Going.{silence, steps_quietly};
-ghost use Rattle.ct_machine.specs.Quiet.{goes_on_quietly, has_sweep, with_counts, StaysAside, WentRound, WentRounds};
+ghost use Rattle.ct_machine.specs.Quiet.{goes_on_quietly, has_sweep, undisturbed, with_counts, StaysAside, WentRound, WentRounds};
 
 use crate::parts::Parts;
 use ct_execute::execute_quietly;
 use ct_mem::Memory;
 
 impl<M: Memory + Drop> Parts<M> {
+    /// The running thread, where no tick is pending.
+    #[inline(always)]
+    fn undisturbed(&self) -> Option<u32>
+        ensures { result ≡ undisturbed self.now.state }
+    {
+        if self.pending {
+            return None;
+        }
+        self.engine.running()
+    }
+
+    /// A step of the running thread that isn't counted yet, where no tick is pending, exactly where `execute_quietly`
+    /// carries its instruction out: `true`, and the step tells nothing, whatever was counted. Else `false`, and nothing
+    /// changes.
+    #[inline(always)]
+    fn thread_goes_quietly(&mut self, t: u32) -> bool
+        requires guarded { Guarded self.old }
+        requires pending { self.old.state.pending ≡ false }
+        requires runs { self.old.state.running ≡ Some t }
+        ensures when { result ≡ steps_quietly self.old }
+        ensures is { result ≡ true → (c : Counts)
+            → (one_more_step (with_counts self.new.state c), silence)
+            ≡ happens self.old.board (with_counts self.old.state c) event.Step }
+        ensures same { result ≡ false → self.new.state ≡ self.old.state }
+        ensures aside { StaysAside self.old self.new }
+        ensures going { end_of self.old.state ≡ None }
+    {
+        execute_quietly(&mut self.engine, t, &mut self.decoded)
+    }
+
     /// A step that isn't counted yet, exactly where no tick is pending, a thread runs, and `execute_quietly` carries
     /// its instruction out: `true`, and the step tells nothing, whatever was counted. Else `false`, and nothing changes.
     #[inline(always)]
@@ -25,13 +55,9 @@ impl<M: Memory + Drop> Parts<M> {
             ≡ happens self.old.board (with_counts self.old.state c) event.Step }
         ensures same { result ≡ false → self.new.state ≡ self.old.state }
         ensures aside { StaysAside self.old self.new }
-        ensures going { result ≡ true → end_of self.old.state ≡ None }
     {
-        if self.pending {
-            return false;
-        }
-        match self.engine.running() {
-            Some(t) => execute_quietly(&mut self.engine, t, &mut self.decoded),
+        match self.undisturbed() {
+            Some(t) => self.thread_goes_quietly(t),
             None => false,
         }
     }
@@ -63,11 +89,13 @@ impl<M: Memory + Drop> Parts<M> {
         self.engine.has_sweep()
     }
 
-    /// A slice of a sweep that has no work, and a step, exactly where that is quiet: `true`. Else `false`, and nothing
-    /// changes.
+    /// A slice of a sweep that has no work, and a step of the running thread, where no tick is pending, exactly where
+    /// that is quiet: `true`. Else `false`, and nothing changes.
     #[inline(always)]
-    fn round_quietly(&mut self) -> bool
+    fn round_quietly(&mut self, t: u32) -> bool
         requires guarded { Guarded self.old }
+        requires pending { self.old.state.pending ≡ false }
+        requires runs { self.old.state.running ≡ Some t }
         requires steps { self.old.state.counts.steps < MOST_STEPS }
         requires sweeps { self.old.state.counts.sweeps < MOST_STEPS }
         ensures when { result ≡ steps_quietly self.old }
@@ -75,12 +103,35 @@ impl<M: Memory + Drop> Parts<M> {
         ensures same { result ≡ false → self.new.state ≡ self.old.state }
         ensures board { self.new.board ≡ self.old.board }
     {
-        if !self.go_quietly() {
+        if !self.thread_goes_quietly(t) {
             return false;
         }
         self.count_sweep();
         self.count_step();
         true
+    }
+
+    /// Such rounds as long as the step is quiet, at most `most`: how many. A quiet step leaves the thread running, no
+    /// tick pending and no sweep with work, so these are looked at once.
+    #[inline(always)]
+    fn run_thread_quietly(&mut self, t: u32, most: u32) -> u32
+        requires guarded { Guarded self.old }
+        requires idle { has_sweep self.old.state ≡ false }
+        requires pending { self.old.state.pending ≡ false }
+        requires runs { self.old.state.running ≡ Some t }
+        requires steps { self.old.state.counts.steps + most ≤ MOST_STEPS }
+        requires sweeps { self.old.state.counts.sweeps + most ≤ MOST_STEPS }
+        ensures most { result ≤ most }
+        ensures went { WentRounds self.old self.new result }
+        ensures stops { result < most → goes_on_quietly self.new ≡ false }
+        ensures guarded { Guarded self.new }
+    {
+        for made in 0..most {
+            if !self.round_quietly(t) {
+                return made;
+            }
+        }
+        most
     }
 
     /// Such rounds as long as no sweep has work and the step is quiet, at most `most`: how many.
@@ -96,11 +147,9 @@ impl<M: Memory + Drop> Parts<M> {
         if self.has_sweep() {
             return 0;
         }
-        for made in 0..most {
-            if !self.round_quietly() {
-                return made;
-            }
+        match self.undisturbed() {
+            Some(t) => self.run_thread_quietly(t, most),
+            None => 0,
         }
-        most
     }
 }

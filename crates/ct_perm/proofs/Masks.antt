@@ -2,9 +2,6 @@
 use Rattle.std.proofs.Common.{ℕ, ◌%◌, ◌<◌, ◌≤◌, ◌≡◌, ◌^◌, sym, ◌∙◌, arith, bit_and}
 use Rattle.std.proofs.lemmas.Nat.{and_mod, and_le_l}
 
-pub mask_small : (set mask : ℕ) → set < 2 ^ 12 → bit_and set mask < 2 ^ 12
-mask_small set mask small = let le : bit_and set mask ≤ set = and_le_l set mask in omega (arith, le, small)
-
 pub mask_low : (set mask : ℕ) → set < 2 ^ 16 → bit_and set (mask % 2 ^ 16) ≡ bit_and set mask
 mask_low set mask small =
     let cut : bit_and set mask % 2 ^ 16 ≡ bit_and (set % 2 ^ 16) (mask % 2 ^ 16) = and_mod set mask 16 in

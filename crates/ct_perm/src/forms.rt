@@ -22,7 +22,7 @@ const SEALING: u16 = (GL + US + SE + U0) as u16;
 
 /// A form of five bits.
 #[derive(Clone, Copy, PartialEq, Eq, Drop)]
-pub enum Form {
+pub(crate) enum Form {
     /// 01 SR LM LG.
     Executable,
     /// 11 SL LM LG.

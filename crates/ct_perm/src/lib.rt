@@ -125,7 +125,7 @@ impl Perms {
     }
 
     /// The permissions of the set that a mask has too.
-    #[tactic(auto, using(crate::proofs::Masks::mask_low, crate::proofs::Masks::mask_small))]
+    #[tactic(auto, using(crate::proofs::Masks::mask_low, law_words::proofs::Narrowing::common_small))]
     pub fn masked(self, mask: u32) -> Perms
         ensures value { result.0 ≡ bit_and self.0 mask }
         ensures small { self.0 < 2 ^ 12 → result.0 < 2 ^ 12 }

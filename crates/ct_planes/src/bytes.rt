@@ -91,7 +91,8 @@ fn put_word_in(bytes: &mut [u8], at: usize, word: u64)
     requires { at + 8 ≤ length bytes.old }
     ensures size { length bytes.new ≡ length bytes.old }
     ensures holds { (words : List ℕ)
-        → HoldsWords words bytes.old → at % 8 ≡ 0 → HoldsWords (slice_set words (at / 8) word) bytes.new }
+        → HoldsWords words bytes.old → at % 8 ≡ 0
+        → HoldsWords (slice_set words (at / 8) word) bytes.new }
 {
     put_bytes(bytes, at, &word.to_le_bytes());
 }

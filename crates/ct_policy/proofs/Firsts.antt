@@ -2,12 +2,11 @@
 use Rattle.std.proofs.Common.{◌≡◌, ℕ, suc, ◌+◌, ◌-◌, ◌<◌, ◌≤◌, ◌==◌, ◌++◌, List, [], ◌∷◌, Bool, true, false, inl, inr, refl, ap, sym, ◌∙◌, subst, arith, length, take, drop}
 use Rattle.std.proofs.Math.ListN.{get_or}
 use Rattle.std.specs.List.{list_all, prefix_len}
-use Rattle.std.proofs.Math.Seq.{take-length}
-use Rattle.std.proofs.lemmas.List.{length-take-le, length-drop}
+use Rattle.std.proofs.lemmas.List.{length-take-le}
 use Rattle.std.proofs.lemmas.Bool.{both_ways}
 use Rattle.law_lists.proofs.Tests.{both_left, eq_tells}
 use Rattle.law_script.proofs.Runs.{same_run, no_end}
-use Rattle.ct_script.proofs.Parts.{IsRun, run_is, run_whole}
+use Rattle.ct_script.proofs.Parts.{IsRun, run_is, run_whole, all_rest}
 use Rattle.def_policy.specs.Rules.{is_inner}
 use Rattle.ct_policy.specs.Words.{IsFirst, NoFirst, end_byte}
 
@@ -41,12 +40,6 @@ endless text long word last rest first =
 pub other_end : (text : List ℕ) → place_of text < length text → (get_or text (place_of text) 0 ≡ 32 → ⊥) → (get_or text (place_of text) 0 ≡ 10 → ⊥) → NoFirst text
 other_end text inside space feed word true rest first = feed (meets text word true rest inside first).1
 other_end text inside space feed word false rest first = space (meets text word false rest inside first).1
-
-all_rest : (text : List ℕ) (k : ℕ) → take (length text - (k + 1)) (drop (k + 1) text) ≡ drop (suc k) text
-all_rest text k =
-    let next : k + 1 ≡ suc k = omega arith in
-    let size : length text - (k + 1) ≡ length (drop (k + 1) text) = sym (length-drop (k + 1) text) in
-    ap (λ n. take n (drop (k + 1) text)) size ∙ take-length (drop (k + 1) text) ∙ ap (λ n. drop n text) next
 
 ends_so : (c : ℕ) → (c ≡ 32 → ⊥) → (c ≡ 10 → ⊥) → ⊥ → ⊥
 ends_so c a b bad = bad

@@ -1,9 +1,9 @@
 -- What a sound image owes to names.
-use Rattle.std.proofs.Common.{◌≡◌, ℕ, ◌<◌, Bool, List, [], ◌∷◌, Option, Some, None, inl, inr, refl, ap, sym, ◌∙◌, subst, arith, length, slice_get, unwrap_or, option_map}
+use Rattle.std.proofs.Common.{◌≡◌, ℕ, ◌<◌, Bool, List, [], ◌∷◌, Option, Some, None, refl, ap, sym, ◌∙◌, subst, arith, length, slice_get, unwrap_or, option_map}
 use Rattle.std.proofs.Math.ListN.{get_or}
-use Rattle.std.specs.List.{position, position_or_len}
+use Rattle.std.specs.List.{position}
 use Rattle.std.specs.Str.{bytes_eq}
-use Rattle.law_lists.proofs.Tests.{lt_tells}
+use Rattle.law_lists.proofs.Finds.{position_inside}
 use Rattle.std.proofs.lemmas.Option.{slice_get-get_or}
 use Rattle.def_image.specs.Members.{compartment, gate_number, no_compartment}
 use Rattle.def_image.specs.Parts.{CompartmentRow, GateRow, PartsRow}
@@ -12,17 +12,6 @@ use Rattle.def_image.specs.Accepted.{IsFaultless}
 use Rattle.law_image.proofs.Sounds.{sound}
 use Rattle.ct_entries.specs.Fits.{HasExport}
 use Rattle.def_policy.specs.Names.{export_in}
-
--- what was found is one of them
-found_inside : {A : Type 0} (p : A → Bool) (xs : List A) (k : ℕ) → position p xs ≡ Some k → k < length xs
-found_inside p xs k found =
-    elim (lt_tells (position_or_len p xs) (length xs)) [
-      | inl less ↦
-          let same : position_or_len p xs ≡ k = (let e : Some (position_or_len p xs) ≡ Some k = rw less.0 at found in cc) in
-          let inside = less.1 in
-          omega (arith, same, inside)
-      | inr past ↦ absurd (let e : None ≡ Some k = rw past.0 at found in cc)
-    ]
 
 abbrev is_called : List ℕ → GateRow → Bool
 is_called name x = bytes_eq name x.name
@@ -40,7 +29,7 @@ some_export (x ∷ xs) j inside = x
 
 pub is_there : (p : PartsRow) (b j : ℕ) (name : List ℕ) (exports : List GateRow) → exports ≡ (compartment p b).code.exports → Some j ≡ position (is_called name) exports → HasExport p b j
 is_there p b j name exports same found =
-    let inside : j < length exports = found_inside (is_called name) exports j (sym found) in
+    let inside : j < length exports = position_inside (is_called name) exports j (sym found) in
     let here : j < length (compartment p b).code.exports = omega (arith, inside, ap length same) in
     there p b j (slice_get p.compartments b) refl here (some_export exports j inside)
 

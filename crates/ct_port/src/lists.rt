@@ -11,7 +11,7 @@ use std::marker::Model;
 
 /// A file that is kept in memory.
 #[derive(Drop)]
-pub struct StoredFile {
+pub(crate) struct StoredFile {
     name: String,
     bytes: Vec<u8>,
 }
@@ -27,7 +27,7 @@ impl Model for StoredFile {
 
 /// A read that came: the name, the limit, and whether it failed.
 #[derive(Drop)]
-pub struct Reading {
+pub(crate) struct Reading {
     name: String,
     limit: u64,
     failed: bool,

@@ -1,19 +1,12 @@
 -- Entries and labels side by side, one after another.
-use Rattle.std.proofs.Common.{◌≡◌, ℕ, zero, suc, ◌+◌, ◌<◌, ◌≤◌, List, [], ◌∷◌, ◌++◌, length, drop, get_or, refl, sym, ap, ◌∙◌, append_assoc, drop-cons, add-one, arith}
+use Rattle.std.proofs.Common.{◌≡◌, ℕ, ◌+◌, ◌<◌, ◌≤◌, List, [], ◌∷◌, ◌++◌, length, drop, get_or, refl, sym, ap, ◌∙◌, append_assoc, append-nil}
+use Rattle.std.proofs.lemmas.List.{drop_all}
+use Rattle.law_lists.proofs.Places.{from_here}
 use Rattle.serde_json.specs.Data.{Data}
 use Rattle.ct_entry.specs.declared.rows.Entry.{Entry}
 use Rattle.def_report.specs.Lines.{line_data, numbered}
 use Rattle.ct_report.specs.declared.labels.Label.{Label}
 use Rattle.ct_report.specs.Shown.{label_of, shown}
-
-from_here : {A : Type 0} (xs : List A) (i : ℕ) (x : A) → i < length xs → x ≡ get_or xs i x → drop i xs ≡ x ∷ drop (i + 1) xs
-from_here xs i x lt is = rw (add-one, drop-cons xs i x) (ap (λ y. y ∷ drop (suc i) xs) (sym is))
-
-none_left : {A : Type 0} (xs : List A) (i : ℕ) → length xs ≤ i → drop i xs ≡ []
-none_left [] zero le = refl
-none_left [] (suc i) le = refl
-none_left (x ∷ xs) zero le = absurd (omega (arith, le))
-none_left (x ∷ xs) (suc i) le = none_left xs i (omega (arith, le))
 
 -- the entry at a place and its label come next
 pub numbered_next : (n : ℕ) (rs : List Entry) (ls : List Label) (i : ℕ) (r : Entry) (l : Label) → i < length rs → r ≡ get_or rs i r → i < length ls → l ≡ get_or ls i l
@@ -29,15 +22,11 @@ no_labels n (r ∷ rs) = refl
 
 -- where the labels end, nothing comes any more
 pub numbered_short : (n : ℕ) (rs : List Entry) (ls : List Label) (i : ℕ) → length ls ≤ i → numbered n rs (shown (drop i ls)) ≡ []
-numbered_short n rs ls i le = ap (λ xs. numbered n rs (shown xs)) (none_left ls i le) ∙ no_labels n rs
-
-append_nil : {A : Type 0} (xs : List A) → xs ++ [] ≡ xs
-append_nil [] = refl
-append_nil (x ∷ xs) = ap (λ l. x ∷ l) (append_nil xs)
+numbered_short n rs ls i le = ap (λ xs. numbered n rs (shown xs)) (drop_all i ls le) ∙ no_labels n rs
 
 -- one more value stands for the next entry
 pub done_next : (before after : List Data) (v : Data) (rest next total : List Data) → before ++ rest ≡ total → rest ≡ v ∷ next → after ≡ before ++ v ∷ [] → after ++ next ≡ total
 done_next before after v rest next total all here is = ap (λ l. l ++ next) is ∙ append_assoc before (v ∷ []) next ∙ ap (λ l. before ++ l) (sym here) ∙ all
 
 pub done_all : (before rest total : List Data) → before ++ rest ≡ total → rest ≡ [] → before ≡ total
-done_all before rest total all none = sym (append_nil before) ∙ ap (λ l. before ++ l) (sym none) ∙ all
+done_all before rest total all none = sym (append-nil before) ∙ ap (λ l. before ++ l) (sym none) ∙ all

@@ -1,5 +1,6 @@
 -- The report has no number with a point, so its text is its compact text.
-use Rattle.std.proofs.Common.{◌≡◌, ℕ, ◌+◌, List, [], ◌∷◌, Bool, true, false, ◌||◌, refl, map, length}
+use Rattle.std.proofs.Common.{◌≡◌, ℕ, ◌+◌, List, [], ◌∷◌, Bool, false, ◌||◌, refl, map, length}
+use Rattle.std.proofs.lemmas.Bool.{or_from}
 use Rattle.ct_entry.specs.declared.rows.Entry.{Entry}
 use Rattle.ct_entry.specs.declared.rows.Kind.{Kind}
 use Rattle.ct_entry.specs.declared.rows.Kind.TheVariants.{Code, Globals, Stack, Device, Shared, Sealed, Call, Library, Service, Quota, Key, Export}
@@ -13,10 +14,6 @@ use Rattle.def_report.specs.Edges.{edges}
 use Rattle.def_report.specs.Labels.{Label, labels_of}
 use Rattle.def_report.specs.Lines.{Line, data_of, export_line_data, line_data, numbered}
 use Rattle.def_report.specs.Report.{compartment_data, device_data, edge_data, library_data, thread_data, data_over}
-
-or_false : (a b : Bool) → a ≡ false → b ≡ false → (a || b) ≡ false
-or_false true b here there = here
-or_false false b here there = there
 
 export_plain : (o : Owner) (l : Line) → has_float (export_line_data o l) ≡ false
 export_plain owner.Trusted l = refl
@@ -43,7 +40,7 @@ numbered_plain n [] ls = refl
 numbered_plain n (r ∷ rs) [] = refl
 numbered_plain n (r ∷ rs) (l ∷ ls) =
     let line : Line = record { number = n; entry = r; label = l } in
-    or_false (has_float (line_data line)) (items_have_float (items_of (numbered (n + 1) rs ls))) (data_plain r.kind line) (numbered_plain (n + 1) rs ls)
+    or_from (has_float (line_data line)) (items_have_float (items_of (numbered (n + 1) rs ls))) (data_plain r.kind line) (numbered_plain (n + 1) rs ls)
 
 compartments_plain : (cs : List CompartmentRow) → items_have_float (items_of (map compartment_data cs)) ≡ false
 compartments_plain [] = refl
@@ -67,9 +64,9 @@ threads_plain p (t ∷ ts) = threads_plain p ts
 
 six_false : (a b c d e f : Bool) → a ≡ false → b ≡ false → c ≡ false → d ≡ false → e ≡ false → f ≡ false → (a || (b || (c || (d || (e || (f || false)))))) ≡ false
 six_false a b c d e f ha hb hc hd he hf =
-    or_false a (b || (c || (d || (e || (f || false))))) ha
-    (or_false b (c || (d || (e || (f || false)))) hb
-    (or_false c (d || (e || (f || false))) hc (or_false d (e || (f || false)) hd (or_false e (f || false) he (or_false f false hf refl)))))
+    or_from a (b || (c || (d || (e || (f || false))))) ha
+    (or_from b (c || (d || (e || (f || false)))) hb
+    (or_from c (d || (e || (f || false))) hc (or_from d (e || (f || false)) hd (or_from e (f || false) he (or_from f false hf refl)))))
 
 pub report_plain : (p : PartsRow) (e : Listed) → has_float (data_over p e) ≡ false
 unfolding data_over

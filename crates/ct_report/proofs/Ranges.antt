@@ -1,5 +1,5 @@
 -- A walk over a range, a number at a time.
-use Rattle.std.proofs.Common.{◌≡◌, ℕ, suc, ◌+◌, ◌-◌, ◌<◌, ◌≤◌, List, [], ◌∷◌, ◌++◌, map, refl, sym, ap, ◌∙◌, append_assoc, arith}
+use Rattle.std.proofs.Common.{◌≡◌, ℕ, suc, ◌+◌, ◌-◌, ◌<◌, ◌≤◌, List, [], ◌∷◌, ◌++◌, map, sym, ap, ◌∙◌, append_assoc, arith, append-nil}
 use Rattle.std.proofs.lemmas.List.{map-append}
 use Rattle.std.specs.List.{flat_map, range_with_len}
 
@@ -19,11 +19,7 @@ range_next f g vs ws total a n lt before is =
     ∙ ap (λ l. vs ++ l) (sym (map-append g (f a) (flat_map f (range_with_len (a + 1) (n - (a + 1))))))
     ∙ ap (λ l. vs ++ map g (flat_map f l)) (sym (range_first a n lt)) ∙ before
 
-append_nil : {A : Type 0} (xs : List A) → xs ++ [] ≡ xs
-append_nil [] = refl
-append_nil (x ∷ xs) = ap (λ l. x ∷ l) (append_nil xs)
-
 pub range_ends : {A B : Type 0} (f : ℕ → List A) (g : A → B) (vs total : List B) (a n : ℕ) → n ≤ a
     → vs ++ map g (flat_map f (range_with_len a (n - a))) ≡ total → vs ≡ total
 range_ends f g vs total a n le before =
-    sym (append_nil vs) ∙ ap (λ l. vs ++ map g (flat_map f l)) (sym (range_over a n le)) ∙ before
+    sym (append-nil vs) ∙ ap (λ l. vs ++ map g (flat_map f l)) (sym (range_over a n le)) ∙ before

@@ -223,7 +223,8 @@ fn export_value(alloc: Global, line: &Line) -> Result<Value, AllocError>
 
 /// An export, by its owner.
 fn owned_export(alloc: Global, line: &Line) -> Result<Value, AllocError>
-    ensures { IfOk result (λ v. view v ≡ spec.export_line_data line.now.entry.owner (line_of line.now)) }
+    ensures { IfOk result (λ v. view v
+        ≡ spec.export_line_data line.now.entry.owner (line_of line.now)) }
 {
     match line.entry.owner {
         Owner::Library(_) => library_export_value(alloc, line),

@@ -1,5 +1,5 @@
 -- Events that come one after the other, with their lines.
-use Rattle.std.proofs.Common.{◌≡◌, ℕ, suc, ◌+◌, ◌≤◌, Bool, true, false, List, [], ◌∷◌, ◌++◌, length, map, Option, refl, sym, ap, ◌∙◌, subst, arith}
+use Rattle.std.proofs.Common.{◌≡◌, ℕ, ◌+◌, ◌≤◌, Bool, true, false, List, [], ◌∷◌, ◌++◌, length, map, refl, sym, ap, ◌∙◌, subst, arith}
 use Rattle.std.proofs.lemmas.List.{append-nil}
 use Rattle.std.proofs.lemmas.Grind.{flat_map-append}
 use Rattle.std.specs.List.{flat_map}
@@ -14,7 +14,7 @@ use Rattle.def_step.specs.Events.{happens, run, happenings_of}
 use Rattle.def_trace.specs.Trace.{trace_line}
 use Rattle.def_events.specs.Kinds.{Kinds, kinds, all_more}
 use Rattle.law_routines.proofs.Appended.{run_append, told_append}
-use Rattle.law_routines.proofs.Counted.{run_kinds}
+use Rattle.law_routines.proofs.Counted.{run_kinds, inputs_more}
 use Rattle.law_routines.proofs.Devices.{run_keeps}
 use Rattle.def_script.specs.declared.Given.{Given}
 use Rattle.def_program.specs.Runs.{input_of}
@@ -35,7 +35,7 @@ pub one_line : (m : MachineRow) (k : ℕ) (e : Event) → lines_of m k (e ∷ []
 unfolding happenings_of
 one_line m k e = append-nil (trace_line k (happens m.board m.state e).1)
 
-one_event : (b : Platform) (s : State) (e : Event) → run b s (e ∷ []) ≡ (happens b s e).0
+pub one_event : (b : Platform) (s : State) (e : Event) → run b s (e ∷ []) ≡ (happens b s e).0
 unfolding run
 one_event b s e = refl
 
@@ -100,19 +100,12 @@ pub ticked_sweeps : (m n : MachineRow) (due : Bool) (k : ℕ) (before after : Si
 ticked_sweeps m n true k before after c = ap (λ (x : Kinds). x.sweeps) (came_kinds m n k (Tick ∷ []) before after c)
 ticked_sweeps m n false k before after c = ap (λ (x : Kinds). x.sweeps) (came_kinds m n k [] before after c)
 
--- bytes count as inputs alone
-inputs_more : (gs : List Given) (es : List Event) (k : Kinds) → all_more (map input_of gs ++ es) k ≡ all_more es (record k { inputs = k.inputs + length gs })
-inputs_more [] es k = ap (λ n. all_more es (record k { inputs = n })) (let same : k.inputs ≡ k.inputs + 0 = omega arith in same)
-inputs_more (g ∷ gs) es k =
-    inputs_more gs es (record k { inputs = k.inputs + 1 })
-    ∙ ap (λ n. all_more es (record k { inputs = n })) (let same : k.inputs + 1 + length gs ≡ k.inputs + suc (length gs) = omega arith in same)
-
 pub inputs_kinds : (m n : MachineRow) (gs : List Given) (k : ℕ) (before after : SinkView) → Came m n k (map input_of gs) before after
     → kinds n.state.counts ≡ record (kinds m.state.counts) { inputs = m.state.counts.inputs + length gs }
 inputs_kinds m n gs k before after c =
     came_kinds m n k (map input_of gs) before after c
     ∙ ap (λ es. all_more es (kinds m.state.counts)) (sym (append-nil (map input_of gs)))
-    ∙ inputs_more gs [] (kinds m.state.counts)
+    ∙ inputs_more input_of (λ g k. refl) gs [] (kinds m.state.counts)
 
 pub came_devices : (m n : MachineRow) (k : ℕ) (es : List Event) (before after : SinkView) → Came m n k es before after → length n.state.devices ≡ length m.state.devices
 came_devices m n k es before after c = ap (λ (s : State). length s.devices) c.state ∙ run_keeps m.board m.state es
@@ -121,7 +114,7 @@ came_devices m n k es before after c = ap (λ (s : State). length s.devices) c.s
 round_kinds : (m n : MachineRow) (gs : List Given) (due : Bool) (k : ℕ) (before after : SinkView) → Came m n k (round_of gs due) before after
     → kinds n.state.counts ≡ all_more (ticks_if due ++ Sweep ∷ Step ∷ []) (record (kinds m.state.counts) { inputs = m.state.counts.inputs + length gs })
 round_kinds m n gs due k before after c =
-    came_kinds m n k (round_of gs due) before after c ∙ inputs_more gs (ticks_if due ++ Sweep ∷ Step ∷ []) (kinds m.state.counts)
+    came_kinds m n k (round_of gs due) before after c ∙ inputs_more input_of (λ g k. refl) gs (ticks_if due ++ Sweep ∷ Step ∷ []) (kinds m.state.counts)
 
 pub round_steps : (m n : MachineRow) (gs : List Given) (due : Bool) (k : ℕ) (before after : SinkView) → Came m n k (round_of gs due) before after → n.state.counts.steps ≡ m.state.counts.steps + 1
 round_steps m n gs true k before after c = ap (λ (x : Kinds). x.steps) (round_kinds m n gs true k before after c)

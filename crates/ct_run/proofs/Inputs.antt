@@ -1,14 +1,12 @@
 -- The loop over the bytes that come before a step.
-use Rattle.std.proofs.Common.{◌≡◌, ℕ, suc, ◌+◌, ◌<◌, ◌≤◌, ◌&&◌, nat_lt, Bool, true, false, List, [], ◌∷◌, ◌++◌, length, map, drop, get_or, Option, refl, sym, ap, ◌∙◌, subst, arith}
+use Rattle.std.proofs.Common.{◌≡◌, ℕ, suc, ◌+◌, ◌<◌, ◌≤◌, nat_lt, true, List, [], ◌∷◌, ◌++◌, length, map, drop, get_or, refl, sym, ap, ◌∙◌, subst, arith}
 use Rattle.std.specs.List.{All}
 use Rattle.std.proofs.Math.Seq.{drop-cons}
-use Rattle.std.proofs.lemmas.Bool.{lt-ltb}
+use Rattle.std.proofs.lemmas.Bool.{lt-ltb, and_from}
 use Rattle.std.proofs.lemmas.List.{append_assoc, append-nil, drop_all, map-append}
 use Rattle.def_profile.specs.declared.limits.TheConstants.{MOST_STEPS}
 use Rattle.def_port.specs.Bytes.{SinkView}
 use Rattle.def_port.specs.Writes.{WriteFails}
-use Rattle.def_machine.specs.State.{State}
-use Rattle.def_step.specs.declared.Event.{Event}
 use Rattle.def_step.specs.Events.{is_lawful}
 use Rattle.def_machine.specs.Platform.{MachineRow}
 use Rattle.def_script.specs.declared.Given.{Given}
@@ -33,15 +31,12 @@ next_of all i d x is low =
     let on : suc i ≡ i + 1 = omega arith in
     subst (λ n. drop i all ≡ x ∷ drop n all) on (subst (λ y. drop i all ≡ y ∷ drop (suc i) all) (sym is) (drop-cons all i d low))
 
-both_true : (a c : Bool) → a ≡ true → c ≡ true → (a && c) ≡ true
-both_true a c here there = ap (λ x. x && c) here ∙ there
-
 pub may_come : (first m : MachineRow) (k : ℕ) (all left rest : List Given) (g : Given) (before now : SinkView)
     → Coming first m k all left before now → left ≡ g ∷ rest → is_lawful m.state (input_of g) ≡ true
 may_come first m k all left rest g before now c is =
     let room : HasInputs m.state (g ∷ rest) = subst (λ gs. HasInputs m.state gs) is c.room in
     let fits = room.room in
-    both_true (nat_lt m.state.counts.inputs MOST_STEPS) (nat_lt g.device (length m.state.devices))
+    and_from (nat_lt m.state.counts.inputs MOST_STEPS) (nat_lt g.device (length m.state.devices))
     (lt-ltb m.state.counts.inputs MOST_STEPS (omega (arith, fits)))
     (lt-ltb g.device (length m.state.devices) (room.named 0 g (omega arith)))
 

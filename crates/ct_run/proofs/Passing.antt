@@ -1,5 +1,5 @@
 -- Rounds of which nothing is written.
-use Rattle.std.proofs.Common.{◌≡◌, ℕ, zero, suc, ◌+◌, ◌-◌, ◌==◌, ◌<◌, ◌≤◌, nat_eq, Bool, true, false, List, [], ◌∷◌, ◌++◌, Option, Some, None, if◌then◌else◌, refl, sym, ap, ◌∙◌, subst, arith}
+use Rattle.std.proofs.Common.{◌≡◌, ℕ, zero, suc, ◌+◌, ◌-◌, ◌==◌, ◌<◌, ◌≤◌, nat_eq, Bool, true, false, List, [], ◌∷◌, ◌++◌, Some, None, if◌then◌else◌, refl, sym, ap, ◌∙◌, arith}
 use Rattle.std.proofs.lemmas.Bool.{lt-ltb}
 use Rattle.ct_entry.specs.declared.acts.End.{End}
 use Rattle.def_profile.specs.declared.limits.TheConstants.{MOST_STEPS}
@@ -15,16 +15,13 @@ use Rattle.ct_run.specs.Rounds.{HasRoom, IsLeft, Passed, ticks_if}
 use Rattle.law_routines.proofs.Appended.{run_append}
 use Rattle.ct_run.proofs.Going.{round_is}
 use Rattle.ct_run.proofs.Ticking as ticking
+use Rattle.ct_run.proofs.Coming.{one_event}
 
 -- ---- events
 
 no_event : (b : Platform) (s : State) → run b s [] ≡ s
 unfolding run
 no_event b s = refl
-
-one_event : (b : Platform) (s : State) (e : Event) → run b s (e ∷ []) ≡ (happens b s e).0
-unfolding run
-one_event b s e = refl
 
 pub none_passed : (m : MachineRow) → Passed m m []
 none_passed m = record { board = refl; state = sym (no_event m.board m.state) }

@@ -36,9 +36,6 @@ right_false : (a b c : Bool) → b ≡ false → c ≡ false → (a && b) ≡ c
 right_false true b c y z = y ∙ sym z
 right_false false b c y z = sym z
 
-is_less : (a b : ℕ) → a < b → nat_lt a b ≡ true
-is_less a b h = lt-ltb a b h
-
 not_less : (a b : ℕ) → b ≤ a → nat_lt a b ≡ false
 not_less a b h = elim (lt_tells a b) [ inl z ↦ absurd (omega (arith, z.1, h)) | inr z ↦ z.0 ]
 
@@ -55,7 +52,7 @@ due_none quantum done left some l none =
     let whole : done + 0 ≡ suc l.quanta * quantum = ap (λ n. done + n) (sym none) ∙ l.whole in
     let spread : suc l.quanta * quantum ≡ l.quanta * quantum + quantum = grind arith in
     let later : 1 < done + 1 = omega (arith, whole, spread, some) in
-    both_true (nat_lt 1 (done + 1)) (nat_eq (done % quantum) 0) (nat_eq left 0) (is_less 1 (done + 1) later) (is_zero (done % quantum) (none_of l.quanta quantum done whole some)) (is_zero left none)
+    both_true (nat_lt 1 (done + 1)) (nat_eq (done % quantum) 0) (nat_eq left 0) (lt-ltb 1 (done + 1) later) (is_zero (done % quantum) (none_of l.quanta quantum done whole some)) (is_zero left none)
 
 due_some : (quantum done left : ℕ) → 1 ≤ quantum → IsLeft quantum done left → 0 < left → (nat_lt 1 (done + 1) && nat_eq (done % quantum) 0) ≡ nat_eq left 0
 due_some quantum done left some l more =

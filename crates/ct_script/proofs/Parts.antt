@@ -103,7 +103,7 @@ name_is text some inside here =
       text_is = run.whole ∙ ap (λ e. take (place_of text) text ++ e ∷ drop (suc (place_of text)) text) here;
     }
 
-all_rest : (text : List ℕ) (k : ℕ) → take (length text - (k + 1)) (drop (k + 1) text) ≡ drop (suc k) text
+pub all_rest : (text : List ℕ) (k : ℕ) → take (length text - (k + 1)) (drop (k + 1) text) ≡ drop (suc k) text
 all_rest text k =
     let next : k + 1 ≡ suc k = omega arith in
     let size : length text - (k + 1) ≡ length (drop (k + 1) text) = sym (length-drop (k + 1) text) in
@@ -121,7 +121,7 @@ name_meets text name rest inside is =
     same_run is_inner (take (place_of text) text) name (get_or text (place_of text) 0) 32 (drop (suc (place_of text)) text) rest
     run.passes is.inner run.fails refl (sym run.whole ∙ is.text_is)
 
-some_place : (name more : List ℕ) → 0 < length name → list_all is_inner name ≡ true → 0 < place_of (name ++ more)
+pub some_place : (name more : List ℕ) → 0 < length name → list_all is_inner name ≡ true → 0 < place_of (name ++ more)
 some_place [] more some inner = absurd (omega (arith, some))
 some_place (c ∷ cs) more some inner = rw (both_left (is_inner c) (list_all is_inner cs) inner) (omega arith)
 

@@ -21,7 +21,7 @@ pub(crate) fn first_from(steps: &[u32], step: u64) -> usize
     low
 }
 
-/// How many numbers from this one on, of at most `most`, are no step of these.
+/// How many numbers from this one on come before the next that is one of these steps, and `most` at most.
 pub(crate) fn gap_from(steps: &[u32], from: u32, most: u32) -> u32
     requires { NeverFalls steps.now }
     ensures { IsGap steps.now from most result }

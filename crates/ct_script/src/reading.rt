@@ -37,7 +37,7 @@ impl Lines {
         &self.givens[from..to]
     }
 
-    /// How many steps from this one on, of at most `most`, come before the next before which something is given.
+    /// How many steps from this one on come before the next before which something is given, and `most` at most.
     pub(crate) fn bare_steps(&self, from: u32, most: u32) -> u32
         requires { AreLines self.now }
         ensures most { result ≤ most }

@@ -58,7 +58,7 @@ impl Script {
         self.lines.given_at(step)
     }
 
-    /// How many steps from this one on, of at most `most`, come before the next before which a byte comes.
+    /// How many steps from this one on come before the next before which a byte comes, and `most` at most.
     pub fn bare_steps(&self, from: u32, most: u32) -> u32
         ensures most { result ≤ most }
         ensures none { (k : ℕ) → k < result → given_at self.now (from + k) ≡ [] }

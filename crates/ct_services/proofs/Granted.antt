@@ -1,6 +1,7 @@
 -- What an allocation and a free leave of an engine, and what they came to.
 use Rattle.std.proofs.Common.{ℕ, ◌≡◌, ◌&&◌, ◌∙◌, Bool, true, false, List, Option, Some, None, refl, sym, ap, eq-eqb, if◌then◌else◌}
 use Rattle.std.specs.Prelude.{find}
+use Rattle.std.proofs.lemmas.Bool.{and_from}
 use Rattle.ct_entry.specs.declared.acts.Act.TheVariants.{Allocate, Free}
 use Rattle.def_words.specs.declared.Cap.{Cap}
 use Rattle.def_words.specs.Authority.{cap_base, cap_top}
@@ -26,16 +27,11 @@ pub if_true : (b : Bool) (x : Option Object) → b ≡ true → (if b then x els
 if_true true x is = refl
 if_true false x is = absurd (cc)
 
-pub both : (a b : Bool) → a ≡ true → b ≡ true → (a && b) ≡ true
-both true true first second = refl
-both true false first second = second
-both false b first second = first
-
 -- it is the one with its bounds
 by_bounds : (os : List Object) (quota base top : ℕ) (c : Cap) → c.tag ≡ true → cap_seal c ≡ 0 → base ≡ cap_base c → top ≡ cap_top c
     → whole_of os quota c ≡ find (spans_of quota base top) os
 by_bounds os quota base top c tag seal base_is top_is =
-    if_true (c.tag && is_unsealed c) (find (is_whole quota c) os) (both c.tag (is_unsealed c) tag (eq-eqb (cap_seal c) 0 seal))
+    if_true (c.tag && is_unsealed c) (find (is_whole quota c) os) (and_from c.tag (is_unsealed c) tag (eq-eqb (cap_seal c) 0 seal))
     ∙ ap (λ b. find (spans_of quota b (cap_top c)) os) (sym base_is) ∙ ap (λ e. find (spans_of quota base e) os) (sym top_is)
 
 -- ---- an object that is handed out

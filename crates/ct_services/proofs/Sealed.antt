@@ -2,7 +2,7 @@
 use Rattle.std.proofs.Common.{ℕ, ◌≡◌, ◌+◌, ◌==◌, ◌&&◌, ◌∙◌, Bool, true, false, inl, inr, if◌then◌else◌, List, [], ◌∷◌, Option, Some, None, refl, sym, ap, eq-eqb}
 use Rattle.std.specs.Prelude.{find}
 use Rattle.std.specs.List.{list_any}
-use Rattle.std.proofs.lemmas.Bool.{eqb-true, and_parts}
+use Rattle.std.proofs.lemmas.Bool.{eqb-true, and_parts, and_from}
 use Rattle.law_lists.proofs.Tests.{bool_tells, eq_tells}
 use Rattle.def_profile.specs.declared.answers.TheConstants.{NO_OBJECT, NO_KEY, NO_TOKEN}
 use Rattle.def_profile.specs.declared.rights.TheConstants.{HEAP_RIGHTS}
@@ -30,7 +30,7 @@ use Rattle.ct_execute.specs.Deciding.{act_by}
 use Rattle.ct_services.specs.Granted.{tells, gives_back, freed_as}
 use Rattle.ct_services.specs.Sealed.{number_of, made_token, by_key, opens, frees_token}
 use Rattle.ct_services.specs.Served.{answered_in}
-use Rattle.ct_services.proofs.Granted.{if_true, both, handed}
+use Rattle.ct_services.proofs.Granted.{if_true, handed}
 
 -- ---- by its bounds
 
@@ -38,7 +38,7 @@ pub sealed_by_bounds : (os : List Object) (base top : ℕ) (c : Cap) → c.tag �
     → found_as os (whole_at base top os) ≡ found_as os (sealed_object os c)
 sealed_by_bounds os base top c tag seal base_is top_is =
     ap (found_as os) (ap (λ b. find (spans b top) os) base_is ∙ ap (λ e. find (spans (cap_base c) e) os) top_is
-    ∙ sym (if_true (c.tag && (cap_seal c == TOKEN_TYPE)) (find (is_all_of c) os) (both c.tag (cap_seal c == TOKEN_TYPE) tag (eq-eqb (cap_seal c) TOKEN_TYPE seal))))
+    ∙ sym (if_true (c.tag && (cap_seal c == TOKEN_TYPE)) (find (is_all_of c) os) (and_from c.tag (cap_seal c == TOKEN_TYPE) tag (eq-eqb (cap_seal c) TOKEN_TYPE seal))))
 
 -- the object that was found
 pub record IsFound (os : List Object) (o : Option Object) (f : Found) : Type 0 where
@@ -179,8 +179,8 @@ whole_is os c r e = elim (bool_tells (c.tag && (cap_seal c == TOKEN_TYPE))) [
   where
     itself : r.live ≡ true → spans_of r.quota r.base (r.base + r.length) r ≡ true
     itself lives =
-        both (r.live && (r.quota == r.quota) && (r.base == r.base)) (r.base + r.length == r.base + r.length)
-        (both (r.live && (r.quota == r.quota)) (r.base == r.base) (both r.live (r.quota == r.quota) lives (eq-eqb r.quota r.quota refl)) (eq-eqb r.base r.base refl))
+        and_from (r.live && (r.quota == r.quota) && (r.base == r.base)) (r.base + r.length == r.base + r.length)
+        (and_from (r.live && (r.quota == r.quota)) (r.base == r.base) (and_from r.live (r.quota == r.quota) lives (eq-eqb r.quota r.quota refl)) (eq-eqb r.base r.base refl))
         (eq-eqb (r.base + r.length) (r.base + r.length) refl)
 
     implies : (r.base == cap_base c) ≡ true → (r.base + r.length == cap_top c) ≡ true → (x : Object) → spans_of r.quota r.base (r.base + r.length) x ≡ true → is_all_of c x ≡ true
@@ -188,8 +188,8 @@ whole_is os c r e = elim (bool_tells (c.tag && (cap_seal c == TOKEN_TYPE))) [
         let last = and_parts (x.live && (x.quota == r.quota) && (x.base == r.base)) (x.base + x.length == r.base + r.length) is in
         let two = and_parts (x.live && (x.quota == r.quota)) (x.base == r.base) last.0 in
         let one = and_parts x.live (x.quota == r.quota) two.0 in
-        both (x.live && (x.base == cap_base c)) (x.base + x.length == cap_top c)
-        (both x.live (x.base == cap_base c) one.0 (ap (λ n. n == cap_base c) (eqb-true x.base r.base two.1) ∙ low))
+        and_from (x.live && (x.base == cap_base c)) (x.base + x.length == cap_top c)
+        (and_from x.live (x.base == cap_base c) one.0 (ap (λ n. n == cap_base c) (eqb-true x.base r.base two.1) ∙ low))
         (ap (λ n. n == cap_top c) (eqb-true (x.base + x.length) (r.base + r.length) last.1) ∙ high)
 
 -- the row of a token is asked of an object that its capability has

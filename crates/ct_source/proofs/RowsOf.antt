@@ -1,6 +1,6 @@
 -- A row of tokens, one token longer.
 use Rattle.std.proofs.Common.{◌≡◌, ℕ, List, [], ◌∷◌, ◌++◌, Option, Some, None, option_map, option_and_then, refl, sym, ap, ◌∙◌, append_assoc, take, length, ◌≤◌, ◌<◌, zero, suc, map, arith}
-use Rattle.std.proofs.lemmas.List.{map-append, length-map, length-append, append-nil}
+use Rattle.std.proofs.lemmas.List.{map-append, length-map, length-append, append-nil, take_all}
 use denote.Ref.{Bor}
 use Rattle.def_source.specs.declared.parts.Token.{Token}
 use Rattle.def_source.specs.Source.{Row, token_of, row_of, pieces}
@@ -23,12 +23,6 @@ take_map f zero xs = refl
 take_map f (suc n) [] = refl
 take_map f (suc n) (x ∷ xs) = ap (λ zs. f x ∷ zs) (take_map f n xs)
 
-take_whole : {A : Type 0} (n : ℕ) (xs : List A) → length xs ≤ n → take n xs ≡ xs
-take_whole zero [] h = refl
-take_whole zero (x ∷ xs) h = absurd (omega (arith, h))
-take_whole (suc n) [] h = refl
-take_whole (suc n) (x ∷ xs) h = ap (λ zs. x ∷ zs) (take_whole n xs (omega (arith, h)))
-
 front_alone : {A : Type 0} (n : ℕ) (xs ys : List A) → length xs ≡ n → take n (xs ++ ys) ≡ xs
 front_alone zero [] ys h = refl
 front_alone zero (x ∷ xs) ys h = absurd (omega (arith, h))
@@ -36,7 +30,7 @@ front_alone (suc n) [] ys h = absurd (omega (arith, h))
 front_alone (suc n) (x ∷ xs) ys h = ap (λ zs. x ∷ zs) (front_alone n xs ys (omega (arith, h)))
 
 pub room : {A : Type 0} (xs : List A) (x : A) → length xs < 10 → take 10 (xs ++ x ∷ []) ≡ xs ++ x ∷ []
-room xs x h = take_whole 10 (xs ++ x ∷ []) (omega (arith, h, length-append xs (x ∷ [])))
+room xs x h = take_all 10 (xs ++ x ∷ []) (omega (arith, h, length-append xs (x ∷ [])))
 
 pub full : {A : Type 0} (xs : List A) (x : A) → length xs ≤ 10 → 10 ≤ length xs → take 10 (xs ++ x ∷ []) ≡ xs
 full xs x h k = front_alone 10 xs (x ∷ []) (omega (arith, h, k))
@@ -62,4 +56,4 @@ refused ts p ps qs whole read cut so_far =
 pub all_read : (ts : List (Token (Bor (List ℕ)))) (rest : List ℕ) (whole : Option Row) → length rest ≡ 0 → length ts ≤ 10 → shortened (behind (row_view ts) (row_of (pieces rest))) ≡ whole → Some (row_view ts) ≡ whole
 all_read ts (c ∷ cs) whole e h so_far = absurd (omega (arith, e))
 all_read ts [] whole e h so_far =
-    sym (ap (λ us. Some us) (ap (take 10) (append-nil (row_view ts)) ∙ take_whole 10 (row_view ts) (omega (arith, h, length-map ts token_view)))) ∙ so_far
+    sym (ap (λ us. Some us) (ap (take 10) (append-nil (row_view ts)) ∙ take_all 10 (row_view ts) (omega (arith, h, length-map ts token_view)))) ∙ so_far

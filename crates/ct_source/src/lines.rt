@@ -20,7 +20,8 @@ use std::alloc::{AllocError, Global};
 /// A statement that has its form, or the least number of what it breaks.
 #[tactic(auto, using(crate::proofs::SmallNumbers::numbers_small))]
 fn lawful<'a>(section: Section, part: Part<&'a [u8]>) -> Result<CompactPart<'a>, u32>
-    ensures { result_map compact_part result ≡ source.lawful_or_fault section (part_view part.entry) }
+    ensures { result_map compact_part result
+        ≡ source.lawful_or_fault section (part_view part.entry) }
 {
     if !in_section(section, part) {
         return Err(3);

@@ -2,6 +2,7 @@
 use Rattle.std.proofs.Common.{ℕ, zero, suc, ◌≡◌, ◌-◌, ◌≤◌, ◌<◌, inl, inr, true, false, List, [], ◌∷◌, length, Some, None, slice_get, refl, sym, ap, ◌∙◌, arith}
 use Rattle.std.proofs.Math.ListN.{get_or}
 use Rattle.std.specs.Option.{unwrap_or}
+use Rattle.std.proofs.lemmas.List.{get_or_default}
 use Rattle.law_lists.proofs.Finds.{find_is}
 use Rattle.law_lists.proofs.Tests.{bool_tells, eq_tells, lt_tells}
 use Rattle.ct_entry.specs.Listed.{Listed}
@@ -88,11 +89,6 @@ gate_none gs n i sorted before after other = gate_missing gs n (λ k inside is. 
 
 -- ---- export tables
 
-get_any : (xs : List Entry) (k : ℕ) (c d : Entry) → k < length xs → get_or xs k c ≡ get_or xs k d
-get_any [] k c d inside = absurd (omega (arith, inside))
-get_any (x ∷ xs) zero c d inside = refl
-get_any (x ∷ xs) (suc k) c d inside = get_any xs k c d (omega (arith, inside))
-
 -- the first of the exports that stand together is the first of all
 pub table_found : (rows : List Entry) (home first : ℕ) → AreTogether rows home → first < length rows → is_export_of home (row_at rows first) ≡ true
     → (0 < first → is_export_of home (row_at rows (first - 1)) ≡ false) → (row_at rows first).base - 16 ≡ table_in rows home
@@ -108,8 +104,8 @@ table_found rows home first together inside is start =
     let found = find_is (λ r. is_export_of home r) rows x (record {
       place = first;
       inside = inside;
-      is = get_any rows first x no_row inside;
+      is = get_or_default rows first x no_row inside;
       passes = is;
-      before = λ k lt. ap (λ r. is_export_of home r) (get_any rows k x no_row (omega (arith, lt, inside))) ∙ none k lt;
+      before = λ k lt. ap (λ r. is_export_of home r) (get_or_default rows k x no_row (omega (arith, lt, inside))) ∙ none k lt;
     }) in
     sym (ap (λ o. (unwrap_or o no_row).base - 16) found)

@@ -13,10 +13,10 @@ ghost use Rattle.ct_switch.specs.Calls.{given_by, given_in, registers_in, argume
 
 use crate::Export;
 use ct_areas::Thread;
-use ct_cap::{Live, Posture, Shadow, clear_tag, derive, expand, set_address};
+use ct_cap::{Bounds, Cap, Live, Perms, Posture, Shadow, clear_tag, derive, expand, turn};
 use ct_mem::Memory;
 use def_profile::native::{NATIVE_LENGTH, RETURN_ENTRY};
-use def_profile::rights::{EXECUTABLE_ROOT, MEMORY_ROOT, SERVICE_RIGHTS, STACK_RIGHTS};
+use def_profile::rights::{MEMORY_ROOT, SERVICE_RIGHTS, STACK_RIGHTS};
 use def_profile::seals::RETURN_ENABLE;
 use std::marker::Model;
 
@@ -42,20 +42,27 @@ impl Model for Start {
     } };
 }
 
+/// The word of the return sentry.
+const SENTRY_WORD: u64 = 0x5140_2018_0001_0010;
+
 /// The return sentry: the return's native entry, of type 5, with the trusted part's number.
-#[tactic(auto, unfolding(def_words::specs::Derive::executable_root))]
 pub fn return_sentry() -> Live
     ensures { result ≡ return_sentry }
 {
-    derive(
-        EXECUTABLE_ROOT,
-        RETURN_ENTRY,
-        NATIVE_LENGTH,
-        SERVICE_RIGHTS,
-        RETURN_ENTRY,
-        RETURN_ENABLE,
-        Shadow { root: 0, source: 0 },
-    )
+    Live {
+        cap: Cap {
+            tag: true,
+            word: SENTRY_WORD,
+            shadow: Shadow { root: 0, source: 0 },
+        },
+        bounds: Bounds {
+            exponent: 0,
+            base: RETURN_ENTRY as u64,
+            top: (RETURN_ENTRY + NATIVE_LENGTH) as u64,
+        },
+        perms: Perms(SERVICE_RIGHTS as u16),
+        seal: RETURN_ENABLE,
+    }
 }
 
 /// A stack from its base to a new top, at that top.
@@ -77,8 +84,10 @@ pub(crate) fn given<M: Memory>(t: &Thread, mem: &M, head: u32, code: u32, high: 
 {
     let _size = mem.size();
     let caller = t.regs[2];
+    let mut pcc = expand(mem.load_cap(head));
+    turn(&mut pcc, code);
     Start {
-        pcc: set_address(expand(mem.load_cap(head)), code),
+        pcc,
         back: return_sentry(),
         stack: stack_of(t.area.stack, high, caller.cap.shadow),
         globals: expand(mem.load_cap(head + 8)),

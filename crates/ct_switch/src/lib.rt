@@ -17,7 +17,7 @@ mod room;
 
 pub use calls::{Called, call, head_of};
 pub use checks::{first_trap, return_trap, stack_trap};
-pub use ct_areas::{Area, Thread, resume, save};
+pub use ct_areas::{Area, First, Fresh, Thread, resume, save};
 pub use ends::{end_with, return_to_caller, unwind};
 pub use exports::{Export, called, export_of};
 pub use given::{heads_give, return_sentry};

@@ -1,5 +1,5 @@
 -- What a stop, a pick, a frame more and a frame less leave in an area.
-use Rattle.std.proofs.Common.{ℕ, ◌≡◌, ◌+◌, ◌-◌, ◌*◌, ◌%◌, ◌^◌, ◌<◌, ◌≤◌, ◌⊎◌, inl, inr, true, false, nat_lt, List, [], ◌∷◌, length, drop, refl, sym, ap, ◌∙◌, arith}
+use Rattle.std.proofs.Common.{ℕ, ◌≡◌, ◌+◌, ◌-◌, ◌*◌, ◌%◌, ◌^◌, ◌<◌, ◌≤◌, ◌⊎◌, inl, inr, true, false, nat_lt, List, ◌∷◌, length, drop, refl, sym, ap, ◌∙◌, arith}
 use Rattle.std.proofs.Math.ListN.{get_or}
 use Rattle.law_lists.proofs.Tests.{lt_tells}
 use Rattle.def_words.specs.declared.Cap.{Cap}
@@ -13,19 +13,16 @@ use Rattle.ct_areas.specs.declared.thread.Thread as row
 use Rattle.ct_areas.specs.Threads.{area_begin, area_end, frames_most}
 use Rattle.ct_areas.specs.Parts.{saved_of, with_saved, without_saved, with_frame, without_frame, deeper, shallower, frame_address}
 use Rattle.ct_areas.proofs.Places.{area_long, area_inside, area_even, frame_offset_is, frame_low}
+use Rattle.ct_areas.proofs.Stopped.{rest_length}
 use Rattle.ct_threads.specs.Kept.{IsPlain, IsSaved, IsKept}
 
 never : {A : Type 0} → true ≡ false → A
 never e = absurd (let clash : true ≡ false = e in cc)
 
-plain_is : (c : Cap) (n : ℕ) → c ≡ plain n → IsPlain c
+pub plain_is : (c : Cap) (n : ℕ) → c ≡ plain n → IsPlain c
 plain_is c n e = rw e refl
 
 -- ---- a stop
-
-rest_length : (cs : List Cap) → length cs ≡ 16 → length (drop 1 cs) ≡ 15
-rest_length [] h = absurd (omega (arith, h))
-rest_length (c ∷ cs) h = omega (arith, h)
 
 pub stopped_kept : (gs hs : List Granule) (t : row.Thread) → IsKept gs true t → length t.regs ≡ 16 → hs ≡ with_saved gs t
     → Touches (area_begin t.area) (area_end t.area) gs hs → IsKept hs false t

@@ -1,8 +1,9 @@
 -- A trap's error handler: what is said where it is entered, and what that leaves of a row.
 use Rattle.std.proofs.Common.{ℕ, ◌≡◌, ◌+◌, ◌-◌, ◌*◌, ◌/◌, ◌%◌, ◌==◌, ◌&&◌, ◌<◌, ◌≤◌, not, nat_le, if◌then◌else◌, Bool, true, false, List, [], ◌∷◌, length, Option, Some, None, refl, sym, ap, ◌∙◌, arith}
-use Rattle.std.proofs.lemmas.Bool.{eqb-false, leb-true, and_parts}
+use Rattle.std.proofs.lemmas.Bool.{eqb-false, leb-true, and_parts, not-true}
 use Rattle.std.specs.Prelude.{is_none}
 use Rattle.std.specs.Int.{is_in_range}
+use Rattle.law_lists.proofs.Tests.{none_is}
 use Rattle.def_words.specs.declared.Trap.{Trap}
 use Rattle.def_words.specs.Authority.{cap_address, cap_base}
 use Rattle.def_memory.specs.declared.Granule.{Granule}
@@ -27,14 +28,6 @@ pub record Says (t : row.Thread) (handler : ℕ) : Type 0 where
   pub low : t.area.stack + TRAP_RECORD ≤ record_end (register_in t 2)
   pub high : cap_address (register_in t 2) ≤ t.top
 
-none_is : (o : Option Trap) → is_none o ≡ true → o ≡ None
-none_is None e = refl
-none_is (Some w) e = absurd (let clash : false ≡ true = e in cc)
-
-not_true : (b : Bool) → not b ≡ true → b ≡ false
-not_true false e = refl
-not_true true e = absurd (let clash : false ≡ true = e in cc)
-
 pub says : (t : row.Thread) (handler : ℕ) → is_handled_in t handler ≡ true → Says t handler
 says t handler is =
     let outer_parts = and_parts (not (handler == 0) && not t.handling) (has_room t.area.stack t.top (register_in t 2)) is in
@@ -45,7 +38,7 @@ says t handler is =
     let range = and_parts (cap_base (register_in t 2) == t.area.stack) (is_in_range t.area.stack t.top (cap_address (register_in t 2))) all.1.1.1.0 in
     let ends = and_parts (nat_le t.area.stack (cap_address (register_in t 2))) (nat_le (cap_address (register_in t 2)) t.top) range.1 in
     record {
-      some = eqb-false handler 0 (not_true (handler == 0) inner_parts.0);
+      some = eqb-false handler 0 (not-true (handler == 0) inner_parts.0);
       low = leb-true (t.area.stack + TRAP_RECORD) (record_end (register_in t 2)) room.1;
       high = leb-true (cap_address (register_in t 2)) t.top ends.1;
     }

@@ -27,7 +27,10 @@ fn map_of<M: Memory>(mem: &M, ram: u32, heap: u32) -> Map
     }
 }
 
-/// A load or a store through x, at x's address and the immediate, whatever is hidden; y is what a store stores.
+/// A load or a store through x, at x's address and the immediate, whatever is hidden; y is what a store stores. `Err`
+/// with the trap of the first check that fails.
+///
+/// Conditions: the instruction is a load or a store; RAM and its heap begin and end at multiples of 16.
 pub fn access<M: Memory>(
     instruction: Instr,
     x: Live,

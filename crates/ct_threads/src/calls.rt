@@ -17,6 +17,9 @@ use ct_mem::Memory;
 use ct_switch::{Called, call as switch, end_with as end, return_to_caller as hand_back};
 
 /// A thread that runs calls: its stack is zeroed where the callee is entered, and beside it its area alone changes.
+///
+/// Conditions: the row is kept, with a frame at least; the gates are sorted; and where c6 is a tagged capability, it is
+/// sealed as an export whose gate and heads stand in memory.
 pub fn call_row<M: Memory>(t: &mut Thread, mem: &mut M, e: &Entries) -> Called
     requires kept { IsKept (M.granules mem.old) true t.old }
     requires may { ready.MayCall (M.granules mem.old) t.old e.now }
@@ -35,6 +38,8 @@ pub fn call_row<M: Memory>(t: &mut Thread, mem: &mut M, e: &Entries) -> Called
 }
 
 /// A thread that runs returns. `false` exactly where that ends it.
+///
+/// Conditions: the row is kept, with a frame at least, and the gates are sorted.
 pub fn return_row<M: Memory>(t: &mut Thread, mem: &mut M, e: &Entries) -> bool
     requires kept { IsKept (M.granules mem.old) true t.old }
     requires ready { ready.IsReady (M.granules mem.old) t.old }
@@ -46,6 +51,8 @@ pub fn return_row<M: Memory>(t: &mut Thread, mem: &mut M, e: &Entries) -> bool
 }
 
 /// The innermost frame of a thread that runs ends with a value. `false` exactly where that ends the thread.
+///
+/// Condition: the row is kept, with a frame at least.
 pub fn end_row<M: Memory>(t: &mut Thread, mem: &mut M, e: &Entries, value: u32) -> bool
     requires kept { IsKept (M.granules mem.old) true t.old }
     requires ready { ready.IsReady (M.granules mem.old) t.old }

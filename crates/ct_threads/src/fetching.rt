@@ -53,6 +53,8 @@ fn native(number: u32) -> Next
 }
 
 /// What stands at an address, hidden or not.
+///
+/// Condition: RAM begins at a multiple of 16.
 pub fn next<M: Memory>(mem: &M, ram: u32, at: u32) -> Next
     requires { ram % 16 ≡ 0 }
     ensures is { result ≡ next_at (space_of ram (M.granules mem.now) no_bank 0) at }
@@ -72,6 +74,8 @@ pub fn next<M: Memory>(mem: &M, ram: u32, at: u32) -> Next
 
 /// The word at an address, hidden or not, where it lies past the native routines, is a multiple of 4, and a whole word
 /// of RAM stands there; else `None`.
+///
+/// Condition: RAM begins at a multiple of 16.
 #[inline(always)]
 pub fn word_at<M: Memory>(mem: &M, ram: u32, at: u32) -> Option<u32>
     requires { ram % 16 ≡ 0 }

@@ -106,6 +106,8 @@ fn enter<M: Memory>(t: &mut Thread, mem: &mut M, e: &Entries, handler: u32, at: 
 
 /// A thread that runs and trapped enters this export as its error handler, where it is entered. `false` exactly where
 /// it isn't; then nothing changes.
+///
+/// Conditions: the row is kept, and the export is one whose compartment's two heads stand in memory.
 pub fn handle_row<M: Memory>(
     t: &mut Thread,
     mem: &mut M,

@@ -1,4 +1,5 @@
-//! One thread over raw memory: its row and its area, and what stands in RAM at an address.
+//! One thread over raw memory: its row and its area, what stands in RAM at an address, and its loads and stores of RAM
+//! and of devices.
 //!
 //! A row that is kept (specs/Kept) has its area in RAM, where nothing but what was saved isn't a plain word. Contracts
 //! say what a start, a stop, a pick, a call, a frame's end and an error handler's begin make of the row, of the thread

@@ -1,7 +1,8 @@
 //! A row's registers and its program counter, and how its thread goes on.
 
-ghost use Rattle.std.specs.Prelude.{◌≡◌, ◌<◌, is_none, map, slice_index_or};
-ghost use Rattle.def_words.specs.Capability.{integer, raised, with_address};
+ghost use Rattle.std.specs.Prelude.{◌≡◌, ◌+◌, ◌<◌, ◌^◌, ◌&&◌, is_none, map, nat_lt, slice_index_or};
+ghost use Rattle.def_words.specs.Authority.{cap_address, cap_top};
+ghost use Rattle.def_words.specs.Capability.{integer, is_range_inside, raised, with_address};
 ghost use Rattle.def_memory.specs.Granules.{plain};
 ghost use Rattle.def_machine.specs.Memory.{filtered_in};
 ghost use Rattle.def_machine.specs.Registers.{written};
@@ -14,6 +15,9 @@ use ct_cap::{Live, Permission, Posture, raise, turn};
 use ct_loadstore::filter;
 use ct_mem::Memory;
 
+/// The first number past all addresses.
+const ADDRESSES_END: u64 = 1 << 32;
+
 /// A register gets a value, which register 0 drops.
 fn write(registers: &mut [Live; 16], number: u32, value: Live)
     requires { number < 16 }
@@ -24,7 +28,7 @@ fn write(registers: &mut [Live; 16], number: u32, value: Live)
     }
 }
 
-/// A register's value.
+/// A register's value. Condition: the register's number is below 16.
 #[inline(always)]
 pub fn read(registers: &[Live; 16], number: u32) -> Live
     requires { number < 16 }
@@ -33,7 +37,7 @@ pub fn read(registers: &[Live; 16], number: u32) -> Live
     registers[number as usize]
 }
 
-/// A register's value where it stands.
+/// A register's value where it stands. Condition: the register's number is below 16.
 #[inline(always)]
 pub fn read_ref(registers: &[Live; 16], number: u32) -> &Live
     requires { number < 16 }
@@ -42,7 +46,8 @@ pub fn read_ref(registers: &[Live; 16], number: u32) -> &Live
     &registers[number as usize]
 }
 
-/// A row whose thread goes on elsewhere, with this posture; a register gets a value.
+/// A row whose thread goes on elsewhere, with this posture; a register, whose number is below 16, gets a value, which
+/// register 0 drops.
 pub fn jump_row(t: &mut Thread, pcc: Live, posture: Posture, to: u32, value: Live)
     requires { to < 16 }
     ensures { t.new ≡ row_gone t.old pcc posture to value }
@@ -52,16 +57,41 @@ pub fn jump_row(t: &mut Thread, pcc: Live, posture: Posture, to: u32, value: Liv
     t.posture = posture;
 }
 
-/// A row whose thread goes on after its instruction; a register gets a value.
+/// Whether a capability's bounds hold the address four bytes past its own or end there, and don't reach to the last
+/// address.
 #[inline(always)]
-pub fn put_row(t: &mut Thread, to: u32, value: Live)
-    requires { to < 16 }
-    ensures { t.new ≡ row_gone t.old (raised t.old.pcc 4) t.old.posture to value }
+fn holds_next(l: &Live) -> bool
+    ensures { result ≡ (is_range_inside l.now (cap_address l.now + 4) (cap_address l.now + 4)
+        && nat_lt (cap_top l.now) (2 ^ 32)) }
 {
-    if to != 0 {
-        t.regs[to as usize] = value;
+    let next = l.address() as u64 + 4;
+    l.bounds.base <= next && next <= l.bounds.top && l.bounds.top < ADDRESSES_END
+}
+
+/// The capability with its address raised past an instruction, by the address rule. It asks first what the checks of a
+/// fetch ask of tag, seal and bounds, so that where it follows them at once next to nothing is asked twice.
+#[inline(always)]
+fn go_past(l: &mut Live)
+    ensures { l.new ≡ raised l.old 4 }
+{
+    if l.cap.tag && l.seal == 0 && holds_next(l) {
+        l.cap.word += 4;
+        return;
     }
-    raise(&mut t.pcc, 4);
+    raise(l, 4);
+}
+
+/// A row whose thread goes on after its instruction; a register, whose number is below 16, gets a value, which register
+/// 0 drops.
+#[inline(always)]
+pub fn put_row(t: &mut Thread, to: u32, value: &Live)
+    requires { to < 16 }
+    ensures { t.new ≡ row_gone t.old (raised t.old.pcc 4) t.old.posture to value.now }
+{
+    go_past(&mut t.pcc);
+    if to != 0 {
+        t.regs[to as usize] = *value;
+    }
 }
 
 /// A row whose thread goes on at an address.
@@ -95,10 +125,15 @@ pub fn filter_row<M: Memory>(t: &mut Thread, mem: &M)
 pub fn may_fetch(pcc: &Live) -> bool
     ensures { result ≡ is_none (first_failed (fetch_checks pcc.now)) }
 {
+    if !pcc.cap.tag {
+        return false;
+    }
+    if pcc.seal != 0 {
+        return false;
+    }
+    if !pcc.perms.has(Permission::Execute) {
+        return false;
+    }
     let at = pcc.address() as u64;
-    pcc.cap.tag
-        && pcc.seal == 0
-        && pcc.perms.has(Permission::Execute)
-        && pcc.bounds.base <= at
-        && at + 4 <= pcc.bounds.top
+    pcc.bounds.base <= at && at + 4 <= pcc.bounds.top
 }

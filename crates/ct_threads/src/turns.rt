@@ -17,6 +17,8 @@ fn sixteen(registers: &[Live; 16])
 {}
 
 /// A thread that runs stops: its area takes its program counter capability and its registers.
+///
+/// Condition: the row is kept.
 pub fn stop_row<M: Memory>(t: &mut Thread, mem: &mut M)
     requires { IsKept (M.granules mem.old) true t.old }
     ensures kept { IsKept (M.granules mem.new) false t.new }
@@ -31,6 +33,8 @@ pub fn stop_row<M: Memory>(t: &mut Thread, mem: &mut M)
 }
 
 /// A thread that doesn't run, and hasn't ended, goes on: its area gives back what it took, through the load filter.
+///
+/// Conditions: the row is kept, and a frame stands at least.
 pub fn pick_row<M: Memory>(t: &mut Thread, mem: &mut M)
     requires kept { IsKept (M.granules mem.old) false t.old }
     requires alive { 0 < t.old.depth }

@@ -3,7 +3,7 @@
 use Rattle.std.proofs.Common.{◌≡◌, ℕ, zero, suc, ◌<◌, ◌==◌, ◌||◌, ◌≢◌, Bool, true, false, nat_lt, List, [], ◌∷◌, length, get_or, set, Option, Some, None, inl, inr, sym, ap, ◌∙◌, refl, arith}
 use Rattle.std.specs.Prelude.{filter}
 use Rattle.std.specs.List.{insert, list_any}
-use Rattle.std.proofs.lemmas.Bool.{cases_eq}
+use Rattle.std.proofs.lemmas.Bool.{cases_eq, lt-ltb, eq-eqb}
 use Rattle.std.proofs.Math.Bool.{or-false}
 use Rattle.std.proofs.lemmas.Bool.Decides.{nat_tests}
 use Rattle.ct_token.specs.declared.rows.Standing.{Standing}
@@ -16,14 +16,8 @@ use Rattle.ct_token.specs.Table.{is_number, has_row, row_for}
 use Rattle.ct_token.specs.Kept.{before, tokens_in, AllAbove, Rise, no_row, number_at, IsAt, IsGapFor, standing_in, is_kept, standing_for, is_key, is_token_of}
 use Rattle.ct_token.proofs.Found.{rises, standing_found}
 
-eq_is : (a b : ℕ) → a ≡ b → (a == b) ≡ true
-eq_is a b is = grind (arith, nat_tests, is)
-
 eq_not : (a b : ℕ) → (a ≡ b → ⊥) → (a == b) ≡ false
 eq_not a b isnt = grind (arith, nat_tests, isnt)
-
-lt_is : (a b : ℕ) → a < b → nat_lt a b ≡ true
-lt_is a b lt = grind (arith, nat_tests, lt)
 
 lt_not : (a b : ℕ) → b < a → nat_lt a b ≡ false
 lt_not a b lt = grind (arith, nat_tests, lt)
@@ -45,7 +39,7 @@ none_above p n (x ∷ l) only all = none_by p n x.number x.standing (tokens_in l
 pub any_told : (p : Token → Bool) (n : ℕ) (l : List Row) → Only n p → Rise l → list_any p (tokens_in l) ≡ list_any p (before n (standing_in l n) [])
 any_told p n [] only rise = refl
 any_told p n (x ∷ l) only rise = elim (cases_eq x.number n) [
-  | inl is ↦ rw (eq_is x.number n is) (here is x.standing)
+  | inl is ↦ rw (eq-eqb x.number n is) (here is x.standing)
   | inr isnt ↦ rw (eq_not x.number n isnt) (there isnt x.standing ∙ any_told p n l only rise.1)
 ]
   where
@@ -81,8 +75,8 @@ others_stay n (x ∷ l) all = others_by n x.number x.standing (tokens_in l) (tok
 
 itself_by : (n m : ℕ) (t : Standing) (ks : List Token) → m ≡ n → ks ≡ without_row n ks → ks ≡ without_row n (before m t ks)
 itself_by n m Gone ks is rest = rest
-itself_by n m Key ks is rest = rw (eq_is m n is) rest
-itself_by n m (TokenOf key) ks is rest = rw (eq_is m n is) rest
+itself_by n m Key ks is rest = rw (eq-eqb m n is) rest
+itself_by n m (TokenOf key) ks is rest = rw (eq-eqb m n is) rest
 
 inner_at : (x : Row) (l : List Row) (n i : ℕ) → IsAt (x ∷ l) n (suc i) → IsAt l n i
 inner_at x l n i at = record { in_range = (let lt = at.in_range in omega (arith, lt)); has_number = at.has_number }
@@ -125,8 +119,8 @@ row_first n (Some key) ks = refl
 
 first_by : (k : Token) (m : ℕ) (t : Standing) (ks : List Token) → k.number < m → row_among k ks ≡ k ∷ ks → row_among k (before m t ks) ≡ k ∷ before m t ks
 first_by k m Gone ks lt rest = rest
-first_by k m Key ks lt rest = rw (lt_is k.number m lt) refl
-first_by k m (TokenOf key) ks lt rest = rw (lt_is k.number m lt) refl
+first_by k m Key ks lt rest = rw (lt-ltb k.number m lt) refl
+first_by k m (TokenOf key) ks lt rest = rw (lt-ltb k.number m lt) refl
 
 put_first : (k : Token) (l : List Row) → AllAbove k.number l → row_among k (tokens_in l) ≡ k ∷ tokens_in l
 put_first k [] all = refl
@@ -221,16 +215,16 @@ is_key_told n l rise = by (standing_in l n) ∙ sym (key_told n l rise)
   where
     by : (t : Standing) → is_key t ≡ list_any (is_key_row n) (before n t [])
     by Gone = refl
-    by Key = rw (eq_is n n refl) refl
-    by (TokenOf key) = rw (eq_is n n refl) refl
+    by Key = rw (eq-eqb n n refl) refl
+    by (TokenOf key) = rw (eq-eqb n n refl) refl
 
 pub is_token_of_told : (key n : ℕ) (l : List Row) → Rise l → is_token_of (standing_in l n) key ≡ list_any (is_row_of key n) (tokens_in l)
 is_token_of_told key n l rise = by (standing_in l n) ∙ sym (row_told key n l rise)
   where
     by : (t : Standing) → is_token_of t key ≡ list_any (is_row_of key n) (before n t [])
     by Gone = refl
-    by Key = rw (eq_is n n refl) refl
-    by (TokenOf other) = rw (eq_is n n refl) (sym (or-false (other == key)))
+    by Key = rw (eq-eqb n n refl) refl
+    by (TokenOf other) = rw (eq-eqb n n refl) (sym (or-false (other == key)))
 
 -- a number without a row is gone where it stands
 pub gone_at : (n i : ℕ) (l : List Row) → Rise l → IsAt l n i → has_row n (tokens_in l) ≡ false → (get_or l i no_row).standing ≡ Gone
@@ -238,5 +232,5 @@ gone_at n i l rise at none = sym (standing_found l n i rise at) ∙ by (standing
   where
     by : (t : Standing) → list_any (is_number n) (before n t []) ≡ false → t ≡ Gone
     by Gone e = refl
-    by Key e = absurd (let clash : true ≡ false = sym (ap (λ b. b || false) (eq_is n n refl)) ∙ e in cc)
-    by (TokenOf key) e = absurd (let clash : true ≡ false = sym (ap (λ b. b || false) (eq_is n n refl)) ∙ e in cc)
+    by Key e = absurd (let clash : true ≡ false = sym (ap (λ b. b || false) (eq-eqb n n refl)) ∙ e in cc)
+    by (TokenOf key) e = absurd (let clash : true ≡ false = sym (ap (λ b. b || false) (eq-eqb n n refl)) ∙ e in cc)

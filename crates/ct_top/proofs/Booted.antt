@@ -3,7 +3,7 @@ use Rattle.std.proofs.Common.{ℕ, ◌≡◌, ◌%◌, ◌/◌, ◌^◌, ◌<◌
 use Rattle.std.specs.List.{All}
 use Rattle.std.proofs.lemmas.List.{length-map}
 use Rattle.ct_entry.specs.Listed.{DeviceRow}
-use Rattle.def_profile.specs.declared.limits.TheConstants.{MOST_FILE, MOST_STEPS}
+use Rattle.def_profile.specs.declared.limits.TheConstants.{MOST_FILE}
 use Rattle.def_image.specs.Accepted.{IsFaultless}
 use Rattle.def_image.specs.Parts.{PartsRow}
 use Rattle.def_memory.specs.declared.Granule.{Granule}

@@ -5,12 +5,13 @@ use Rattle.std.proofs.lemmas.List.{append-nil}
 use Rattle.def_port.specs.Told.{Told, FolderView}
 use Rattle.def_desc.specs.Rows.{CodeRow, CompartmentRow, LibraryRow, DescRow}
 use Rattle.def_desc.specs.WellFormed.{WellFormed}
-use Rattle.def_link.specs.Owners.{Unit as OwnerUnit, compartment_unit, library_unit, numbered, units_of}
+use Rattle.def_link.specs.Owners.{compartment_unit, library_unit, numbered, units_of}
 use Rattle.def_program.specs.Answers.{Read, contents}
 use Rattle.def_program.specs.Calls.{IsFile, most}
 use Rattle.def_program.specs.Turns.{with_file, files_in, source_names}
 use Rattle.law_desc.proofs.Lawfuls.{bytes_lawful}
 use Rattle.ct_link_objects.specs.Objects.{file_of, files_of, IsLinkable}
+use Rattle.ct_link_objects.proofs.Walks.{files_joined}
 use Rattle.ct_commands.specs.Whole.{names_of, AllGiven}
 
 -- ---- as many names as codes that are files
@@ -33,15 +34,11 @@ lent_names i (l ∷ ls) =
     let rest = lent_names (i + 1) ls in
     omega (arith, first, rest)
 
-both_counted : (us vs : List OwnerUnit) → files_of (us ++ vs) ≡ files_of us + files_of vs
-both_counted [] vs = omega arith
-both_counted (u ∷ us) vs = let rest = both_counted us vs in omega (arith, rest)
-
 names_counted : (d : DescRow) → length (source_names d) ≡ files_of (units_of d)
 names_counted d =
     let own = own_names 0 d.compartments (map (λ (l : LibraryRow). l.code) d.libraries) in
     let lent = lent_names 0 d.libraries in
-    let both = both_counted (numbered compartment_unit 0 d.compartments) (numbered library_unit 0 d.libraries) in
+    let both = files_joined (numbered compartment_unit 0 d.compartments) (numbered library_unit 0 d.libraries) in
     omega (arith, own, lent, both)
 
 -- ---- texts

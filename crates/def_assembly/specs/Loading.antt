@@ -40,7 +40,7 @@ pub record MayWrite (w : Thread) (rd : ℕ) : Type 0 where
   pub there : rd < 16
 
 -- a register has that value, and all others are as they were
-pub record GivesRegister (w new : Thread) (rd : ℕ) (value : Cap) : Type 0 where
+pub record SetsRegister (w new : Thread) (rd : ℕ) (value : Cap) : Type 0 where
   pub given : register new rd ≡ value
   pub others : (n : ℕ) → n ≢ rd → register new n ≡ register w n
 
@@ -70,7 +70,7 @@ IsWayOn c at to d = cap_address d ≡ (cap_address c + way at to) % 2 ^ 32
 
 -- the register gets the capability that is so far on, derived by raising its address twice
 pub record LeadsOver (w new : Thread) (rd : ℕ) (c : Cap) (at to : ℕ) : Type 0 where
-  pub gives : GivesRegister w new rd (raised (raised c (upper_offset (high_piece at to))) (low_piece at to))
+  pub gives : SetsRegister w new rd (raised (raised c (upper_offset (high_piece at to))) (low_piece at to))
   pub address : IsWayOn c at to (register new rd)
 
 -- the two instructions that load the capability of a slot
@@ -79,7 +79,7 @@ to_slot rd at to = AuiPcc rd (high_piece at to) ∷ Clc rd rd (low_piece at to) 
 
 -- the first raises the program counter capability's address, and the second loads from the slot's
 pub record LeadsToSlot (p : MemoryAndDevices) (w : Thread) (rd : ℕ) (at to : ℕ) : Type 0 where
-  pub first : GivesRegister w (onward w (effect p w (AuiPcc rd (high_piece at to)))) rd
+  pub first : SetsRegister w (onward w (effect p w (AuiPcc rd (high_piece at to)))) rd
       (raised w.pcc (upper_offset (high_piece at to)))
   pub address : access_address (access_of (Clc rd rd (low_piece at to)))
       (register (onward w (effect p w (AuiPcc rd (high_piece at to)))) rd)

@@ -23,13 +23,13 @@ pub data Operand : Type 0 where
   Address : Number → ℕ → Operand
 
 -- the tokens of an operand
-abbrev pub IsOperandText : Operand → Row → Type 0
-IsOperandText (Register r) ts = (n : Name) × ((ts ≡ token.Name n ∷ []) × (register_of n ≡ Some r))
-IsOperandText (Numbered n) ts = ts ≡ token.Number n ∷ []
-IsOperandText (Named n) ts = ts ≡ token.Name n ∷ []
-IsOperandText (Towards (target.Label n)) ts = ts ≡ token.Name n ∷ []
-IsOperandText (Towards (target.Offset n)) ts = ts ≡ token.Number n ∷ []
-IsOperandText (Address n r) ts =
+abbrev pub AreOperandTokens : Operand → Row → Type 0
+AreOperandTokens (Register r) ts = (n : Name) × ((ts ≡ token.Name n ∷ []) × (register_of n ≡ Some r))
+AreOperandTokens (Numbered n) ts = ts ≡ token.Number n ∷ []
+AreOperandTokens (Named n) ts = ts ≡ token.Name n ∷ []
+AreOperandTokens (Towards (target.Label n)) ts = ts ≡ token.Name n ∷ []
+AreOperandTokens (Towards (target.Offset n)) ts = ts ≡ token.Number n ∷ []
+AreOperandTokens (Address n r) ts =
     (m : Name)
     × ((ts ≡ token.Number n ∷ token.Open ∷ token.Name m ∷ token.Close ∷ [])
     × (register_of m ≡ Some r))
@@ -37,11 +37,11 @@ IsOperandText (Address n r) ts =
 -- operands in a row, a comma between each two
 abbrev pub AreWritten : List Operand → Row → Type 0
 AreWritten [] ts = ts ≡ []
-AreWritten (o ∷ []) ts = IsOperandText o ts
+AreWritten (o ∷ []) ts = AreOperandTokens o ts
 AreWritten (o ∷ p ∷ os) ts =
     (front : Row)
     × ((rest : Row)
-    × ((ts ≡ front ++ token.Comma ∷ rest) × IsOperandText o front × AreWritten (p ∷ os) rest))
+    × ((ts ≡ front ++ token.Comma ∷ rest) × AreOperandTokens o front × AreWritten (p ∷ os) rest))
 
 -- the operands of a statement, in the order in which they stand
 abbrev pub operands : Part Name → List Operand

@@ -32,8 +32,8 @@ pub record IsLibraryExport (i : Image) (n m : ℕ) : Type 0 where
 abbrev pub gate_code : Image → ℕ → ℕ
 gate_code i n = (gate_for i.entries.gates n).code
 
-abbrev pub IsRootInside : Root → ℕ → Type 0
-IsRootInside r x = (r.base ≤ x) × (x < r.top)
+abbrev pub LiesInRoot : Root → ℕ → Type 0
+LiesInRoot r x = (r.base ≤ x) × (x < r.top)
 
 -- ---- where stacks lie
 
@@ -50,10 +50,10 @@ pub record StackFits (r : Root) : Type 0 where
 pub record GateFits (i : Image) (n : ℕ) : Type 0 where
   pub even : gate_code i n % 4 ≡ 0
   pub compartment : (b : ℕ) → (root i n).owner ≡ Compartment b
-      → IsRootInside (root i (code_entry i b)) (gate_code i n)
+      → LiesInRoot (root i (code_entry i b)) (gate_code i n)
   pub begins : (b : ℕ) → (root i n).owner ≡ Compartment b
       → (with_address (made_cap i (code_entry i b)) (gate_code i n)).tag ≡ true
-  pub library : (l : ℕ) → (root i n).owner ≡ Library l → IsRootInside (root i n) (gate_code i n)
+  pub library : (l : ℕ) → (root i n).owner ≡ Library l → LiesInRoot (root i n) (gate_code i n)
 
 -- ---- error handlers
 
@@ -107,9 +107,9 @@ pub record Facts (i : Image) : Type 0 where
   pub stacks : (n : ℕ) → (root i n).origin ≡ Listing kind.Stack → StackFits (root i n)
   -- fetches: a native routine runs through a capability of its own alone
   pub natives : (n x : ℕ) → is_native (root i n).origin ≡ false → GrantsAccess (root i n)
-      → IsRootInside (root i n) x → (x < NATIVE_BASE) ⊎ (NATIVE_END ≤ x)
+      → LiesInRoot (root i n) x → (x < NATIVE_BASE) ⊎ (NATIVE_END ≤ x)
   -- loads, stores and fetches: what lies in the heap is reached through heap capabilities alone
-  pub heap : (n x : ℕ) → GrantsAccess (root i n) → IsRootInside (root i n) x
+  pub heap : (n x : ℕ) → GrantsAccess (root i n) → LiesInRoot (root i n) x
       → (x < i.heap_base) ⊎ (i.heap_end ≤ x)
   -- allocations: a new object is covered by no capability
   pub away : RootsAway i

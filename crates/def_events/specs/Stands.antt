@@ -9,11 +9,11 @@ use Rattle.def_step.specs.Instructions.{deed_told}
 use Rattle.def_step.specs.Routines.{Ran, Traps, Leaves}
 
 -- what thread t's routine did is licensed, as a deed of the frame that called it
-abbrev pub EventTellsLicensed : Image → State → ℕ → Option (ℕ × Act) → Type 0
-EventTellsLicensed i s t None = Unit {0}
-EventTellsLicensed i s t (Some told) = Licensed i.entries (deed_told s t told)
+abbrev pub RoutineTellsLicensed : Image → State → ℕ → Option (ℕ × Act) → Type 0
+RoutineTellsLicensed i s t None = Unit {0}
+RoutineTellsLicensed i s t (Some told) = Licensed i.entries (deed_told s t told)
 
 -- its trap may be told; where it leaves a state, all that events keep holds of it, and what it did is licensed
 abbrev pub RoutineKeeps : Image → State → ℕ → Ran → Type 0
 RoutineKeeps i s t (Traps why) = IsTrap why.cause why.code why.register
-RoutineKeeps i s t (Leaves after told) = Keeps i after × EventTellsLicensed i s t told
+RoutineKeeps i s t (Leaves after told) = Keeps i after × RoutineTellsLicensed i s t told

@@ -6,6 +6,6 @@ use Rattle.def_desc.specs.Lawful.{IsLawful}
 use Rattle.def_link.specs.Linked.{linked}
 
 -- lawful rows, with these sources, are linked to these parts
-pub record LinksTo (d : DescRow) (sources : List (List ℕ)) (p : PartsRow) : Type 0 where
+pub record RowsLinkTo (d : DescRow) (sources : List (List ℕ)) (p : PartsRow) : Type 0 where
   pub lawful : IsLawful d
   pub linked : linked d sources ≡ Ok p

@@ -23,8 +23,8 @@ pub record PolicyHasFault (p : PartsRow) (text : List ℕ) : Type 0 where
   pub line : ℕ
   pub fault : IsPolicyFault p text number line
 
-abbrev pub TellsDenial : PartsRow → List ℕ → Type 0
-TellsDenial p text = HasReading p text ⊎ PolicyHasFault p text
+abbrev pub ReadsOrHasFault : PartsRow → List ℕ → Type 0
+ReadsOrHasFault p text = HasReading p text ⊎ PolicyHasFault p text
 
 -- a text denies these rules, from this line on
 pub record HasDenials (p : PartsRow) (line : ℕ) (rulings : List Ruling) : Type 0 where

@@ -9,15 +9,15 @@ use Rattle.def_step.specs.Events.{happens}
 use Rattle.def_machine.specs.Platform.{Platform}
 
 -- the object of this number, with its chunk where it was
-abbrev pub IsSameChunk : Object → Object → Type 0
-IsSameChunk r q = (q.number ≡ r.number) × (q.base ≡ r.base) × (q.length ≡ r.length)
+abbrev pub IsSameObject : Object → Object → Type 0
+IsSameObject r q = (q.number ≡ r.number) × (q.base ≡ r.base) × (q.length ≡ r.length)
 
 -- and no sweep that will let it go has begun
 abbrev pub Waits : Object → Object → Type 0
-Waits r q = IsSameChunk r q × (q.painted ≡ false)
+Waits r q = IsSameObject r q × (q.painted ≡ false)
 
 abbrev pub IsPainted : Object → Object → Type 0
-IsPainted r q = IsSameChunk r q × (q.painted ≡ true)
+IsPainted r q = IsSameObject r q × (q.painted ≡ true)
 
 abbrev pub ObjectsMeet : Object → Object → Type 0
 ObjectsMeet q r = ApartFrom q r → ⊥

@@ -52,7 +52,7 @@ abbrev pub KindFits : ℕ → ℕ → Type 0
 KindFits set kind = (kind ≡ 0) ⊎ ((kind ≢ 0) × (seal_type (bit set execute) (kind % 8) ≡ kind))
 
 -- what derive is asked for
-pub record DerivesExactly (high base length set address kind : ℕ) : Type 0 where
+pub record MayDerive (high base length set address kind : ℕ) : Type 0 where
   pub root : IsRoot high
   pub low : base < 2 ^ 32
   pub fits : base + length ≤ 2 ^ 32

@@ -2,6 +2,7 @@
 use Rattle.std.proofs.Common.{ℕ, ◌≡◌, ◌+◌, ◌<◌, ◌||◌, not, true, false, List, [], ◌∷◌, map, take, Some, slice_get, inl, inr, sym, ap, ◌∙◌, arith}
 use Rattle.std.proofs.lemmas.Slice.Eq.{bytes_eq-Decides}
 use Rattle.std.specs.Str.{bytes_eq}
+use Rattle.std.proofs.lemmas.Bool.{or_parts}
 use Rattle.ct_entry.specs.Listed.{DeviceRow}
 use Rattle.def_texts.specs.Names.{among, is_name}
 use Rattle.def_image.specs.Accepted.{IsFaultless}
@@ -16,8 +17,9 @@ use Rattle.law_image.proofs.Holding.{limited}
 use Rattle.law_image.proofs.Limited.{asked_of}
 use Rattle.law_image.proofs.Members.{map_at}
 use Rattle.law_image.proofs.Passing.{head_none, left_none}
-use Rattle.law_image.proofs.Tells.{among_taken, any_not, or_left, or_right}
+use Rattle.law_image.proofs.Tells.{among_taken}
 use Rattle.law_lists.proofs.Tests.{lt_tells}
+use Rattle.law_lists.proofs.Places.{any_not}
 
 -- a device's name, as its field gives it back
 named : DeviceRow → List ℕ
@@ -37,7 +39,7 @@ module _ (p : PartsRow) (f : IsFaultless p) where
       let last = check (a.0 + 32) (outside 1 3 (raw_device e).kind) ∷ [] in
       let names = left_none (name_checks a.0 false seen (raw_device e).name) last a.1 in
       let one = (head_none _ _ names).0 in
-      or_right formed twice (or_left (formed || twice) false one)
+      (or_parts formed twice (or_parts (formed || twice) false one).0).1
 
   no_name_twice : (i j : ℕ) (d e : DeviceRow) → slice_get p.devices i ≡ Some d → slice_get p.devices j ≡ Some e → i < j → d.name ≡ e.name → ⊥
   unfolding named names_before

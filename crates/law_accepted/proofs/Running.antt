@@ -25,12 +25,12 @@ use Rattle.law_started.proofs.Whole.{keeps}
 use Rattle.law_started.proofs.Shutting.{shut}
 use Rattle.law_started.proofs.Blanking.{blank}
 use Rattle.law_started.proofs.Tokening.{boot_tokened}
-use Rattle.def_machine.specs.Rows.{RowsFit}
 use Rattle.def_safety.specs.Reuse.{SweepsWhole}
 use Rattle.def_safety.specs.Each.{EachEvent}
 use Rattle.def_events.specs.Upheld.{Upholds}
 use Rattle.def_safety.specs.Chunks.{ChunksMeet, UnusedAfterFree}
 use Rattle.law_history.proofs.Running.{run_upholds, run_unused, run_charges, run_reuses}
+use Rattle.law_started.proofs.Starting.{no_rows}
 
 pub partitioned : (p : PartsRow) → IsFaultless p → Partitioned (image_of p)
 partitioned p f = booted.partitioned p (sound p f)
@@ -52,10 +52,6 @@ pub licensed : (p : PartsRow) (es : List Event) → IsFaultless p → AllLicense
 licensed p es f = all_licensed p es (sound p f)
 
 -- ---- what runs do
-
-no_rows : (p : PartsRow) → RowsFit (boot_state p).objects (boot_state p).tokens
-unfolding boot_state
-no_rows p = record { differ = tt; live = tt }
 
 pub upheld : (p : PartsRow) (es : List Event) → IsFaultless p → EachEvent (Upholds (platform_of p)) (platform_of p) (boot_state p) es
 upheld p es f = run_upholds (platform_of p) (partitioned p f) (holds p (sound p f)) (wired p (sound p f)) (boot_state p) es (inside p (sound p f)) (shut p (sound p f)) (keeps p (sound p f)) (blank p (sound p f)) (no_rows p) (boot_tokened p (sound p f))

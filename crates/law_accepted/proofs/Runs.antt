@@ -1,11 +1,10 @@
 -- A rule that no entry breaks holds over each run of an image.
-use Rattle.std.proofs.Common.{◌≡◌, ℕ, zero, suc, ◌+◌, ◌≤◌, ◌&&◌, Bool, true, false, List, [], ◌∷◌, Option, Some, None, slice_get, take, refl, sym, ap, ◌∙◌, subst, inl, inr, arith, if◌then◌else◌}
+use Rattle.std.proofs.Common.{◌≡◌, ℕ, zero, suc, ◌+◌, ◌≤◌, ◌&&◌, Bool, true, false, List, [], ◌∷◌, Option, Some, None, slice_get, take, refl, sym, ap, ◌∙◌, subst, arith, if◌then◌else◌}
 use Rattle.std.specs.List.{AllByRecursion}
 use Rattle.ct_entry.specs.declared.acts.Act.{Act}
 use Rattle.ct_entry.specs.declared.acts.Act.TheVariants as act
 use Rattle.ct_entry.specs.declared.acts.Deed.{Deed}
 use Rattle.ct_entry.specs.declared.acts.Happened.{Happened}
-use Rattle.ct_entry.specs.declared.acts.Owned.{Owned}
 use Rattle.ct_entry.specs.declared.rows.Entry.{Entry}
 use Rattle.ct_entry.specs.declared.rows.Gate.{Gate}
 use Rattle.ct_entry.specs.declared.rows.Kind.{Kind}
@@ -13,29 +12,27 @@ use Rattle.ct_entry.specs.declared.rows.Kind.TheVariants as kind
 use Rattle.ct_entry.specs.declared.rows.Owner.{Owner}
 use Rattle.ct_entry.specs.declared.rows.Owner.TheVariants.{Compartment, Library, Thread, Trusted}
 use Rattle.ct_entry.specs.Kinds.{is_quota}
-use Rattle.ct_entry.specs.Listed.{DeviceRow, Listed}
-use Rattle.ct_graph.proofs.Graphs.{ends_listed}
+use Rattle.ct_entry.specs.Listed.{Listed}
 use Rattle.ct_graph.proofs.Transfer.{owner_listed}
 use Rattle.def_boot.specs.Boot.{platform_of, boot_state, image_of}
 use Rattle.def_boot.specs.Gates.{entries_of}
-use Rattle.def_confined.specs.Licensed.{IsLicensed, OffLicensed}
+use Rattle.def_confined.specs.Licensed.{IsLicensed}
 use Rattle.def_confined.specs.Telling.{AllLicensed, IsLicensedEvent}
 use Rattle.def_events.specs.Upheld.{Upholds}
-use Rattle.def_reach.specs.Reach.{Reached, has_entry, same_owner}
+use Rattle.def_reach.specs.Reach.{Reached, same_owner}
 use Rattle.def_image.specs.Accepted.{IsFaultless}
 use Rattle.def_image.specs.Parts.{PartsRow}
 use Rattle.def_machine.specs.Platform.{Platform}
-use Rattle.def_machine.specs.Image.{Image, root}
+use Rattle.def_machine.specs.Image.{root}
 use Rattle.def_machine.specs.Objects.{charges}
-use Rattle.def_machine.specs.State.{Frame, Object, State, register, thread}
-use Rattle.def_policy.specs.Breaking.{KeepsApart, KeepsRule, counted, is_listed}
+use Rattle.def_machine.specs.State.{Object, State, register, thread}
+use Rattle.def_policy.specs.Breaking.{KeepsApart, KeepsRule, is_listed}
 use Rattle.def_policy.specs.Rulings.{Ruling}
 use Rattle.def_policy.specs.declared.Subject.{Subject}
 use Rattle.def_policy.specs.declared.Subject.TheVariants.{Apart, Call, Data, Device, Disabled, Quota, Service, Shared, Total}
-use Rattle.def_reach.specs.Roots.{Listing, Origin, Root, TrustedPart, Unknown, gate_for, turns_interrupts_off, is_owned, listed_root, root_of}
-use Rattle.def_reach.specs.Sharing.{Edge, Imports, IsLibrary, Joined, IsEdgeList, Reaches}
+use Rattle.def_reach.specs.Roots.{Listing, TrustedPart, Unknown, gate_for, is_owned, listed_root, root_of}
+use Rattle.def_reach.specs.Sharing.{Reaches}
 use Rattle.def_safety.specs.Accesses.{UsesReach}
-use Rattle.def_safety.specs.Calls.{CleanEvent}
 use Rattle.def_safety.specs.Each.{EachEvent, ready}
 use Rattle.def_step.specs.Events.{happens, run, happenings_of}
 use Rattle.def_step.specs.declared.Event.{Event}
@@ -43,18 +40,15 @@ use Rattle.ct_policy.specs.Kept.{IsUntrusted}
 use Rattle.law_accepted.proofs.Running as running
 use Rattle.law_boot.proofs.Holding.{holds}
 use Rattle.law_image.proofs.Sounds.{sound}
-use Rattle.def_program.specs.AllowedRuns.{ChargesKeep, EntersClean, HoldsListed, HoldsNone, IsApartEvent, IsListedCall, IsListedFor, IsListedSpan, KeepsOver, RunsApart, RunsHoldListed, charged_from, counts}
+use Rattle.def_program.specs.AllowedRuns.{ChargesKeep, EntersClean, HoldsListed, HoldsNone, IsApartEvent, IsListedCall, IsListedFor, IsListedSpan, KeepsOver, RunsApart, RunsHoldListed, charged_from}
 use Rattle.def_policy.specs.Denied.{AreDisabledListed, AreListed, PassesData, limits_counted}
 use Rattle.law_policy.proofs.Kept.{call_held, data_held, disabled_held, quota_held, service_held, shared_held, total_held}
+use Rattle.ct_graph.proofs.Reached.{reached_of, thread_reaches_none}
 
 -- what holds of each event holds in other words
 each_so : (P Q : State → Event → Type 0) → ((s : State) (e : Event) → P s e → Q s e) → (b : Platform) (s : State) (es : List Event) → EachEvent P b s es → EachEvent Q b s es
 each_so P Q so b s [] all = tt
 each_so P Q so b s (e ∷ es) all = (so s e all.0, each_so P Q so b (happens b s e).0 es all.1)
-
-all_so : (P Q : Happened → Type 0) → ((h : Happened) → P h → Q h) → (hs : List Happened) → AllByRecursion P hs → AllByRecursion Q hs
-all_so P Q so [] all = tt
-all_so P Q so (h ∷ hs) all = (so h all.0, all_so P Q so hs all.1)
 
 licensed_so : (e : Listed) (Q : Happened → Type 0) → ((h : Happened) → IsLicensedEvent e h → Q h) → (hs : List Happened) → AllLicensed e hs → AllByRecursion Q hs
 licensed_so e Q so [] all = tt
@@ -145,33 +139,12 @@ row_limit e k x there = ap (λ o. (listed_root o (gate_for e.gates (suc k))).lim
 
 -- ---- two apart
 
--- where a list of edges leads to has an entry, if where it begins has one
-leads_listed : (e : Listed) (a : ℕ) (xs : List ℕ) (b : ℕ) → has_entry e.rows (Compartment a) ≡ true → IsEdgeList e a xs b → has_entry e.rows (Compartment b) ≡ true
-leads_listed e a [] b there same = subst (λ z. has_entry e.rows (Compartment z) ≡ true) same there
-leads_listed e a (x ∷ xs) b there leads = leads_listed e x xs b (ends_listed e a x leads.0).1 leads.1
-
--- an importer has an entry; where nothing is imported it is the owner itself
-importer_listed : (e : Listed) (by : ℕ) (through : List Owner) (o : Owner) → has_entry e.rows o ≡ true → Imports e (Compartment by) through o → has_entry e.rows (Compartment by) ≡ true
-importer_listed e by [] o there same = subst (λ z. has_entry e.rows z ≡ true) (sym same) there
-importer_listed e by (x ∷ xs) o there imports = owner_listed e imports.0.import (Compartment by) refl imports.0.importer
-
-end_listed : (e : Listed) (o : Owner) (b : ℕ) → has_entry e.rows o ≡ true → Reaches e o b → has_entry e.rows (Compartment b) ≡ true
-end_listed e o b there r = leads_listed e r.by r.joined.members b (importer_listed e r.by r.through o there r.imports) r.joined.leads
-
--- no list of imports leads to a thread
-no_thread : (e : Listed) (t : ℕ) (o : Owner) (xs : List Owner) → (o ≡ Thread t → ⊥) → Imports e o xs (Thread t) → ⊥
-no_thread e t o [] other imports = other imports
-no_thread e t o (x ∷ xs) other imports = no_thread e t x xs (λ is. (let P : Owner → Type 0 = λ z. IsLibrary z in subst P is imports.0.is_library)) imports.1
-
-not_thread : (a t : ℕ) → Compartment a ≡ Thread t → ⊥
-not_thread a t is = absurd (let clash : Compartment a ≡ Thread t = is in cc)
-
 -- who owns an entry and reaches a compartment, reaches it in the graph
 reached_by : (e : Listed) (n : ℕ) (o : Owner) (b : ℕ) → (root_of e n).owner ≡ o → (o ≡ Trusted → ⊥) → Reaches e o b → Reached e o b
 reached_by e n Trusted b is other r = absurd (other refl)
-reached_by e n (Compartment a) b is other r = let there = owner_listed e n (Compartment a) refl is in (there, end_listed e (Compartment a) b there r, r)
-reached_by e n (Library l) b is other r = let there = owner_listed e n (Library l) refl is in (there, end_listed e (Library l) b there r, r)
-reached_by e n (Thread t) b is other r = absurd (no_thread e t (Compartment r.by) r.through (not_thread r.by t) r.imports)
+reached_by e n (Compartment a) b is other r = reached_of e (Compartment a) b (owner_listed e n (Compartment a) refl is) r
+reached_by e n (Library l) b is other r = reached_of e (Library l) b (owner_listed e n (Library l) refl is) r
+reached_by e n (Thread t) b is other r = absurd (thread_reaches_none e t b r)
 
 -- ---- over runs
 

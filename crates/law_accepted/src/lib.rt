@@ -23,7 +23,7 @@ ghost use Rattle.def_events.specs.Upheld.{Upholds};
 ghost use Rattle.def_safety.specs.Chunks.{SweptBeforeReuse, UnusedAfterFree};
 ghost use Rattle.def_safety.specs.Each.{EachEvent};
 ghost use Rattle.law_image_samples.specs.Tiny.{tiny};
-ghost use Rattle.def_link.specs.Links.{LinksTo};
+ghost use Rattle.def_link.specs.Links.{RowsLinkTo};
 ghost use Rattle.law_link_samples.specs.Samples.{board_rows, board_sources, tiny_rows};
 
 pub use allowed::{allowed_devices_are_held, policies_hold_over_runs, rules_name_devices};
@@ -70,20 +70,20 @@ pub fn accepted_images_are_safe()
 /// The same of the parts that lawful rows and their sources are linked to.
 pub fn linked_images_run()
     ensures partitioned { (d : DescRow) (sources : List (List ℕ)) (p : PartsRow)
-        → LinksTo d sources p → Partitioned (image_of p) }
+        → RowsLinkTo d sources p → Partitioned (image_of p) }
     ensures confined { (d : DescRow) (sources : List (List ℕ)) (p : PartsRow) (es : List Event)
-        → LinksTo d sources p
+        → RowsLinkTo d sources p
         → Confined (image_of p) (run (platform_of p) (boot_state p) es) }
     ensures licensed { (d : DescRow) (sources : List (List ℕ)) (p : PartsRow) (es : List Event)
-        → LinksTo d sources p
+        → RowsLinkTo d sources p
         → AllLicensed (image_of p).entries (happenings_of (platform_of p) (boot_state p) es) }
 {}
 
 /// The premises are met, by what the rows and sources of two samples are linked to: the smallest
 /// one's parts, and those of the board with two compartments, a library and two threads.
 pub fn samples_are_accepted()
-    ensures tiny { LinksTo tiny_rows [] tiny × IsFaultless tiny }
-    ensures board { (p : PartsRow) × LinksTo board_rows board_sources p × IsFaultless p }
+    ensures tiny { RowsLinkTo tiny_rows [] tiny × IsFaultless tiny }
+    ensures board { (p : PartsRow) × RowsLinkTo board_rows board_sources p × IsFaultless p }
 {
     samples_link();
 }

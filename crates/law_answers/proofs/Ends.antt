@@ -4,13 +4,14 @@ use Rattle.std.specs.Prelude.{bytes_eq}
 use Rattle.std.specs.Int.{w32, from_le_bytes, is_in_range}
 use Rattle.std.proofs.lemmas.List.{take-append-drop, length-take, length-drop}
 use Rattle.std.proofs.lemmas.Slice.Eq.{bytes_eq-Decides}
-use Rattle.law_lists.proofs.Tests.{le_tells, bool_tells}
+use Rattle.law_lists.proofs.Tests.{le_tells, bool_tells, all_three}
 use Rattle.def_image.specs.Raw.{RawImage}
 use Rattle.def_image.specs.Profile.{last_version}
 use Rattle.def_image.specs.Spelling.{magic, raw_of, spelled, image_bytes}
 use Rattle.def_image.specs.Shapes.{IsShaped}
 use Rattle.def_image.specs.Accepted.{is_begun, Spells, FaultAt}
 use Rattle.law_image.proofs.OneCut.{ends_whole}
+use Rattle.law_image.proofs.Faults.{eight}
 use Rattle.law_image_samples.specs.Tiny.{tiny}
 use Rattle.law_answers.specs.Altered.{bytes_of_tiny, altered}
 use Rattle.law_answers.proofs.Facts.{plain_by}
@@ -39,12 +40,6 @@ unfolding image_bytes
 cut_apart r bytes more spells whole some =
     let ends : more ≡ [] = ends_whole r (raw_of tiny) more spells.0 tiny_shaped (ap (λ (b : List ℕ). b ++ more) (sym spells.1) ∙ whole) in
     absurd (let none = ap (λ (l : List ℕ). length l) ends in omega (arith, none, some))
-
-eight : (n : ℕ) → nat_le 8 (suc (suc (suc (suc (suc (suc (suc (suc n)))))))) ≡ true
-eight n = elim (le_tells 8 (suc (suc (suc (suc (suc (suc (suc (suc n))))))))) [ inl h ↦ h.0 | inr h ↦ absurd (let less = h.1 in omega (arith, less)) ]
-
-all_three : (a b c : Bool) → a ≡ true → b ≡ true → c ≡ true → (a && b && c) ≡ true
-all_three a b c e f g = rw (e, f, g) refl
 
 -- eight bytes and more begin an image
 begun_after : (k : ℕ) → is_begun (take (suc (suc (suc (suc (suc (suc (suc (suc k)))))))) bytes_of_tiny) ≡ true

@@ -1,6 +1,7 @@
 -- What tests that compute say of fields and parts.
 use Rattle.std.proofs.Common.{ℕ, ◌≡◌, ◌<◌, ◌==◌, ◌&&◌, ◌||◌, not, Bool, true, nat_lt, List, [], ◌∷◌, length, subst, arith}
 use Rattle.std.specs.List.{list_all, AllByRecursion}
+use Rattle.std.proofs.lemmas.Bool.{ltb-true, eqb-true}
 use Rattle.law_lists.proofs.Tests.{both_left, both_right}
 use Rattle.ct_entry.specs.Listed.{DeviceRow}
 use Rattle.def_image.specs.declared.RawEntry.{RawEntry}
@@ -8,7 +9,6 @@ use Rattle.def_image.specs.Raw.{RawDevice, RawCode, RawCompartment, RawThread, R
 use Rattle.def_image.specs.Parts.{SlotRow, GateRow, SharedRow, SealedRow, CodeRow, CompartmentRow, ThreadRow, PartsRow}
 use Rattle.def_image.specs.Spelling.{padding_after, raw_of}
 use Rattle.def_image.specs.Shapes.{IsField, IsNumber, IsCounted, IsRawEntry, IsDevice, IsShared, IsSealed, IsCode, IsCompartment, IsThread, IsShaped, Clean, SpellableSlot, SpellableGate, SpellableCode, IsSpellable}
-use Rattle.law_image.proofs.Tells.{lt_is, eq_is}
 use Rattle.law_answers.specs.Tests.{are_bytes, is_field, is_number, is_counted, is_entry, is_device, is_code, is_compartment, is_thread, is_plain, is_clean, is_clean_slot, is_clean_gate, is_clean_code, is_plainly_spelled}
 
 all_by : {A : Type 0} (test : A → Bool) (P : A → Type 0) → ((x : A) → test x ≡ true → P x) → (xs : List A) → list_all test xs ≡ true → AllByRecursion P xs
@@ -18,17 +18,17 @@ all_by test P one (x ∷ xs) h = (one x (both_left (test x) (list_all test xs) h
 -- nothing fails of a list that is empty
 none_by : {A : Type 0} (P : A → Type 0) (xs : List A) → (length xs == 0) ≡ true → IsNumber (length xs) × AllByRecursion P xs
 none_by P [] h = (omega arith, tt)
-none_by P (x ∷ xs) h = absurd (let e = eq_is (length (x ∷ xs)) 0 h in omega (arith, e))
+none_by P (x ∷ xs) h = absurd (let e = eqb-true (length (x ∷ xs)) 0 h in omega (arith, e))
 
 number_by : (n : ℕ) → is_number n ≡ true → IsNumber n
-number_by n h = lt_is n 4294967296 h
+number_by n h = ltb-true n 4294967296 h
 
 bytes_by : (bs : List ℕ) → are_bytes bs ≡ true → AllByRecursion (λ b. b < 256) bs
-bytes_by bs h = all_by (λ b. nat_lt b 256) (λ b. b < 256) (λ b e. lt_is b 256 e) bs h
+bytes_by bs h = all_by (λ b. nat_lt b 256) (λ b. b < 256) (λ b e. ltb-true b 256 e) bs h
 
 field_by : (n : ℕ) (bs : List ℕ) → is_field n bs ≡ true → IsField n bs
 field_by n bs h = record {
-  size = eq_is (length bs) n (both_left (length bs == n) (are_bytes bs) h);
+  size = eqb-true (length bs) n (both_left (length bs == n) (are_bytes bs) h);
   each = bytes_by bs (both_right (length bs == n) (are_bytes bs) h);
 }
 
@@ -90,7 +90,7 @@ thread_by t h =
     (field_by 32 t.name (h1), number_by t.stack (both_right (is_field 32 t.name) (is_number t.stack) h2), number_by t.stack_length (both_right (is_field 32 t.name && is_number t.stack) (is_number t.stack_length) h3), number_by t.compartment (both_right (is_field 32 t.name && is_number t.stack && is_number t.stack_length) (is_number t.compartment) h4), number_by t.export (both_right (is_field 32 t.name && is_number t.stack && is_number t.stack_length && is_number t.compartment) (is_number t.export) h5), number_by t.priority (both_right (is_field 32 t.name && is_number t.stack && is_number t.stack_length && is_number t.compartment && is_number t.export) (is_number t.priority) h6), number_by t.frames (both_right (is_field 32 t.name && is_number t.stack && is_number t.stack_length && is_number t.compartment && is_number t.export && is_number t.priority) (is_number t.frames) h))
 
 rate_by : (v n : ℕ) → (not (v == 1) || n == 64) ≡ true → v ≡ 1 → n ≡ 64
-rate_by v n h one = eq_is n 64 (subst (λ (k : ℕ). (not (k == 1) || n == 64) ≡ true) one h)
+rate_by v n h one = eqb-true n 64 (subst (λ (k : ℕ). (not (k == 1) || n == 64) ≡ true) one h)
 
 pub plain_by : (r : RawImage) → is_plain r ≡ true → IsShaped r
 plain_by r h =
@@ -129,7 +129,7 @@ plain_by r h =
 -- ---- parts
 
 clean_by : (name : List ℕ) → is_clean name ≡ true → Clean name
-clean_by name h = all_by (λ b. nat_lt 0 b) (λ b. 0 < b) (λ b e. lt_is 0 b e) name h
+clean_by name h = all_by (λ b. nat_lt 0 b) (λ b. 0 < b) (λ b e. ltb-true 0 b e) name h
 
 slot_by : (s : SlotRow) → is_clean_slot s ≡ true → SpellableSlot s
 slot_by s h =

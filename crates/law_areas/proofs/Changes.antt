@@ -53,9 +53,6 @@ touches_more lo hi low high gs hs below above t = record {
   rest = λ k out. t.rest k (elim out [ inl a ↦ inl (omega (arith, a, below)) | inr b ↦ inr (omega (arith, b, above)) ]);
 }
 
-pub touches_both : (lo hi : ℕ) (gs ms hs : List Granule) → Touches lo hi gs ms → Touches lo hi ms hs → Touches lo hi gs hs
-touches_both lo hi gs ms hs one two = record {
-  size = two.size ∙ one.size;
-  marks = λ k. two.marks k ∙ one.marks k;
-  rest = λ k out. two.rest k out ∙ one.rest k out;
-}
+-- nothing is touched
+pub unchanged : (gs : List Granule) (lo hi : ℕ) → Touches lo hi gs gs
+unchanged gs lo hi = record { size = refl; marks = λ k. refl; rest = λ k out. refl }

@@ -15,10 +15,10 @@ use Rattle.def_assembly.specs.Sums.{section_past, section_at, total, AreSizes}
 -- ---- one statement
 
 -- a place, field by field
-at_place : Section → ℕ → ℕ → Place
+unfoldable pub at_place : Section → ℕ → ℕ → Place
 at_place s t i = record { section = s; text = t; initial = i }
 
-after_section : (s : Section) (t i : ℕ) (q : Part Name) → (advanced (at_place s t i) q).section ≡ section_after s (Some q)
+pub after_section : (s : Section) (t i : ℕ) (q : Part Name) → (advanced (at_place s t i) q).section ≡ section_after s (Some q)
 unfolding at_place
 after_section section.Text t i part.Text = refl
 after_section section.Text t i part.Data = refl
@@ -28,7 +28,7 @@ after_section section.Data t i part.Data = refl
 after_section section.Data t i q = refl
 
 -- how much of a section stands before a place
-pub filled : Section → Place → ℕ
+unfoldable pub filled : Section → Place → ℕ
 filled section.Text p = p.text
 filled section.Data p = p.initial
 
@@ -53,7 +53,7 @@ unfolding filled at_place
 offset_filled section.Text t i = refl
 offset_filled section.Data t i = refl
 
-statement_length : (labels : Labels) (slots : List Name) (at : ℕ) (q : Part Name) → length (bytes_at labels slots at q) ≡ size_at q at
+pub statement_length : (labels : Labels) (slots : List Name) (at : ℕ) (q : Part Name) → length (bytes_at labels slots at q) ≡ size_at q at
 statement_length labels slots at (part.Zero number) = length-replicate number.magnitude 0
 statement_length labels slots at (part.Align number) = length-replicate (padding number.magnitude at) 0
 statement_length labels slots at (part.LoadImmediate rd number) = by (is_short (number_word number))

@@ -13,12 +13,12 @@ use Rattle.def_machine.specs.State.{Thread, register}
 use Rattle.def_machine.specs.Threads.{jumped}
 use Rattle.def_step.specs.Accesses.{MemoryAndDevices}
 use Rattle.def_object.specs.Object.{high_piece, low_piece, way, is_short, upper_part, rest_part, number_instructions, text_instructions, global_instructions}
-use Rattle.def_assembly.specs.Loading.{effect, onward, after, MayWrite, GivesRegister, AreApart, IsWayOn, LeadsOver, LeadsToSlot}
+use Rattle.def_assembly.specs.Loading.{effect, onward, after, MayWrite, SetsRegister, AreApart, IsWayOn, LeadsOver, LeadsToSlot}
 use Rattle.law_assembly.proofs.Pieces.{pieces_back, leads_to}
 
 -- ---- one register is written
 
-put : (w : Thread) (rd : ℕ) (pcc : Cap) (posture : Posture) (value : Cap) → MayWrite w rd → GivesRegister w (jumped w pcc posture rd value) rd value
+put : (w : Thread) (rd : ℕ) (pcc : Cap) (posture : Posture) (value : Cap) → MayWrite w rd → SetsRegister w (jumped w pcc posture rd value) rd value
 put w zero pcc posture value h = absurd (omega (arith, h.some))
 put w (suc n) pcc posture value h = record {
   given = get_or-set_same w.registers (suc n) value (plain 0) (let all : length w.registers ≡ 16 = h.all in omega (arith, h.there, all));
@@ -34,10 +34,10 @@ still w (suc n) pcc posture value h = record {
   there = h.there;
 }
 
-gives_as : (w new : Thread) (rd : ℕ) (a b : Cap) → a ≡ b → GivesRegister w new rd a → GivesRegister w new rd b
-gives_as w new rd a b same g = subst (GivesRegister w new rd) same g
+gives_as : (w new : Thread) (rd : ℕ) (a b : Cap) → a ≡ b → SetsRegister w new rd a → SetsRegister w new rd b
+gives_as w new rd a b same g = subst (SetsRegister w new rd) same g
 
-gives_then : (w u new : Thread) (rd : ℕ) (a b : Cap) → GivesRegister w u rd a → GivesRegister u new rd b → GivesRegister w new rd b
+gives_then : (w u new : Thread) (rd : ℕ) (a b : Cap) → SetsRegister w u rd a → SetsRegister u new rd b → SetsRegister w new rd b
 gives_then w u new rd a b first second = record {
   given = second.given;
   others = λ n other. second.others n other ∙ first.others n other;
@@ -48,14 +48,14 @@ gives_then w u new rd a b first second = record {
 integer_address : (n : ℕ) → n < 2 ^ 32 → cap_address (integer n) ≡ n
 integer_address n h = omega arith
 
-short_loaded : (p : MemoryAndDevices) (w : Thread) (rd word : ℕ) → MayWrite w rd → word < 2 ^ 32 → GivesRegister w (after p w (Addi rd 0 word ∷ [])) rd (integer word)
+short_loaded : (p : MemoryAndDevices) (w : Thread) (rd word : ℕ) → MayWrite w rd → word < 2 ^ 32 → SetsRegister w (after p w (Addi rd 0 word ∷ [])) rd (integer word)
 short_loaded p w rd word h small =
     let from : cap_address (register w 0) ≡ 0 = ap cap_address h.zero in
     let sum : (cap_address (register w 0) + word) % 2 ^ 32 ≡ word = omega (arith, from) in
     gives_as w _ rd _ _ (ap integer sum) (put w rd (raised w.pcc 4) w.posture (integer ((cap_address (register w 0) + word) % 2 ^ 32)) h)
 
 long_loaded : (p : MemoryAndDevices) (w : Thread) (rd word : ℕ) → MayWrite w rd → word < 2 ^ 32
-    → GivesRegister w (after p w (Lui rd (upper_part word) ∷ Addi rd rd (rest_part word) ∷ [])) rd (integer word)
+    → SetsRegister w (after p w (Lui rd (upper_part word) ∷ Addi rd rd (rest_part word) ∷ [])) rd (integer word)
 long_loaded p w rd word h small =
     let upper : ℕ = upper_part word * 2 ^ 12 % 2 ^ 32 in
     let u : Thread = jumped w (raised w.pcc 4) w.posture rd (integer upper) in
@@ -65,10 +65,10 @@ long_loaded p w rd word h small =
     let second = put u rd (raised u.pcc 4) u.posture (integer ((cap_address (register u rd) + rest_part word) % 2 ^ 32)) (still w rd (raised w.pcc 4) w.posture (integer upper) h) in
     gives_then w u _ rd _ _ first (gives_as u _ rd _ _ (ap integer sum) second)
 
-pub number_loaded : (p : MemoryAndDevices) (w : Thread) (rd word : ℕ) → MayWrite w rd → word < 2 ^ 32 → GivesRegister w (after p w (number_instructions rd word)) rd (integer word)
+pub number_loaded : (p : MemoryAndDevices) (w : Thread) (rd word : ℕ) → MayWrite w rd → word < 2 ^ 32 → SetsRegister w (after p w (number_instructions rd word)) rd (integer word)
 number_loaded p w rd word h small = by_test (is_short word)
   where
-    by_test : (b : Bool) → GivesRegister w (after p w (cond b (Addi rd 0 word ∷ []) (Lui rd (upper_part word) ∷ Addi rd rd (rest_part word) ∷ []))) rd (integer word)
+    by_test : (b : Bool) → SetsRegister w (after p w (cond b (Addi rd 0 word ∷ []) (Lui rd (upper_part word) ∷ Addi rd rd (rest_part word) ∷ []))) rd (integer word)
     by_test true = short_loaded p w rd word h small
     by_test false = long_loaded p w rd word h small
 
@@ -91,7 +91,7 @@ twice c at to apart =
 
 -- two words: the first raises the address of c, the second that of what the first left
 two_words : (p : MemoryAndDevices) (w : Thread) (rd high low : ℕ) (c : Cap) → MayWrite w rd
-    → GivesRegister w (after p (jumped w (raised w.pcc 4) w.posture rd (raised c high)) (CIncAddrImm rd rd low ∷ [])) rd (raised (raised c high) low)
+    → SetsRegister w (after p (jumped w (raised w.pcc 4) w.posture rd (raised c high)) (CIncAddrImm rd rd low ∷ [])) rd (raised (raised c high) low)
 unfolding capability_result
 two_words p w rd high low c h =
     let u : Thread = jumped w (raised w.pcc 4) w.posture rd (raised c high) in
@@ -100,7 +100,7 @@ two_words p w rd high low c h =
     gives_then w u _ rd _ _ first (gives_as u _ rd _ _ (ap (λ (x : Cap). raised x low) first.given) second)
 
 leads : (w new : Thread) (rd : ℕ) (c : Cap) (at to : ℕ) → AreApart at to
-    → GivesRegister w new rd (raised (raised c (upper_offset (high_piece at to))) (low_piece at to)) → LeadsOver w new rd c at to
+    → SetsRegister w new rd (raised (raised c (upper_offset (high_piece at to))) (low_piece at to)) → LeadsOver w new rd c at to
 leads w new rd c at to apart g = record { gives = g; address = ap cap_address g.given ∙ twice c at to apart }
 
 pub text_leads : (p : MemoryAndDevices) (w : Thread) (rd at to : ℕ) → MayWrite w rd → AreApart at to → LeadsOver w (after p w (text_instructions at rd to)) rd w.pcc at to

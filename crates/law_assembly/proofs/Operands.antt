@@ -6,7 +6,7 @@ use Rattle.def_source.specs.declared.parts.Number.{Number}
 use Rattle.def_source.specs.declared.parts.Token.TheVariants as token
 use Rattle.def_source.specs.declared.parts.Target.{Target}
 use Rattle.def_source.specs.declared.parts.Target.TheVariants as target
-use Rattle.def_assembly.specs.Written.{Register, Numbered, Named, Towards, Address, IsOperandText, AreWritten}
+use Rattle.def_assembly.specs.Written.{Register, Numbered, Named, Towards, Address, AreOperandTokens, AreWritten}
 
 -- a reader that gave something, its first step gave something
 bind : {A B : Type 0} (o : Option A) (f : A → Option B) (y : B) → option_and_then f o ≡ Some y → (x : A) × ((o ≡ Some x) × (f x ≡ Some y))
@@ -68,7 +68,7 @@ register_reads n r us e = ap (λ (o : Option ℕ). option_and_then (λ (k : ℕ)
 record CommaAfter (ts : Row) (q : ℕ × Row) : Type 0 where
   front : Row
   row : ts ≡ front ++ token.Comma ∷ q.1
-  is : IsOperandText (Register q.0) front
+  is : AreOperandTokens (Register q.0) front
 
 comma_after : (ts : Row) (q : ℕ × Row) → register_comma ts ≡ Some q → CommaAfter ts q
 unfolding register_comma
@@ -84,7 +84,7 @@ comma_after ts q e =
       is = (r.name, (refl, r.is));
     })
 
-comma_reads : (front rest : Row) (r : ℕ) → IsOperandText (Register r) front → register_comma (front ++ token.Comma ∷ rest) ≡ Some (r, rest)
+comma_reads : (front rest : Row) (r : ℕ) → AreOperandTokens (Register r) front → register_comma (front ++ token.Comma ∷ rest) ≡ Some (r, rest)
 unfolding register_comma
 comma_reads front rest r w =
     ap (λ (z : Row). register_comma (z ++ token.Comma ∷ rest)) w.1.0
@@ -92,25 +92,25 @@ comma_reads front rest r w =
     (register_reads w.0 r (token.Comma ∷ rest) w.1.1)
 
 -- the last operand
-register_last : (ts : Row) (q : ℕ × Row) → register_at ts ≡ Some q → q.1 ≡ [] → IsOperandText (Register q.0) ts
+register_last : (ts : Row) (q : ℕ × Row) → register_at ts ≡ Some q → q.1 ≡ [] → AreOperandTokens (Register q.0) ts
 register_last ts q e end = let r = register_says ts q e in (r.name, (r.row ∙ ap (λ (z : Row). token.Name r.name ∷ z) end, r.is))
 
-number_last : (ts : Row) (q : Number × Row) → number_at ts ≡ Some q → q.1 ≡ [] → IsOperandText (Numbered q.0) ts
+number_last : (ts : Row) (q : Number × Row) → number_at ts ≡ Some q → q.1 ≡ [] → AreOperandTokens (Numbered q.0) ts
 number_last ts q e end = number_says ts q e ∙ ap (λ (z : Row). token.Number q.0 ∷ z) end
 
-name_last : (ts : Row) (q : Name × Row) → name_at ts ≡ Some q → q.1 ≡ [] → IsOperandText (Named q.0) ts
+name_last : (ts : Row) (q : Name × Row) → name_at ts ≡ Some q → q.1 ≡ [] → AreOperandTokens (Named q.0) ts
 name_last ts q e end = name_says ts q e ∙ ap (λ (z : Row). token.Name q.0 ∷ z) end
 
-target_last : (ts : Row) (q : Target Name × Row) → target_at ts ≡ Some q → q.1 ≡ [] → IsOperandText (Towards q.0) ts
+target_last : (ts : Row) (q : Target Name × Row) → target_at ts ≡ Some q → q.1 ≡ [] → AreOperandTokens (Towards q.0) ts
 target_last (token.Name n ∷ ts) q e end =
     let same : (target.Label n, ts) ≡ q = cc e in
-    subst (λ (z : Target Name × Row). z.1 ≡ [] → IsOperandText (Towards z.0) (token.Name n ∷ ts)) same (λ k. ap (λ (z : Row). token.Name n ∷ z) k) end
+    subst (λ (z : Target Name × Row). z.1 ≡ [] → AreOperandTokens (Towards z.0) (token.Name n ∷ ts)) same (λ k. ap (λ (z : Row). token.Name n ∷ z) k) end
 target_last (token.Number n ∷ ts) q e end =
     let same : (target.Offset n, ts) ≡ q = cc e in
-    subst (λ (z : Target Name × Row). z.1 ≡ [] → IsOperandText (Towards z.0) (token.Number n ∷ ts)) same (λ k. ap (λ (z : Row). token.Number n ∷ z) k) end
+    subst (λ (z : Target Name × Row). z.1 ≡ [] → AreOperandTokens (Towards z.0) (token.Number n ∷ ts)) same (λ k. ap (λ (z : Row). token.Number n ∷ z) k) end
 target_last ts q e end = absurd (cc e)
 
-address_last : (ts : Row) (q : Number × ℕ × Row) → address_at ts ≡ Some q → q.2 ≡ [] → IsOperandText (Address q.0 q.1) ts
+address_last : (ts : Row) (q : Number × ℕ × Row) → address_at ts ≡ Some q → q.2 ≡ [] → AreOperandTokens (Address q.0 q.1) ts
 unfolding address_at
 address_last ts q e end =
     let number = bind (number_at ts) _ q e in
@@ -119,7 +119,7 @@ address_last ts q e end =
     let closed = bind (close_at register.0.1) _ q register.1.1 in
     let same : (number.0.0, register.0.0, closed.0) ≡ q = let last = closed.1.1 in cc last in
     let r = register_says opened.0 register.0 register.1.0 in
-    subst (λ (z : Number × ℕ × Row). z.2 ≡ [] → IsOperandText (Address z.0 z.1) ts) same
+    subst (λ (z : Number × ℕ × Row). z.2 ≡ [] → AreOperandTokens (Address z.0 z.1) ts) same
     (λ k. (
       r.name,
       (
@@ -133,14 +133,14 @@ address_last ts q e end =
     ))
     end
 
-register_ends : (ts : Row) (r : ℕ) → IsOperandText (Register r) ts → register_at ts ≡ Some (r, [])
+register_ends : (ts : Row) (r : ℕ) → AreOperandTokens (Register r) ts → register_at ts ≡ Some (r, [])
 register_ends ts r w = ap register_at w.1.0 ∙ register_reads w.0 r [] w.1.1
 
-target_ends : (ts : Row) (t : Target Name) → IsOperandText (Towards t) ts → target_at ts ≡ Some (t, [])
+target_ends : (ts : Row) (t : Target Name) → AreOperandTokens (Towards t) ts → target_at ts ≡ Some (t, [])
 target_ends ts (target.Label n) w = ap target_at w
 target_ends ts (target.Offset n) w = ap target_at w
 
-address_ends : (ts : Row) (n : Number) (r : ℕ) → IsOperandText (Address n r) ts → address_at ts ≡ Some (n, r, [])
+address_ends : (ts : Row) (n : Number) (r : ℕ) → AreOperandTokens (Address n r) ts → address_at ts ≡ Some (n, r, [])
 unfolding address_at
 address_ends ts n r w =
     ap address_at w.1.0

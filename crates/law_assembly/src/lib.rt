@@ -14,7 +14,7 @@ ghost use Rattle.def_words.specs.Capability.{integer};
 ghost use Rattle.def_machine.specs.State.{Thread, register};
 ghost use Rattle.def_step.specs.Accesses.{MemoryAndDevices};
 ghost use Rattle.def_assembly.specs.Decoding.{AllSay};
-ghost use Rattle.def_assembly.specs.Loading.{after, MayWrite, GivesRegister, AreApart, LeadsTo, LeadsOver, LeadsToSlot, to_slot};
+ghost use Rattle.def_assembly.specs.Loading.{after, MayWrite, SetsRegister, AreApart, LeadsTo, LeadsOver, LeadsToSlot, to_slot};
 ghost use Rattle.def_assembly.specs.Written.{WritesStatement, WritesDirective};
 
 pub use source::{faults_are_least, labels_are_sums, sections_are_sums};
@@ -22,7 +22,8 @@ pub use source::{faults_are_least, labels_are_sums, sections_are_sums};
 /// The tokens after a first word are read as a statement just where the word begins that statement
 /// and the tokens are its operands, each written as its kind, with a comma between each two.
 pub fn forms_are_written()
-    ensures { (h : Head) (ts : Row) (p : Part Name) → (form_of h ts ≡ Some p) ↔ WritesStatement h ts p }
+    ensures { (h : Head) (ts : Row) (p : Part Name)
+        → (form_of h ts ≡ Some p) ↔ WritesStatement h ts p }
 {}
 
 /// The same of directives.
@@ -42,7 +43,7 @@ pub fn words_decode()
 /// every other register is as it was.
 pub fn numbers_are_loaded()
     ensures { (p : MemoryAndDevices) (w : Thread) (rd word : ℕ) → MayWrite w rd → word < 2 ^ 32
-        → GivesRegister w (after p w (number_instructions rd word)) rd (integer word) }
+        → SetsRegister w (after p w (number_instructions rd word)) rd (integer word) }
 {}
 
 /// The two instructions of `cla`, `clg` and `cimport` lead to the place that is meant: from the

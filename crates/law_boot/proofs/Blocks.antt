@@ -19,11 +19,6 @@ further (x ∷ xs) ys k =
     let next : length (x ∷ xs) + k ≡ suc (length xs + k) = omega arith in
     ap (λ i. slice_get (x ∷ (xs ++ ys)) i) next ∙ further xs ys k
 
-pub present : {A : Type 0} (xs : List A) (i : ℕ) → i < length xs → (x : A) × (slice_get xs i ≡ Some x)
-present [] i lt = absurd (omega (arith, lt))
-present (x ∷ xs) zero lt = (x, refl)
-present (x ∷ xs) (suc i) lt = present xs i (omega (arith, lt))
-
 -- ---- numbers
 
 pub number_low : {A : Type 0} (entries : A → ℕ) (n : ℕ) (xs : List A) (k : ℕ) (x : A) → slice_get xs k ≡ Some x → n ≤ number_in entries n xs k

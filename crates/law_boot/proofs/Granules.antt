@@ -1,7 +1,7 @@
 -- What part of the image each granule is.
 use Rattle.std.proofs.Common.{ℕ, zero, suc, ◌≡◌, ◌+◌, ◌-◌, ◌*◌, ◌<◌, ◌≤◌, slice_index_or, refl, ap, ◌∙◌, arith}
 use Rattle.def_profile.specs.declared.layout.TheConstants.{GRANULE}
-use Rattle.def_machine.specs.Image.{Region, HeapRam, Bare, address_of, granule_of}
+use Rattle.def_machine.specs.Image.{Bare, address_of, granule_of}
 use Rattle.def_machine.specs.Image as image
 use Rattle.def_image.specs.Parts.{PartsRow}
 use Rattle.def_image.specs.Regions.{RegionRow}

@@ -1,7 +1,9 @@
 -- A compartment's error handler is an export of its own.
 use Rattle.std.proofs.Common.{ℕ, ◌≡◌, ◌<◌, inl, inr, Bool, List, [], length, Option, Some, None, slice_get, unwrap_or, option_map, refl, sym, ap, ◌∙◌, subst, arith}
-use Rattle.std.specs.List.{position, position_or_len}
+use Rattle.std.specs.List.{position}
 use Rattle.law_lists.proofs.Tests.{lt_tells}
+use Rattle.law_lists.proofs.Places.{present}
+use Rattle.law_lists.proofs.Finds.{position_inside}
 use Rattle.ct_entry.specs.declared.rows.Owner.TheVariants.{Compartment}
 use Rattle.def_reach.specs.Roots.{Root}
 use Rattle.def_machine.specs.Image.{handler_entry}
@@ -9,21 +11,9 @@ use Rattle.def_confined.specs.Facts.{HandlerFits}
 use Rattle.def_image.specs.Parts.{CompartmentRow, GateRow, PartsRow}
 use Rattle.def_image.specs.Members.{no_compartment, gate_number, handler_number, is_handler}
 use Rattle.def_boot.specs.Boot.{image_of}
-use Rattle.law_boot.proofs.Blocks.{present}
 use Rattle.law_boot.proofs.Standing.{compartment_of}
 use Rattle.def_boot.specs.Fits.{ExportAt}
 use Rattle.law_boot.proofs.Own.{handler_entry_is, no_handler_entry}
-
--- what was found is one of them
-found_inside : {A : Type 0} (p : A → Bool) (xs : List A) (k : ℕ) → position p xs ≡ Some k → k < length xs
-found_inside p xs k found =
-    elim (lt_tells (position_or_len p xs) (length xs)) [
-      | inl less ↦
-          let same : position_or_len p xs ≡ k = (let e : Some (position_or_len p xs) ≡ Some k = rw less.0 at found in cc) in
-          let inside = less.1 in
-          omega (arith, same, inside)
-      | inr past ↦ absurd (let e : None ≡ Some k = rw past.0 at found in cc)
-    ]
 
 abbrev exports_in : Option CompartmentRow → List GateRow
 exports_in o = (unwrap_or o no_compartment).code.exports
@@ -39,9 +29,9 @@ record OwnExport (p : PartsRow) (b n : ℕ) : Type 0 where
 own_export : (p : PartsRow) (b : ℕ) (o : Option CompartmentRow) (k : Option ℕ) → slice_get p.compartments b ≡ o → position is_handler (exports_in o) ≡ k
     → (number_of p b k ≡ 0 → ⊥) → OwnExport p b (number_of p b k)
 own_export p b o None is found some = absurd (some refl)
-own_export p b None (Some j) is found some = absurd (let inside : j < 0 = found_inside is_handler [] j found in omega (arith, inside))
+own_export p b None (Some j) is found some = absurd (let inside : j < 0 = position_inside is_handler [] j found in omega (arith, inside))
 own_export p b (Some c) (Some j) is found some =
-    let x = present c.code.exports j (found_inside is_handler c.code.exports j found) in
+    let x = present c.code.exports j (position_inside is_handler c.code.exports j found) in
     record {
       export = record { index = b; compartment = c; which = j; export = x.0; owner = is; there = x.1; number = refl; row = (compartment_of p b c is).export j x.0 x.1 };
       own = refl;

@@ -12,7 +12,7 @@ use Rattle.def_reach.specs.Roots.{Root, Origin, Unknown, TrustedPart, Listing, r
 use Rattle.def_machine.specs.Image.{root, made_cap, code_entry}
 use Rattle.ct_entry.specs.Kinds.{is_compartment}
 use Rattle.def_confined.specs.Capabilities.{is_home}
-use Rattle.def_confined.specs.Facts.{Facts, HasCapability, IsCompartmentExport, IsLibraryExport, GateFits, StackFits, IsRootInside, GrantsAccess, gate_code}
+use Rattle.def_confined.specs.Facts.{Facts, HasCapability, IsCompartmentExport, IsLibraryExport, GateFits, StackFits, LiesInRoot, GrantsAccess, gate_code}
 use Rattle.def_image.specs.declared.ImportRow.{ImportRow}
 use Rattle.def_image.specs.declared.SlotKind.{SlotKind}
 use Rattle.def_image.specs.declared.SlotKind.TheVariants as slot
@@ -121,7 +121,7 @@ module _ (p : PartsRow) (s : Sound p) where
       let code : (gate_for (gates_of p) n).code ≡ text_base c.code + x.row.offset = ap (λ k. (gate_for (gates_of p) k).code) number ∙ ap (λ (g : Gate). g.code) row.gate_is in
       let whose : (root_of (entries_of p) n).owner ≡ Compartment b = ap (λ k. (root_of (entries_of p) k).owner) number ∙ ap (λ (z : Root). z.owner) row.root_is in
       let own : root_of (entries_of p) (code_entry (image_of p) b) ≡ _ = ap (λ k. root_of (entries_of p) k) (code_entry_is p b (slice_get_within p.compartments b c h.there)) ∙ h.code.root_is in
-      let I : ℕ → Type 0 = λ k. IsRootInside (root (image_of p) (code_entry (image_of p) k)) (gate_code (image_of p) n) in
+      let I : ℕ → Type 0 = λ k. LiesInRoot (root (image_of p) (code_entry (image_of p) k)) (gate_code (image_of p) n) in
       let low = word.low in
       let high = word.high in
       let base = ap (λ (z : Root). z.base) own in
@@ -208,7 +208,7 @@ module _ (p : PartsRow) (s : Sound p) where
       elim at.native [ inl a ↦ inl (omega (arith, a, ends, high)) | inr a ↦ inr (omega (arith, a, low)) ]
   native_away o base top x (of_key its from to) other low high = inl (omega (arith, to, high))
 
-  heap_away : (n x : ℕ) → GrantsAccess (root (image_of p) n) → IsRootInside (root (image_of p) n) x → (x < (image_of p).heap_base) ⊎ ((image_of p).heap_end ≤ x)
+  heap_away : (n x : ℕ) → GrantsAccess (root (image_of p) n) → LiesInRoot (root (image_of p) n) x → (x < (image_of p).heap_base) ⊎ ((image_of p).heap_end ≤ x)
   unfolding image_of
   heap_away n x reads inside =
       let low = inside.0 in
@@ -243,7 +243,7 @@ module _ (p : PartsRow) (s : Sound p) where
   unfolding image_of
   stacks n is = stack_fits n (entry_of p n) is
 
-  natives : (n x : ℕ) → is_native (root (image_of p) n).origin ≡ false → GrantsAccess (root (image_of p) n) → IsRootInside (root (image_of p) n) x → (x < NATIVE_BASE) ⊎ (NATIVE_END ≤ x)
+  natives : (n x : ℕ) → is_native (root (image_of p) n).origin ≡ false → GrantsAccess (root (image_of p) n) → LiesInRoot (root (image_of p) n) x → (x < NATIVE_BASE) ⊎ (NATIVE_END ≤ x)
   natives n x other reads inside = native_away _ _ _ x (told_at p s n).lies other inside.0 inside.1
 
   pub holds : Facts (image_of p)

@@ -1,5 +1,5 @@
 -- What imports name, and whom their owners reach.
-use Rattle.std.proofs.Common.{ℕ, ◌≡◌, ◌+◌, Bool, true, false, List, [], ◌∷◌, ◌++◌, Some, unwrap_or, refl, sym, ap, ◌∙◌, subst}
+use Rattle.std.proofs.Common.{ℕ, ◌≡◌, ◌+◌, Bool, true, false, [], ◌∷◌, ◌++◌, Some, unwrap_or, refl, sym, ap, ◌∙◌, subst}
 use Rattle.ct_entry.specs.Listed.{Listed}
 use Rattle.ct_entry.specs.declared.rows.Owner.{Owner}
 use Rattle.ct_entry.specs.declared.rows.Owner.TheVariants as owner
@@ -7,7 +7,7 @@ use Rattle.ct_entry.specs.declared.rows.Entry.{Entry}
 use Rattle.ct_entry.specs.declared.rows.Gate.{Gate}
 use Rattle.ct_entry.specs.declared.rows.Kind.TheVariants as kind
 use Rattle.def_reach.specs.Roots.{Origin, Listing, Root, root_of, listed_root, no_gate}
-use Rattle.def_reach.specs.Sharing.{Reaches, Imports, Brings}
+use Rattle.def_reach.specs.Sharing.{Reaches, Brings}
 use Rattle.def_machine.specs.Image.{root}
 use Rattle.def_image.specs.declared.ImportRow.{ImportRow}
 use Rattle.def_image.specs.declared.SlotKind.{SlotKind}
@@ -23,6 +23,7 @@ use Rattle.law_boot.proofs.Listing.{entry_of}
 use Rattle.law_boot.proofs.Standing.{compartment_of, library_of}
 use Rattle.def_boot.specs.Fits.{ExportAt, LibraryExportAt}
 use Rattle.law_boot.proofs.Sets.{no_way}
+use Rattle.law_reach.proofs.Joins.{imports_on}
 
 -- ---- what is named
 
@@ -134,15 +135,11 @@ module _ (p : PartsRow) (s : Sound p) where
 
 -- ---- whom a library reaches
 
-imports_further : (e : Listed) (o : Owner) (through : List Owner) (m library : Owner) → Imports e o through m → Brings e m library → Imports e o (through ++ library ∷ []) library
-imports_further e o [] m library same brings = (subst (λ z. Brings e z library) (sym same) brings, refl)
-imports_further e o (x ∷ xs) m library imports brings = (imports.0, imports_further e x xs m library imports.1 brings)
-
 pub reaches_library : (e : Listed) (n l d : ℕ) → (root_of e n).origin ≡ Listing kind.Library → (root_of e (root_of e n).of).owner ≡ owner.Library l → Reaches e (root_of e n).owner d → Reaches e (root_of e (root_of e n).of).owner d
 reaches_library e n l d is whose r =
     let brings : Brings e (root_of e n).owner (owner.Library l) = record { is_library = tt; import = n; kind_is = is; importer = refl; library_is = whose } in
     subst (λ o. Reaches e o d) (sym whose)
-    (record { by = r.by; through = r.through ++ owner.Library l ∷ []; imports = imports_further e _ r.through (root_of e n).owner (owner.Library l) r.imports brings; joined = r.joined })
+    (record { by = r.by; through = r.through ++ owner.Library l ∷ []; imports = imports_on e _ r.through (root_of e n).owner (owner.Library l) r.imports brings; joined = r.joined })
 
 -- whom an importer of a library reaches, the library reaches
 pub reach : (p : PartsRow) → Sound p → (n d : ℕ) → (root (image_of p) n).origin ≡ Listing kind.Library

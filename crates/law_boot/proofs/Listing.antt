@@ -2,6 +2,7 @@
 use Rattle.std.proofs.Common.{ℕ, zero, suc, ◌≡◌, ◌+◌, ◌-◌, ◌≤◌, ◌<◌, inl, inr, [], ◌∷◌, ◌++◌, length, Some, None, slice_get, refl, ap, ◌∙◌, arith, length-append}
 use Rattle.std.proofs.lemmas.Option.{slice_get_past}
 use Rattle.law_lists.proofs.Tests.{lt_tells}
+use Rattle.law_lists.proofs.Places.{present}
 use Rattle.def_memory.specs.Granules.{plain}
 use Rattle.def_reach.specs.Roots.{root_of, gate_for, listed_root}
 use Rattle.def_image.specs.Parts.{CodeRow, CompartmentRow, ThreadRow, PartsRow}
@@ -12,7 +13,7 @@ use Rattle.def_boot.specs.Gates.{gates_of, entries_of}
 use Rattle.def_boot.specs.Made.{caps_at_boot}
 use Rattle.def_boot.specs.Rows.{EntryIs, is_nothing, is_trusted, is_code, is_globals, is_slot, is_export, is_library, is_library_slot, is_library_export, is_stack}
 use Rattle.law_boot.proofs.Gates.{stack_gate, zero_gate}
-use Rattle.law_boot.proofs.Blocks.{present, place_in, rows_count}
+use Rattle.law_boot.proofs.Blocks.{place_in, rows_count}
 use Rattle.law_boot.proofs.Standing.{after_libraries, stack_count_is, made_past, compartment_of, library_of, stack_of, gate_number_is, library_gate_number_is}
 
 own_is : (p : PartsRow) (n b : ℕ) (c : CompartmentRow) (j : ℕ) → slice_get p.compartments b ≡ Some c → j < compartment_entries c → n ≡ code_number p b + j → EntryIs p n

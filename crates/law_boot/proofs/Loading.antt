@@ -3,6 +3,7 @@ use Rattle.std.proofs.Common.{ℕ, ◌≡◌, ◌+◌, ◌-◌, ◌*◌, ◌/◌
 use Rattle.std.proofs.lemmas.Bool.{eqb-true}
 use Rattle.std.proofs.lemmas.Option.{slice_get_within}
 use Rattle.law_lists.proofs.Tests.{lt_tells}
+use Rattle.law_lists.proofs.Places.{present}
 use Rattle.ct_entry.specs.declared.rows.Owner.{Owner}
 use Rattle.ct_entry.specs.declared.rows.Owner.TheVariants.{Compartment, Library}
 use Rattle.def_profile.specs.declared.layout.TheConstants.{SLOT_SIZE}
@@ -13,7 +14,7 @@ use Rattle.def_words.specs.Permissions.{bit, load_data, memory_capability}
 use Rattle.def_words.specs.Seals.{cap_seal}
 use Rattle.def_reach.specs.Roots.{Root, Listing, root_of, no_gate, is_stack as for_stack, is_owned}
 use Rattle.def_reach.specs.Sharing.{Reaches}
-use Rattle.def_machine.specs.Image.{Region, root, made_cap, booted, granule_of, address_of}
+use Rattle.def_machine.specs.Image.{root, made_cap, booted, granule_of, address_of}
 use Rattle.def_machine.specs.Image as image
 use Rattle.def_confined.specs.Partitioned.{Loads, BootHeld}
 use Rattle.def_image.specs.declared.ImportRow.{ImportRow}
@@ -32,7 +33,6 @@ use Rattle.def_boot.specs.Boot.{image_of}
 use Rattle.def_boot.specs.Rows.{HasRow, EntryIs, is_nothing, is_trusted, is_code, is_globals, is_slot, is_export, is_library, is_library_slot, is_library_export, is_stack}
 use Rattle.law_boot.proofs.Listing.{entry_of}
 use Rattle.law_boot.proofs.Standing.{compartment_of, library_of, slot_owner}
-use Rattle.law_boot.proofs.Blocks.{present}
 use Rattle.law_boot.proofs.Regions.{Among, code_there, globals_there, library_there, sealed_there, shared_there, stack_there}
 use Rattle.law_boot.proofs.Sets.{clash_of, no_way}
 use Rattle.law_boot.proofs.Making.{device_base_is}

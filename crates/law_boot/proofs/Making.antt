@@ -1,5 +1,5 @@
 -- What boot makes: each capability is exactly what its entry says.
-use Rattle.std.proofs.Common.{ℕ, ◌≡◌, ◌≢◌, ◌+◌, ◌%◌, ◌^◌, ◌≤◌, ◌<◌, inl, inr, true, false, max, nat_eq, Some, option_map, unwrap_or, slice_get, refl, sym, ap, ◌∙◌, subst, arith, lit<, lit≤}
+use Rattle.std.proofs.Common.{ℕ, ◌≡◌, ◌≢◌, ◌+◌, ◌%◌, ◌^◌, ◌≤◌, ◌<◌, inl, inr, true, false, nat_eq, Some, option_map, unwrap_or, slice_get, refl, sym, ap, ◌∙◌, subst, arith, lit<, lit≤}
 use Rattle.std.proofs.lemmas.Bool.{eqb-true}
 use Rattle.std.proofs.lemmas.Option.{slice_get_within}
 use Rattle.def_profile.specs.declared.bounds.TheConstants.{MOST_UNITS}
@@ -9,22 +9,20 @@ use Rattle.ct_entry.specs.declared.rows.Entry.{Entry}
 use Rattle.ct_entry.specs.declared.rows.Gate.{Gate}
 use Rattle.ct_entry.specs.declared.rows.Mode.{Mode}
 use Rattle.ct_entry.specs.declared.rows.Mode.TheVariants.{Inherit, Disabled, Enabled}
-use Rattle.def_profile.specs.declared.layout.TheConstants.{SLOT_SIZE, TABLE_ROW, DEVICE_SIZE, REGION_UNIT}
+use Rattle.def_profile.specs.declared.layout.TheConstants.{SLOT_SIZE, TABLE_ROW, DEVICE_SIZE}
 use Rattle.def_profile.specs.declared.native.TheConstants.{RETURN_ENTRY, NATIVE_LENGTH}
 use Rattle.def_profile.specs.declared.rights.TheConstants.{CODE_RIGHTS, GLOBALS_RIGHTS, STACK_RIGHTS, SERVICE_RIGHTS, SEALED_RIGHTS, EXPORT_RIGHTS, QUOTA_RIGHTS, KEY_RIGHTS}
 use Rattle.def_profile.specs.declared.seals.TheConstants.{SENTRY_INHERIT, SENTRY_DISABLE, SENTRY_ENABLE, RETURN_ENABLE, EXPORT_TYPE, QUOTA_TYPE, FIRST_KEY_TYPE, LAST_KEY_TYPE}
-use Rattle.def_words.specs.LeastBounds.{rounded_of, exponent_for}
+use Rattle.def_words.specs.LeastBounds.{rounded_of}
 use Rattle.def_words.specs.Permissions.{bit, execute}
 use Rattle.def_words.specs.Seals.{seal_type}
 use Rattle.def_words.specs.Derive.{derive, memory_root, executable_root, sealing_root}
 use Rattle.def_words.specs.Narrows.{IsMade}
 use Rattle.def_words.specs.Facts.{IsRoot, Spells, KindFits}
-use Rattle.law_words.proofs.Leasts.{ceil_above}
 use Rattle.law_words.proofs.Making.{derive_makes}
 use Rattle.law_words.proofs.Exacts.{exponent_zero, exact_base, exact_top, exact_flag}
 use Rattle.law_words.proofs.Bits.{apart}
 use Rattle.law_words.proofs.Rights.{memory_is_root, executable_is_root, sealing_is_root, taken}
-use Rattle.def_layout.specs.Placement.{least_multiple, whole_size, region_length}
 use Rattle.def_reach.specs.Roots.{gate_for}
 use Rattle.def_image.specs.declared.ImportRow.{ImportRow}
 use Rattle.def_image.specs.declared.SlotKind.{SlotKind}
@@ -41,27 +39,12 @@ use Rattle.law_boot.proofs.Standing.{library_of}
 use Rattle.def_boot.specs.Fits.{Lies, MadeAs, address_for, type_for}
 use Rattle.law_boot.proofs.Lying.{own_there, library_there, shared_there, sealed_there, stack_there}
 use Rattle.law_boot.proofs.Sets.{DataRights, RunRights, code_set, service_set, globals_set, sealed_set, export_set, quota_set, device_set, shared_set}
+use Rattle.law_layout.proofs.Placing.{size_fits}
 
 -- ---- bounds
 
 pub exact_short : (base size : ℕ) → size ≤ MOST_UNITS → (rounded_of base (base + size)).exact ≡ true
 exact_short base size few = exact_flag base (base + size) (exact_base base (base + size) (exponent_zero base size few)) (exact_top base (base + size) (exponent_zero base size few))
-
-multiple_above : (n : ℕ) → n ≤ least_multiple REGION_UNIT n
-multiple_above n = omega arith
-
-pub length_above : (n : ℕ) → n ≤ region_length n
-length_above n =
-    let unit = multiple_above n in
-    let rounded = ceil_above (whole_size n) (exponent_for 0 (whole_size n)) in
-    let most : least_multiple REGION_UNIT n ≤ whole_size n = larger (least_multiple REGION_UNIT n) in
-    chain n (least_multiple REGION_UNIT n) (whole_size n) (region_length n) unit most rounded
-  where
-    larger : (m : ℕ) → m ≤ max REGION_UNIT m
-    larger m = omega arith
-
-    chain : (a b c d : ℕ) → a ≤ b → b ≤ c → c ≤ d → a ≤ d
-    chain a b c d x y z = omega (arith, x, y, z)
 
 -- ---- types
 
@@ -158,7 +141,7 @@ module _ (p : PartsRow) (s : Sound p) where
   gate_in b c j x is there =
       let lies = (own_there p s b c is).table in
       let few = slice_get_within c.code.exports j x there in
-      let size : table_size c.code ≤ table_length c = length_above (table_size c.code) in
+      let size : table_size c.code ≤ table_length c = size_fits (table_size c.code) in
       let low = lies.low in
       let high = lies.high in
       (omega (arith, low), omega (arith, high, size, few))

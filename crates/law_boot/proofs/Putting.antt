@@ -6,7 +6,7 @@ use Rattle.ct_entry.specs.declared.rows.Owner.TheVariants.{Compartment, Library}
 use Rattle.def_words.specs.declared.Cap.{Cap}
 use Rattle.def_memory.specs.Granules.{plain}
 use Rattle.def_image.specs.Parts.{SlotRow, GateRow, SealedRow, CodeRow, CompartmentRow, PartsRow}
-use Rattle.def_image.specs.Members.{no_compartment, no_code, no_sealed, compartment, library, sealed, text_base, gate_address, code_number, globals_number, library_number}
+use Rattle.def_image.specs.Members.{no_sealed, compartment, library, sealed, text_base, gate_address, code_number, globals_number, library_number}
 use Rattle.def_image.specs.Regions.{CodeOf, TableOf, GlobalsOf, SealedOf, TrustedPart, table_size, table_length, trusted_size, trusted_length}
 use Rattle.def_image.specs.Spelling.{export_field}
 use Rattle.def_image.specs.Sound.{Sound, CodeFits}
@@ -14,20 +14,15 @@ use Rattle.def_boot.specs.Contents.{code_content, table_content, gate_word, word
 use Rattle.def_boot.specs.Made.{boot_cap_of, return_sentry}
 use Rattle.def_boot.specs.Rows.{slot_number, library_slot_number}
 use Rattle.law_boot.proofs.Regions.{code_there, table_there, globals_there, library_there, sealed_there}
-use Rattle.law_boot.proofs.Making.{length_above}
 use Rattle.def_boot.specs.Booting.{BootPuts, PutsBytes}
 use Rattle.law_boot.proofs.BootWordsRegions.{trusted_there, at_offset}
+use Rattle.law_layout.proofs.Placing.{size_fits}
+use Rattle.law_image.proofs.Sounds.{compartment_is, library_is}
 
 -- ---- the same at another name of the address and of what is put there
 
 puts_as : (p : PartsRow) (x y : ℕ) (c d : Cap) → x ≡ y → c ≡ d → BootPuts p x c → BootPuts p y d
 puts_as p x y c d place what h = subst (λ z. BootPuts p z d) place (subst (λ z. BootPuts p x z) what h)
-
-pub compartment_is : (p : PartsRow) (b : ℕ) (c : CompartmentRow) → slice_get p.compartments b ≡ Some c → compartment p b ≡ c
-compartment_is p b c there = ap (λ o. unwrap_or o no_compartment) there
-
-pub library_is : (p : PartsRow) (l : ℕ) (c : CodeRow) → slice_get p.libraries l ≡ Some c → library p l ≡ c
-library_is p l c there = ap (λ o. unwrap_or o no_code) there
 
 pub sealed_is : (p : PartsRow) (n : ℕ) (s : SealedRow) → slice_get p.sealed n ≡ Some s → sealed p n ≡ s
 sealed_is p n s there = ap (λ o. unwrap_or o no_sealed) there
@@ -104,7 +99,7 @@ row_content p b c j x m there export lt =
     ∙ ap (λ n. plain (word_from_bytes (export_field x.row) n)) offset
 
 table_long : (c : CompartmentRow) → 16 + 16 * length c.code.exports ≤ table_length c
-table_long c = length_above (table_size c.code)
+table_long c = size_fits (table_size c.code)
 
 pub puts_code : (p : PartsRow) → Sound p → (b : ℕ) (c : CompartmentRow) → slice_get p.compartments b ≡ Some c → BootPuts p c.table (boot_cap_of p (code_number p b))
 puts_code p sound b c there =
@@ -145,5 +140,5 @@ puts_sealed p sound n s there w lt =
 
 pub puts_sentry : (p : PartsRow) → Sound p → BootPuts p p.trusted return_sentry
 puts_sentry p sound =
-    let long : 16 ≤ trusted_length p = (let above = length_above (trusted_size p.threads) in omega (arith, above)) in
+    let long : 16 ≤ trusted_length p = (let above = size_fits (trusted_size p.threads) in omega (arith, above)) in
     puts_as p _ _ _ _ (omega arith) refl (at_offset p sound TrustedPart p.trusted (trusted_length p) 0 (trusted_there p) (omega (arith, long)) refl)

@@ -13,9 +13,7 @@ use Rattle.def_boot.specs.Boot.{image_of}
 use Rattle.def_boot.specs.Entries.{entry_rows}
 use Rattle.def_boot.specs.Made.{entry_cap, code_cap, entry_caps, caps_at_boot, boot_cap_of, return_sentry}
 use Rattle.law_words.proofs.Away.{derives_settle}
-
-plain_settled : (n : ℕ) → IsSettled (plain n)
-plain_settled n e = refl
+use Rattle.law_granules.proofs.Lists.{plain_settled}
 
 code_settled : (n : ℕ) (r : Entry) (o : Owner) → IsSettled (code_cap n r o)
 code_settled n r Trusted = plain_settled 0

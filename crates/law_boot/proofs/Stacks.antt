@@ -1,10 +1,11 @@
 -- The heap, and the stacks of threads.
-use Rattle.std.proofs.Common.{ℕ, ◌≡◌, ◌+◌, ◌-◌, ◌*◌, ◌/◌, ◌<◌, ◌≤◌, inl, inr, Bool, true, false, cond, nat_eq, length, Option, Some, None, slice_get, refl, sym, ap, ◌∙◌, subst, arith}
+use Rattle.std.proofs.Common.{ℕ, ◌≡◌, ◌+◌, ◌-◌, ◌*◌, ◌/◌, ◌<◌, ◌≤◌, inl, inr, Bool, true, false, cond, nat_eq, Option, Some, None, slice_get, refl, sym, ap, ◌∙◌, subst, arith}
 use Rattle.std.proofs.lemmas.Option.{slice_get_within}
 use Rattle.law_lists.proofs.Tests.{le_tells, lt_tells}
+use Rattle.law_lists.proofs.Places.{present}
 use Rattle.ct_entry.specs.declared.rows.Kind.TheVariants as kind
-use Rattle.def_reach.specs.Roots.{Root, TrustedPart, Listing, root_of, is_stack}
-use Rattle.def_machine.specs.Image.{Region, HeapRam, Bare, Stack, Fixed, Globals, Shared, root, address_of, granule_of, stack_entry, stack_base, stack_top}
+use Rattle.def_reach.specs.Roots.{Root, TrustedPart, Listing, root_of}
+use Rattle.def_machine.specs.Image.{Region, HeapRam, Bare, Stack, Fixed, root, address_of, granule_of, stack_entry, stack_base, stack_top}
 use Rattle.def_machine.specs.Image as image
 use Rattle.def_image.specs.Parts.{ThreadRow, PartsRow}
 use Rattle.def_image.specs.Regions.{Holder, CodeOf, TableOf, GlobalsOf, SharedOf, SealedOf, StackOf, RegionRow, region}
@@ -13,7 +14,6 @@ use Rattle.def_image.specs.Sound.{Sound}
 use Rattle.def_boot.specs.Contents.{part, part_at, part_of, granules_in, region_at, is_heap}
 use Rattle.def_boot.specs.Gates.{entries_of}
 use Rattle.def_boot.specs.Boot.{image_of}
-use Rattle.law_boot.proofs.Blocks.{present}
 use Rattle.law_boot.proofs.Standing.{stack_of}
 use Rattle.law_boot.proofs.Sets.{no_way}
 use Rattle.law_boot.proofs.Own.{stack_entry_is, few}

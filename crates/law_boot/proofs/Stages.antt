@@ -1,7 +1,7 @@
 -- RAM while it is booted, granule by granule, and at the end.
 use Rattle.std.proofs.Common.{ℕ, zero, suc, false, ◌+◌, ◌-◌, ◌*◌, ◌/◌, ◌%◌, ◌≡◌, ◌<◌, ◌≤◌, ◌⊎◌, ◌∙◌, inl, inr, List, [], ◌∷◌, Some, length, replicate, slice_get, refl, ap, sym, subst, arith}
 use Rattle.std.proofs.Math.ListN.{get_or, set}
-use Rattle.std.proofs.lemmas.List.{length-set}
+use Rattle.std.proofs.lemmas.List.{length-set, length-replicate}
 use Rattle.law_lists.proofs.Sets.{after_set_at}
 use Rattle.law_lists.proofs.Tests.{lt_tells}
 use Rattle.def_words.specs.declared.Cap.{Cap}
@@ -127,14 +127,10 @@ empty_at zero k = refl
 empty_at (suc n) zero = refl
 empty_at (suc n) (suc k) = empty_at n k
 
-empty_length : (n : ℕ) → length (replicate n nothing) ≡ n
-empty_length zero = refl
-empty_length (suc n) = ap (λ m. suc m) (empty_length n)
-
 pub empty_booting : (p : PartsRow) (gs : List Granule) → p.ram % 8 ≡ 0 → gs ≡ empty_granules p → Booting p gs
 empty_booting p gs even e =
     let P : List Granule → Type 0 = λ z. Booting p z in
-    subst P (sym e) (record { ram = even; size = empty_length (granules_in p); each = λ k. inr (empty_at (granules_in p) k) })
+    subst P (sym e) (record { ram = even; size = length-replicate (granules_in p) nothing; each = λ k. inr (empty_at (granules_in p) k) })
 
 same_lists : (xs ys : List Granule) → length xs ≡ length ys → ((k : ℕ) → k < length xs → get_or xs k nothing ≡ get_or ys k nothing) → xs ≡ ys
 same_lists [] [] e each = refl

@@ -10,7 +10,7 @@ use Rattle.ct_entry.specs.declared.rows.Gate.{Gate}
 use Rattle.def_profile.specs.declared.rights.TheConstants.{CODE_RIGHTS, SERVICE_RIGHTS, SEALED_RIGHTS, EXPORT_RIGHTS, QUOTA_RIGHTS, KEY_RIGHTS}
 use Rattle.def_words.specs.Permissions.{bit, store_data, memory_capability}
 use Rattle.def_reach.specs.Roots.{Root, root_of, no_gate}
-use Rattle.def_machine.specs.Image.{Region, Globals, Shared, Stack, root, granule_of, stack_entry}
+use Rattle.def_machine.specs.Image.{Region, Shared, root, granule_of}
 use Rattle.def_machine.specs.Image as image
 use Rattle.def_confined.specs.Partitioned.{Open, Carries}
 use Rattle.def_image.specs.declared.ImportRow.{ImportRow}

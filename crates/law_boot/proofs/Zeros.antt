@@ -15,7 +15,8 @@ use Rattle.law_boot.proofs.Found.{back}
 use Rattle.law_boot.proofs.Lists.{held}
 use Rattle.def_boot.specs.Written.{InCode, IsBootWritten}
 use Rattle.law_boot.proofs.Past.{word_past}
-use Rattle.law_boot.proofs.Putting.{compartment_is, library_is, sealed_is}
+use Rattle.law_boot.proofs.Putting.{sealed_is}
+use Rattle.law_image.proofs.Sounds.{compartment_is, library_is}
 
 -- ---- past the end of what stands in a region
 

@@ -2,18 +2,18 @@
 //! in memory. Functions with empty bodies whose contracts are the laws.
 #![tactic(auto)]
 
-mod boards;
-mod boots;
 mod facts;
+mod first_states;
 mod listed;
 mod partitioned;
 mod parts;
+mod platform;
 mod words;
 
-pub use boards::{boards_inside, boards_wired};
-pub use boots::{boot_partition, images_partitioned};
 pub use facts::facts_hold;
+pub use first_states::{boot_partition, images_partitioned};
 pub use listed::entries_are;
 pub use partitioned::rows_partition;
 pub use parts::{makes_stand, parts_lie};
+pub use platform::{boards_inside, boards_wired};
 pub use words::{else_zero, words_put};

@@ -2,6 +2,7 @@
 use Rattle.std.proofs.Common.{ℕ, ◌≡◌, ◌+◌, ◌-◌, ◌*◌, ◌/◌, ◌%◌, ◌≤◌, ◌<◌, inl, inr, false, List, length, refl, sym, ap, ◌∙◌, arith, subst}
 use Rattle.std.proofs.lemmas.Option.{slice_get_within}
 use Rattle.law_lists.proofs.Tests.{le_tells}
+use Rattle.law_lists.proofs.Places.{present}
 use Rattle.ct_entry.specs.Listed.{Listed}
 use Rattle.def_words.specs.declared.Cap.{Cap}
 use Rattle.def_memory.specs.declared.Granule.{Granule}
@@ -13,16 +14,14 @@ use Rattle.def_image.specs.Regions.{table_size, table_length}
 use Rattle.def_image.specs.Sound.{Sound}
 use Rattle.def_boot.specs.Boot.{image_of}
 use Rattle.def_boot.specs.Gates.{entries_of}
-use Rattle.def_boot.specs.Made.{boot_cap_of, caps_at_boot, return_sentry}
+use Rattle.def_boot.specs.Made.{boot_cap_of}
 use Rattle.def_machine.specs.Image.{made_cap, code_entry, globals_entry}
 use Rattle.def_machine.specs.State.{State}
 use Rattle.def_confined.specs.Confined.{Confined}
-use Rattle.law_boot.proofs.Blocks.{present}
 use Rattle.law_boot.proofs.Standing as standing
 use Rattle.law_boot.proofs.Putting.{puts_code, puts_globals}
 use Rattle.def_boot.specs.Fits.{ExportAt}
 use Rattle.law_boot.proofs.Lying.{own_there}
-use Rattle.law_boot.proofs.Making.{length_above}
 use Rattle.law_boot.proofs.Own.{code_stands, globals_stand, code_entry_is, globals_entry_is}
 use Rattle.ct_switch.specs.Exports.{IsCallable, callee_of, table_of}
 use Rattle.ct_engine.specs.declared.rows.Region.{Region}
@@ -32,6 +31,8 @@ use Rattle.ct_boot.specs.Placed.{IsPlaced}
 use Rattle.ct_boot.proofs.Placing.{heap_is, ram_is}
 use Rattle.law_callable.proofs.Rows.{table_is, callable}
 use Rattle.law_callable.proofs.Boots.{open_at, stands_at}
+use Rattle.law_layout.proofs.Placing.{size_fits}
+use Rattle.law_started.proofs.Grants.{sentry_is}
 
 pub entries_are : (p : PartsRow) → (image_of p).entries ≡ entries_of p
 unfolding image_of
@@ -40,10 +41,6 @@ entries_are p = refl
 made_is : (p : PartsRow) (k : ℕ) → made_cap (image_of p) k ≡ boot_cap_of p k
 unfolding image_of
 made_is p k = refl
-
-sentry_is : (p : PartsRow) → made_cap (image_of p) 0 ≡ return_sentry
-unfolding image_of caps_at_boot
-sentry_is p = refl
 
 -- in more RAM as much can be called
 wider : (e : Listed) (ram size more n : ℕ) → size ≤ more → IsCallable e ram size n → IsCallable e ram more n
@@ -93,7 +90,7 @@ module _ (p : PartsRow) (n : ℕ) (s : Sound p) (x : ExportAt p n) where
         let low = lies.low in
         let even = lies.even in
         let high = lies.high in
-        let long = length_above (table_size x.compartment.code) in
+        let long = size_fits (table_size x.compartment.code) in
         let base = s.ram.base in
         let ram = ram_there in
         let head = head_is in

@@ -1,11 +1,12 @@
 -- The exports of a compartment among the rows of an image.
 use Rattle.std.proofs.Common.{ℕ, zero, suc, ◌≡◌, ◌-◌, ◌&&◌, ◌<◌, ◌≤◌, inl, inr, Bool, true, false, List, [], ◌∷◌, length, Some, slice_get, refl, sym, ap, ◌∙◌, arith, subst}
 use Rattle.std.specs.Prelude.{find, unwrap_or}
-use Rattle.std.proofs.Math.ListN.{get_or}
 use Rattle.std.proofs.lemmas.Bool.{eqb-true, and_parts}
 use Rattle.std.proofs.lemmas.Option.{slice_get_within, slice_get_past, slice_get-get_or}
+use Rattle.std.proofs.lemmas.List.{get_or_default}
 use Rattle.law_lists.proofs.Tests.{bool_tells, eq_tells, lt_tells}
 use Rattle.law_lists.proofs.Finds.{find_is}
+use Rattle.law_lists.proofs.Places.{present}
 use Rattle.ct_entry.specs.declared.rows.Entry.{Entry}
 use Rattle.ct_entry.specs.declared.rows.Gate.{Gate}
 use Rattle.ct_entry.specs.declared.rows.Owner.{Owner}
@@ -18,20 +19,16 @@ use Rattle.def_image.specs.Parts.{GateRow, CompartmentRow, PartsRow}
 use Rattle.def_image.specs.Members.{gate_address, gate_number}
 use Rattle.def_image.specs.Regions.{table_size, table_length}
 use Rattle.def_image.specs.Sound.{Sound}
-use Rattle.def_boot.specs.Boot.{image_of}
 use Rattle.def_boot.specs.Entries.{slot_row, export_row, entry_rows}
 use Rattle.def_boot.specs.Gates.{gate, gates_of, entries_of}
-use Rattle.def_machine.specs.Image.{root}
 use Rattle.def_boot.specs.Rows.{HasRow, HasCompartment, EntryIs, is_nothing, is_trusted, is_code, is_globals, is_slot, is_export, is_library, is_library_slot, is_library_export, is_stack}
-use Rattle.law_boot.proofs.Blocks.{present}
 use Rattle.law_boot.proofs.Listing.{entry_of}
 use Rattle.law_boot.proofs.Standing as standing
 use Rattle.def_boot.specs.Fits.{Lies, ExportAt}
-use Rattle.law_boot.proofs.Imports.{named}
 use Rattle.law_boot.proofs.Lying.{own_there}
-use Rattle.law_boot.proofs.Making.{length_above}
 use Rattle.ct_entry.specs.Kinds.{is_export as is_export_kind}
 use Rattle.ct_switch.specs.Exports.{IsExport, AreTogether, HeadLies, IsCallable, no_row, row_at, is_compartment, is_export_of, table_of, callee_of}
+use Rattle.law_layout.proofs.Placing.{size_fits}
 
 -- ---- rows as roots
 
@@ -143,11 +140,6 @@ inside_rows b rows m passes = elim (lt_tells m (length rows)) [
   | inr e ↦ clash (sym (ap (λ r. is_export_of b r) (past_row rows m e.1)) ∙ passes)
 ]
 
-any_row : (rows : List Entry) (k : ℕ) (d e : Entry) → k < length rows → get_or rows k d ≡ get_or rows k e
-any_row [] k d e lt = absurd (omega (arith, lt))
-any_row (r ∷ rs) zero d e lt = refl
-any_row (r ∷ rs) (suc k) d e lt = any_row rs k d e (omega (arith, lt))
-
 row_base : (p : PartsRow) (m n : ℕ) (r : Entry) (g : Gate) → m < length (entry_rows p) → suc m ≡ n → HasRow p n r g → (row_at (entry_rows p) m).base ≡ r.base
 unfolding root_of entries_of
 row_base p m n r g lt at has =
@@ -165,9 +157,9 @@ table_is p b c x has there =
     let found : find (λ z. is_export_of b z) (entry_rows p) ≡ Some (row_at (entry_rows p) place) = find_is (λ z. is_export_of b z) (entry_rows p) (row_at (entry_rows p) place) (record {
       place = place;
       inside = lt;
-      is = any_row (entry_rows p) place r no_row lt;
+      is = get_or_default (entry_rows p) place r no_row lt;
       passes = passes;
-      before = λ k less. ap (λ z. is_export_of b z) (any_row (entry_rows p) k r no_row (omega (arith, less, lt))) ∙ first k less at;
+      before = λ k less. ap (λ z. is_export_of b z) (get_or_default (entry_rows p) k r no_row (omega (arith, less, lt))) ∙ first k less at;
     }) in
     let base : (row_at (entry_rows p) place).base ≡ gate_address c 0 = row_base p place (gate_number p b 0) _ _ lt at (has.export 0 x there) in
     ap (λ o. (unwrap_or o no_row).base - 16) found ∙ ap (λ n. n - 16) base ∙ (let back : gate_address c 0 - 16 ≡ c.table = omega arith in back)
@@ -187,7 +179,7 @@ head_lies p b c s lies is =
     let base = s.ram.base in
     let high = lies.high in
     let inside = s.heap.inside in
-    let long = length_above (table_size c.code) in
+    let long = size_fits (table_size c.code) in
     subst (λ t. HeadLies p.ram p.size t) (sym is) (record { low = lies.low; even = omega (arith, even, base); high = omega (arith, high, inside, long) })
 
 by_home : (p : PartsRow) (n b : ℕ) → callee_of (entries_of p) n ≡ b → 1 ≤ n → is_export_of b (row_at (entry_rows p) (n - 1)) ≡ true

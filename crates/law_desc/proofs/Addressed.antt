@@ -1,9 +1,10 @@
 -- F10: what the addresses of devices and RAM say.
 use Rattle.std.proofs.Common.{ℕ, zero, suc, ◌≡◌, ◌+◌, ◌%◌, ◌==◌, ◌&&◌, ◌||◌, not, Bool, true, false, cond, nat_eq, List, [], ◌∷◌, ◌++◌, length, Some, None, slice_get, refl, sym, ap, ap₂, ◌∙◌, subst, arith, inl, inr}
 use Rattle.std.specs.List.{AllByRecursion, list_any}
-use Rattle.std.proofs.lemmas.Bool.{eqb-true, not-false}
+use Rattle.std.proofs.lemmas.Bool.{eqb-true, not-false, or_parts}
 use Rattle.ct_entry.specs.Listed.{DeviceRow}
 use Rattle.law_lists.proofs.Tests.{lt_tells}
+use Rattle.law_lists.proofs.Places.{any_not, still_there}
 use Rattle.def_image.specs.Sound.{IsAway}
 use Rattle.def_desc.specs.declared.Ram.{Ram}
 use Rattle.def_desc.specs.declared.faults.PartWord.TheVariants as part
@@ -11,7 +12,7 @@ use Rattle.def_desc.specs.Rows.{DescRow}
 use Rattle.def_desc.specs.Walk.{place}
 use Rattle.def_desc.specs.Addresses.{meets, meets_native, meets_device, is_astray, first_astray, address_fault}
 use Rattle.def_desc.specs.Lawful.{AreApart}
-use Rattle.law_desc.proofs.Lists.{or_left, or_right, any_not, still_there, at_the_end}
+use Rattle.law_desc.proofs.Lists.{at_the_end}
 
 away : (a m b n : ℕ) → meets a m b n ≡ false → IsAway a m b (b + n)
 away a m b n e = elim (lt_tells a (b + n)) [
@@ -48,12 +49,12 @@ placed_one r earlier x e =
     let b = meets x.base 16 r.base r.size in
     let c = list_any (meets_device x.base) earlier in
     let d = meets_native x.base 16 in
-    let abc = or_left (a || b || c) d e in
-    let ab = or_left (a || b) c abc in
+    let abc = (or_parts (a || b || c) d e).0 in
+    let ab = (or_parts (a || b) c abc).0 in
     record {
-      even = eqb-true (x.base % 16) 0 (not-false (nat_eq (x.base % 16) 0) (or_left a b ab));
-      ram = away x.base 16 r.base r.size (or_right a b ab);
-      native = away x.base 16 65536 4096 (or_right (a || b || c) d e);
+      even = eqb-true (x.base % 16) 0 (not-false (nat_eq (x.base % 16) 0) (or_parts a b ab).0);
+      ram = away x.base 16 r.base r.size (or_parts a b ab).1;
+      native = away x.base 16 65536 4096 (or_parts (a || b || c) d e).1;
     }
 
 alone : (r : Ram) (earlier : List DeviceRow) (x : DeviceRow) → is_astray r earlier x ≡ false → list_any (meets_device x.base) earlier ≡ false
@@ -61,7 +62,7 @@ alone r earlier x e =
     let a = not (x.base % 16 == 0) in
     let b = meets x.base 16 r.base r.size in
     let c = list_any (meets_device x.base) earlier in
-    or_right (a || b) c (or_left (a || b || c) (meets_native x.base 16) e)
+    (or_parts (a || b) c (or_parts (a || b || c) (meets_native x.base 16) e).0).1
 
 all_placed : (r : Ram) (earlier xs : List DeviceRow) → first_astray r earlier xs ≡ None → AllByRecursion (Placed r) xs
 all_placed r earlier [] e = tt

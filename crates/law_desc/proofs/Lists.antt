@@ -1,10 +1,9 @@
 -- Lists whose elements all have a property, and lists of names.
 use Rattle.std.proofs.Common.{ℕ, zero, suc, ◌≡◌, Bool, true, false, cond, ◌||◌, List, [], ◌∷◌, ◌++◌, map, Some, None, slice_get, refl, sym, ap, ◌∙◌, subst}
-use Rattle.std.specs.List.{AllByRecursion, list_all, list_any, flat_map}
+use Rattle.std.specs.List.{AllByRecursion, list_all, flat_map}
 use Rattle.std.specs.Prelude.{⊤, bytes_eq, option_map}
-use Rattle.std.proofs.lemmas.Slice.Eq.{bytes_eq-Decides}
 use Rattle.std.proofs.lemmas.Option.{slice_get-map}
-use Rattle.law_lists.proofs.Tests.{both_left, both_right}
+use Rattle.law_lists.proofs.Tests.{both_left, both_right, same_bytes, own_bytes}
 use Rattle.def_texts.specs.Names.{among, with_name}
 use Rattle.def_desc.specs.Lawful.{Has}
 
@@ -13,10 +12,6 @@ use Rattle.def_desc.specs.Lawful.{Has}
 pub all_tested : {A : Type 0} (test : A → Bool) (xs : List A) → list_all test xs ≡ true → AllByRecursion (λ x. test x ≡ true) xs
 all_tested test [] e = tt
 all_tested test (x ∷ xs) e = (both_left (test x) (list_all test xs) e, all_tested test xs (both_right (test x) (list_all test xs) e))
-
-pub map_twice : {A B C : Type 0} (g : B → C) (f : A → B) (xs : List A) → map g (map f xs) ≡ map (λ x. g (f x)) xs
-map_twice g f [] = refl
-map_twice g f (x ∷ xs) = ap (λ l. g (f x) ∷ l) (map_twice g f xs)
 
 -- ---- an element
 
@@ -35,12 +30,6 @@ later_maps : {A B : Type 0} (f : A → B) (x : A) (xs : List A) (y : B) → Maps
 later_maps f x xs y h = record { from = h.from; listed = has_later x xs h.from h.listed; gives = h.gives }
 
 -- ---- names
-
-pub same_bytes : (a b : List ℕ) → bytes_eq a b ≡ true → a ≡ b
-same_bytes a b e = (bytes_eq-Decides a b).0 e
-
-pub own_bytes : (a : List ℕ) → bytes_eq a a ≡ true
-own_bytes a = (bytes_eq-Decides a a).1 refl
 
 -- the element that gives a name of a list
 pub among_maps : {A : Type 0} (f : A → List ℕ) (n : List ℕ) (xs : List A) → among n (map f xs) ≡ true → MapsTo f xs n
@@ -119,25 +108,6 @@ fresh_once seen (k ∷ ks) h (suc i) zero n a b = absurd (let same : k ≡ n = c
 fresh_once seen (k ∷ ks) h (suc i) (suc j) n a b = ap suc (fresh_once (with_name seen k) ks h.1 i j n a b)
 
 -- ---- tests that no element passes
-
-pub or_left : (a b : Bool) → (a || b) ≡ false → a ≡ false
-or_left true b e = absurd (let no : true ≡ false = e in cc)
-or_left false b e = refl
-
-pub or_right : (a b : Bool) → (a || b) ≡ false → b ≡ false
-or_right true b e = absurd (let no : true ≡ false = e in cc)
-or_right false b e = e
-
-pub any_not : {A : Type 0} (f : A → Bool) (xs : List A) (i : ℕ) (x : A) → list_any f xs ≡ false → slice_get xs i ≡ Some x → f x ≡ false
-any_not f [] i x e is = absurd (let no : None ≡ Some x = is in cc)
-any_not f (y ∷ ys) zero x e is = let same : y ≡ x = cc in subst (λ z. f z ≡ false) same (or_left (f y) (list_any f ys) e)
-any_not f (y ∷ ys) (suc i) x e is = any_not f ys i x (or_right (f y) (list_any f ys) e) is
-
--- an element of a list is there where the list goes on, and the next one stands at its end
-pub still_there : {A : Type 0} (xs ys : List A) (i : ℕ) (x : A) → slice_get xs i ≡ Some x → slice_get (xs ++ ys) i ≡ Some x
-still_there [] ys i x is = absurd (let no : None ≡ Some x = is in cc)
-still_there (z ∷ zs) ys zero x is = is
-still_there (z ∷ zs) ys (suc i) x is = still_there zs ys i x is
 
 pub at_the_end : {A : Type 0} (xs : List A) (x : A) → Has (xs ++ x ∷ []) x
 at_the_end [] x = (zero, refl)

@@ -3,6 +3,7 @@ use Rattle.std.proofs.Common.{ℕ, ◌≡◌, ◌+◌, Bool, true, false, List, 
 use Rattle.std.specs.Prelude.{codes}
 use Rattle.std.specs.List.{AllByRecursion}
 use Rattle.std.specs.Fmt.{digits}
+use Rattle.std.proofs.lemmas.Simd.{map-map}
 use Rattle.serde_json.specs.Data.{Data}
 use Rattle.ct_entry.specs.Listed.{DeviceRow}
 use Rattle.law_lists.proofs.Alls.{all_joined, all_mapped, all_so}
@@ -21,7 +22,7 @@ use Rattle.def_desc.specs.Reading.{device_of, shared_of, sealed_of, compartment_
 use Rattle.def_desc.specs.Rows.{SharedRow, SealedRow, ImportRow, QuotaRow, ExportRow, CompartmentRow, LimportRow, LexportRow, LibraryRow, ThreadRow}
 use Rattle.def_desc.specs.Named.{device_names, shared_names, sealed_names, owner_names, slot_names, export_names, library_slot_names, library_export_names}
 use Rattle.def_desc.specs.Lawful.{AreNames}
-use Rattle.law_desc.proofs.Lists.{Fresh, fresh_once, map_twice}
+use Rattle.law_desc.proofs.Lists.{Fresh, fresh_once}
 use Rattle.law_desc.proofs.Walked.{Good, At, In, Walked, InCompartment, InLibrary}
 use Rattle.law_desc.proofs.Spaces.{Kept, IsSpace, AreOthers, Segment, fresh_in, taken_by, inside_taken, whole_taken}
 
@@ -164,7 +165,7 @@ owners_fresh d e =
     (outer_fresh (λ (m : Spaces). m.owners) is_owner owners_space d refl refl (tt, (tt, (tt, ((refl, (refl, (refl, (refl, tt)))), ((refl, (refl, tt)), (tt, tt)))))) e)
 
 names_so : {A : Type 0} (name : A → List ℕ) (read : Data → A) (xs : List Data) → AreNames (map (λ x. name (read x)) xs) → AreNames (map name (map read xs))
-names_so name read xs h = subst AreNames (sym (map_twice name read xs)) h
+names_so name read xs h = subst AreNames (sym (map-map name read xs)) h
 
 pub outer_names : (d : Data) → Walked (Good d) d → first_twice no_names (spots_of d) ≡ None → OuterNames d
 outer_names d w e =
@@ -179,7 +180,7 @@ outer_names d w e =
           (named_by (map name (list_at (codes "shared") d)) (shared_fresh d e) (formed_of (At (Good d) part.Shared d) name (list_at (codes "shared") d) (λ x h. h.itself.named) w.shared));
       sealed = names_so (λ (x : SealedRow). x.name) sealed_of (list_at (codes "sealed") d)
           (named_by (map name (list_at (codes "sealed") d)) (sealed_fresh d e) (formed_of (At (Good d) part.Sealed d) name (list_at (codes "sealed") d) (λ x h. h.itself.named) w.sealed));
-      owners = rw (map_twice (λ (x : CompartmentRow). x.name) compartment_of c, map_twice (λ (x : LibraryRow). x.name) library_of l, map_twice (λ (x : ThreadRow). x.name) thread_of t)
+      owners = rw (map-map (λ (x : CompartmentRow). x.name) compartment_of c, map-map (λ (x : LibraryRow). x.name) library_of l, map-map (λ (x : ThreadRow). x.name) thread_of t)
           (named_by (map name c ++ map name l ++ map name t) (owners_fresh d e)
           (all_joined (λ n. is_name n ≡ true) (map name c ++ map name l) (map name t)
           (all_joined (λ n. is_name n ≡ true) (map name c) (map name l)
@@ -256,7 +257,7 @@ slots_named d x i s h keys =
     let an = map (text_or (codes "as")) a in
     let bn = map (text_or (codes "name")) b in
     let cn = map (λ k. key_name (number_in k)) c in
-    rw (map_twice (λ (r : ImportRow). r.alias) import_of a, map_twice (λ (r : QuotaRow). r.name) quota_of b, map_twice key_name number_in c)
+    rw (map-map (λ (r : ImportRow). r.alias) import_of a, map-map (λ (r : QuotaRow). r.name) quota_of b, map-map key_name number_in c)
     (named_by (codes "switch" ∷ an ++ bn ++ cn) (slots_fresh x s) (
       refl,
       all_joined (λ n. is_name n ≡ true) (an ++ bn) cn

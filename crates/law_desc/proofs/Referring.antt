@@ -3,6 +3,7 @@ use Rattle.std.proofs.Common.{ℕ, ◌≡◌, ◌+◌, ◌≤◌, ◌==◌, Bool
 use Rattle.std.specs.Prelude.{codes, bytes_eq, option_and_then, is_some, unwrap_or}
 use Rattle.std.specs.List.{AllByRecursion}
 use Rattle.std.proofs.lemmas.Bool.{leb-true}
+use Rattle.std.proofs.lemmas.Simd.{map-map}
 use Rattle.serde_json.specs.Data.{Data}
 use Rattle.serde_json.specs.Find.{as_str}
 use Rattle.ct_entry.specs.Listed.{DeviceRow}
@@ -22,7 +23,7 @@ use Rattle.def_desc.specs.References.{target, target_or, names_at, export_name, 
 use Rattle.def_desc.specs.Rows.{Target, SharedRow, SealedRow}
 use Rattle.def_desc.specs.Named.{device_names, shared_names, sealed_names}
 use Rattle.def_desc.specs.Lawful.{Has, IsCallImport, IsLent, IsServed, Resolves}
-use Rattle.law_desc.proofs.Lists.{map_twice, has_mapped, among_maps, among_flat}
+use Rattle.law_desc.proofs.Lists.{has_mapped, among_maps, among_flat}
 
 -- ---- tables
 
@@ -81,7 +82,7 @@ full_name owner x = export_name (text_or (codes "name") owner) (text_or (codes "
 
 exports_are : (owner : Data) → exports_in owner ≡ map (full_name owner) (list_at (codes "exports") owner)
 unfolding full_name
-exports_are owner = map_twice (export_name (text_or (codes "name") owner)) (text_or (codes "name")) (list_at (codes "exports") owner)
+exports_are owner = map-map (export_name (text_or (codes "name") owner)) (text_or (codes "name")) (list_at (codes "exports") owner)
 
 pub call_there : (d : Data) (name : List ℕ) → among name (exports_at (codes "compartments") d) ≡ true → IsCallImport (description_of d) name
 unfolding full_name

@@ -6,4 +6,8 @@ mod answers;
 mod samples;
 mod wellformed;
 
+pub use answers::one_or_the_other;
+pub use samples::{
+    board_is_well_formed, faults_of_form, faults_of_meaning, great_numbers, small_descriptions,
+};
 pub use wellformed::well_formed_is_lawful;

@@ -1,20 +1,18 @@
 -- Jumps, picks, stops and the clockwork's course, whole.
-use Rattle.std.proofs.Common.{ℕ, ◌≡◌, [], Some, None, refl, sym, ◌∙◌, arith}
-use Rattle.std.proofs.lemmas.List.{length-map}
+use Rattle.std.proofs.Common.{ℕ, ◌≡◌, [], Some, None, refl, ◌∙◌, arith}
 use Rattle.def_words.specs.declared.Cap.{Cap}
 use Rattle.def_words.specs.declared.Posture.{Posture}
 use Rattle.def_machine.specs.Image.{Image}
 use Rattle.def_machine.specs.State.{State, thread}
-use Rattle.def_machine.specs.Memory.{filtered}
 use Rattle.def_machine.specs.Threads.{Clockwork, changed, jumped, picked}
 use Rattle.def_confined.specs.Changes.{Jumps}
-use Rattle.def_confined.specs.Keeps.{Beside, Keeps}
+use Rattle.def_confined.specs.Keeps.{Keeps}
 use Rattle.def_confined.specs.Partitioned.{Partitioned}
 use Rattle.law_moves.proofs.Turns.{beside_confined}
 use Rattle.law_moves.proofs.JumpsMoves.{jumps_confined}
 use Rattle.def_confined.specs.Clock.{with_clock}
 use Rattle.law_moves.proofs.TurnsMoves.{pick_confined, clock_confined}
-use Rattle.law_moves.proofs.SweepsMoves.{ThreadLeft, ram_same, running_left, moved_beside, clock_beside, stopped_beside}
+use Rattle.law_moves.proofs.SweepsMoves.{ram_same, running_left, moved_beside, clock_beside, stopped_beside, picked_left}
 use Rattle.law_moves.proofs.Threads.{written_length}
 
 pub jump_keeps : (i : Image) (s : State) (t to : ℕ) (pcc : Cap) (posture : Posture) (link : Cap) (w : Clockwork) → Keeps i s → s.running ≡ Some t → ((thread s t).frames ≡ [] → ⊥) → Jumps i s t pcc posture link
@@ -24,19 +22,6 @@ jump_keeps i s t to pcc posture link w k runs some j = record {
   beside = moved_beside i s t s.granules (jumped (thread s t) pcc posture to link) s.running w (ram_same i s)
       (running_left i s t (jumped (thread s t) pcc posture to link) runs refl (omega (arith, k.beside.bounded.few t, written_length (thread s t).registers to link)) (λ e. record { over = e.over; none = λ none. absurd (some none) }) k.beside)
       k.beside;
-}
-
--- where none ran, a thread may be picked
-picked_left : (i : Image) (s : State) (t : ℕ) → s.running ≡ None → Beside i s → ThreadLeft i s t (picked i s (thread s t)) (Some t)
-picked_left i s t idle h = record {
-  sweeps = λ w. record {
-    frames = w.frames t;
-    registers = λ stops. absurd (stops refl);
-    others = λ u other stops is. let clash : None ≡ Some u = sym idle ∙ is in cc;
-  };
-  deep = h.bounded.deep t;
-  few = omega (arith, h.bounded.few t, length-map (thread s t).registers (filtered i s));
-  ends = λ e. record { over = e.over; none = e.none };
 }
 
 pub pick_keeps : (i : Image) (s : State) (t : ℕ) (w : Clockwork) → Partitioned i → Keeps i s → s.running ≡ None → Keeps i (changed s t (picked i s (thread s t)) (Some t) w)

@@ -69,7 +69,7 @@ pub record StorePasses (a : Access) (x : Cap) (at : ℕ) (carries : Bool) : Type
   pub high : at + a.width ≤ cap_top x
   pub aligned : at % a.width ≡ 0
 
-range_says : (x : Cap) (from to : ℕ) → is_range_inside x from to ≡ true → (cap_base x ≤ from) × (to ≤ cap_top x)
+pub range_says : (x : Cap) (from to : ℕ) → is_range_inside x from to ≡ true → (cap_base x ≤ from) × (to ≤ cap_top x)
 range_says x from to e = let ends = and_parts (nat_le (cap_base x) from) (nat_le to (cap_top x)) e in (leb-true (cap_base x) from ends.0, leb-true to (cap_top x) ends.1)
 
 pub load_passes : (a : Access) (x : Cap) (at : ℕ) → AllPass (load_checks a x at) → LoadPasses a x at

@@ -1,10 +1,8 @@
 -- How a handler begins.
 use Rattle.std.proofs.Common.{ℕ, zero, suc, ◌≡◌, ◌+◌, ◌/◌, ◌-◌, ◌≤◌, ◌<◌, ◌⊎◌, true, false, inl, inr, List, [], ◌∷◌, length, refl, sym, ap, ◌∙◌, subst, arith, slice_set}
-use Rattle.std.proofs.Math.ListN.{get_or}
 use Rattle.std.proofs.lemmas.Bool.{cases_eq}
-use Rattle.std.proofs.lemmas.List.{get_or_past, get_or-set_same}
+use Rattle.std.proofs.lemmas.List.{get_or-set_same}
 use Rattle.law_lists.proofs.Sets.{after_set_split}
-use Rattle.law_lists.proofs.Tests.{lt_tells}
 use Rattle.ct_entry.specs.declared.rows.Kind.TheVariants as kind
 use Rattle.ct_entry.specs.declared.rows.Owner.TheVariants.{Compartment}
 use Rattle.def_words.specs.declared.Cap.{Cap}
@@ -12,7 +10,7 @@ use Rattle.def_words.specs.declared.Trap.{Trap}
 use Rattle.def_words.specs.Capability.{integer}
 use Rattle.def_memory.specs.declared.Granule.{Granule}
 use Rattle.def_memory.specs.Granules.{plain, granule_at, nothing}
-use Rattle.def_reach.specs.Roots.{TrustedPart, Listing, is_root, root_of}
+use Rattle.def_reach.specs.Roots.{Listing, is_root}
 use Rattle.def_machine.specs.Image.{Image, root, made_cap, globals_entry, stack_base}
 use Rattle.def_machine.specs.State.{State, Thread, Frame, thread, register, nobody}
 use Rattle.def_confined.specs.Confined.{Confined}
@@ -24,6 +22,9 @@ use Rattle.def_step.specs.Handlers.{record_end, record_words, words_written, han
 use Rattle.law_words.proofs.Lowered.{lowered}
 use Rattle.def_safety.specs.Handlers.{HandlerBegins, IsHanded}
 use Rattle.law_events.proofs.Entered.{Says, lies}
+use Rattle.law_moves.proofs.Cleans.{all_at}
+use Rattle.law_events.proofs.Cleans.{framed_there}
+use Rattle.law_events.proofs.Calling.{sentry_tagged}
 
 -- ---- words in a row
 
@@ -69,10 +70,6 @@ globals_there i b p facts owner =
       owned = λ code. absurd (let clash : Listing kind.Globals ≡ Listing kind.Code = sym own.kind_is ∙ code in cc);
     })
 
-sentry_there : (i : Image) → Facts i → (made_cap i 0).tag ≡ true
-unfolding root_of
-sentry_there i facts = facts.made 0 (record { rooted = refl; owned = λ code. absurd (let clash : TrustedPart ≡ Listing kind.Code = code in cc) })
-
 stack_there : (i : Image) (s : State) (t : ℕ) (f : Frame) → Says i s t f → (handler_stack (register (thread s t) 2)).tag ≡ true
 stack_there i s t f say =
     let room = say.room in
@@ -80,15 +77,6 @@ stack_there i s t f say =
     lowered (register (thread s t) 2) (record_end (register (thread s t) 2) - TRAP_RECORD) say.tagged say.unsealed (omega (arith, room, base)) (omega arith)
 
 -- ---- registers
-
-abbrev EachAt : (ℕ → Cap → Type 0) → List Cap → Type 0
-EachAt P [] = Unit {0}
-EachAt P (x ∷ xs) = P zero x × EachAt (λ n. P (suc n)) xs
-
-all_at : (P : ℕ → Cap → Type 0) (xs : List Cap) (z : Cap) → ((n : ℕ) → P n z) → EachAt P xs → (n : ℕ) → P n (get_or xs n z)
-all_at P [] z none h n = none n
-all_at P (x ∷ xs) z none h zero = h.0
-all_at P (x ∷ xs) z none h (suc n) = all_at (λ m. P (suc m)) xs z (λ m. none (suc m)) h.1 n
 
 abbrev HandedAt : Image → State → ℕ → ℕ → ℕ → Cap → Type 0
 HandedAt i s t b n c = c.tag ≡ true → IsHanded i s t b n c
@@ -108,14 +96,6 @@ registers_handed i s t why f fs n = all_at (HandedAt i s t f.actor) (handled i (
 
 -- ---- whole
 
-framed_there : (s : State) (t : ℕ) (f : Frame) (fs : List Frame) → (thread s t).frames ≡ f ∷ fs → t < length s.threads
-framed_there s t f fs e = elim (lt_tells t (length s.threads)) [
-  | inl is ↦ is.1
-  | inr past ↦
-      let none : thread s t ≡ nobody = get_or_past s.threads t nobody past.1 in
-      absurd (let clash : (f ∷ fs) ≡ [] = sym e ∙ ap (λ (z : Thread). z.frames) none in cc)
-]
-
 pub begins : (i : Image) (s : State) (t : ℕ) (why : Trap) (f : Frame) (fs : List Frame) → Partitioned i → Facts i → i.ram ≤ stack_base i t → Confined i s → (thread s t).frames ≡ f ∷ fs → Says i s t f
     → HandlerBegins i s t f fs (handler_entered i s t why f fs)
 begins i s t why f fs p facts above h frames say =
@@ -127,7 +107,7 @@ begins i s t why f fs p facts above h frames say =
     record {
       pcc = subst (λ (z : Thread). (z.pcc.tag ≡ true) × (z.pcc ≡ (handed i f.actor).pcc)) (sym there) ((facts.gates (handler_entry i f.actor) (facts.handlers f.actor say.some).kind_is).begins f.actor (facts.handlers f.actor say.some).owner_is, refl);
       tagged = subst (λ (z : Thread). ((register z 1).tag ≡ true) × ((register z 2).tag ≡ true) × ((register z 3).tag ≡ true)) (sym there)
-          (sentry_there i facts, stack_there i s t f say, globals_there i f.actor p facts (facts.handlers f.actor say.some).owner_is);
+          (sentry_tagged i facts, stack_there i s t f say, globals_there i f.actor p facts (facts.handlers f.actor say.some).owner_is);
       registers = subst (λ (z : Thread). (n : ℕ) → (register z n).tag ≡ true → IsHanded i s t f.actor n (register z n)) (sym there) (λ n. registers_handed i s t why f fs n);
       posture = ap (λ (z : Thread). z.posture) there;
       frames = ap (λ (z : Thread). z.frames) there;

@@ -1,12 +1,11 @@
 -- Every event leaves what is hidden zero.
 use Rattle.std.proofs.Common.{ℕ, zero, suc, ◌≡◌, ◌≤◌, ◌<◌, ◌+◌, ◌-◌, ◌*◌, ◌/◌, ◌&&◌, inl, inr, sym, subst, arith, true, false, not, nat_le, nat_lt, List, [], ◌∷◌, map, Option, Some, None, Result, Ok, Err, refl, ap, ◌∙◌}
-use Rattle.std.proofs.Math.ListN.{get_or}
 use Rattle.law_lists.proofs.Tests.{chosen, lt_tells}
 use Rattle.law_granules.proofs.Lists.{zeroed_at}
 use Rattle.def_words.specs.declared.Cap.{Cap}
 use Rattle.def_words.specs.declared.Trap.{Trap}
 use Rattle.def_memory.specs.declared.Granule.{Granule}
-use Rattle.def_memory.specs.Granules.{plain, nothing, granule_at}
+use Rattle.def_memory.specs.Granules.{plain, granule_at}
 use Rattle.def_memory.specs.Ranges.{zeroed_from}
 use Rattle.def_sched.specs.Picks.{pick}
 use Rattle.def_instr.specs.declared.Instr.{Instr}
@@ -17,7 +16,6 @@ use Rattle.def_machine.specs.Threads.{timed, statuses_of}
 use Rattle.def_machine.specs.Frames.{returned, ended_with}
 use Rattle.def_machine.specs.Memory.{filtered}
 use Rattle.def_machine.specs.Heap.{with_object, quarantined, freed, sliced, with_slice, slice_end, sweep_over, ram_size, ended_sweep, sweep_began, sweep_on}
-use Rattle.def_machine.specs.Slices.{marks_cleared}
 use Rattle.def_confined.specs.Changes.{Frees}
 use Rattle.def_confined.specs.Confined.{Confined, ObjectFits}
 use Rattle.def_confined.specs.Keeps.{Keeps}
@@ -52,6 +50,7 @@ use Rattle.def_reach.specs.Roots.{Listing}
 use Rattle.ct_entry.specs.declared.rows.Kind.TheVariants as kind
 use Rattle.law_events.proofs.Rows.{hidden_as, among_live, quarantine_live, painted_live, left_live}
 use Rattle.law_events.proofs.Stores.{BlankIn, Reaching, IfBlank, result_blank}
+use Rattle.law_moves.proofs.Ends.{unmarked_cap}
 
 -- ---- the heap
 
@@ -198,13 +197,8 @@ sliced_zero i s low high offset = chosen (λ z. z ≡ plain 0) (nat_le low offse
 slice_blank : (i : Image) (s : State) (low high : ℕ) → Blank i s → Blank i (with_slice i s low high)
 slice_blank i s low high h k hidden = granule_at_slice (λ (g : Granule). g.cap ≡ plain 0) i s low high 0 s.granules k refl (ap (sliced i s low high (0 + 8 * k)) (h k hidden) ∙ sliced_zero i s low high (0 + 8 * k))
 
-unmarked_cap : (i : Image) (rows : List Object) (x : ℕ) (gs : List Granule) (k : ℕ) → (get_or (marks_cleared rows x gs) k nothing).cap ≡ (get_or gs k nothing).cap
-unmarked_cap i rows x [] k = refl
-unmarked_cap i rows x (g ∷ gs) zero = refl
-unmarked_cap i rows x (g ∷ gs) (suc k) = unmarked_cap i rows (x + 8) gs k
-
 over_blank : (i : Image) (s : State) → Each (λ (r : Object). r.live ≡ true → r.painted ≡ false) s.objects → Blank i s → Blank i (sweep_over i s)
-over_blank i s fits h k hidden = unmarked_cap i s.objects i.ram s.granules k ∙ h k (hidden_as i s.objects (unpainted s.objects) k (λ lives. left_live s.objects (address_of i k) fits ∙ lives) hidden)
+over_blank i s fits h k hidden = unmarked_cap s.objects i.ram s.granules k ∙ h k (hidden_as i s.objects (unpainted s.objects) k (λ lives. left_live s.objects (address_of i k) fits ∙ lives) hidden)
 
 over_at : (i : Image) (s : State) (front : ℕ) → Each (λ (r : Object). r.live ≡ true → r.painted ≡ false) s.objects → Blank i s → Blank i (ended_sweep i s front)
 over_at i s front fits h = chosen (Blank i) (nat_le (ram_size s) front) (sweep_over i s) s (λ is. over_blank i s fits h) (λ not. h)

@@ -1,9 +1,10 @@
 -- A handler is entered, whole.
-use Rattle.std.proofs.Common.{ℕ, zero, suc, ◌≡◌, ◌+◌, ◌*◌, ◌/◌, ◌-◌, ◌%◌, ◌^◌, ◌≤◌, ◌<◌, ◌==◌, ◌&&◌, not, nat_le, Bool, true, false, inr, List, [], ◌∷◌, length, Option, Some, None, refl, sym, ◌∙◌, subst, arith, slice_set}
+use Rattle.std.proofs.Common.{ℕ, zero, suc, ◌≡◌, ◌+◌, ◌*◌, ◌/◌, ◌-◌, ◌%◌, ◌^◌, ◌≤◌, ◌<◌, ◌==◌, ◌&&◌, not, nat_le, Bool, true, false, inr, List, [], ◌∷◌, length, Some, refl, sym, ◌∙◌, subst, arith, slice_set}
 use Rattle.std.proofs.Math.ListN.{get_or, set}
-use Rattle.std.proofs.lemmas.Bool.{eqb-true, eqb-false, leb-true, and_parts}
+use Rattle.std.proofs.lemmas.Bool.{eqb-true, eqb-false, leb-true, and_parts, not-true}
 use Rattle.std.specs.Prelude.{is_none}
 use Rattle.std.specs.Int.{is_in_range}
+use Rattle.law_lists.proofs.Tests.{none_is}
 use Rattle.ct_entry.specs.declared.rows.Kind.TheVariants.{Stack as StackKind}
 use Rattle.def_words.specs.declared.Cap.{Cap}
 use Rattle.def_words.specs.declared.Trap.{Trap}
@@ -12,7 +13,6 @@ use Rattle.def_words.specs.Capability.{integer, with_address}
 use Rattle.def_words.specs.Permissions.{has, store_local}
 use Rattle.def_words.specs.Seals.{cap_seal}
 use Rattle.law_words.proofs.Words.{address_small}
-use Rattle.def_memory.specs.declared.Granule.{Granule}
 use Rattle.def_memory.specs.Granules.{plain}
 use Rattle.def_reach.specs.Roots.{TrustedPart, Listing}
 use Rattle.def_machine.specs.Image.{Image, root, made_cap, globals_entry, address_of, stack_entry, stack_base, stack_top, area_of, frames_most}
@@ -21,7 +21,7 @@ use Rattle.def_machine.specs.Threads.{changed}
 use Rattle.def_confined.specs.Capabilities.{Kept}
 use Rattle.def_confined.specs.Places.{InFrames, HasLive, OwnStack}
 use Rattle.def_confined.specs.Confined.{Confined, FramesHold, PostureFits}
-use Rattle.def_confined.specs.Changes.{Fades, FramesFade, ThreadFades, Puts}
+use Rattle.def_confined.specs.Changes.{Fades, ThreadFades, Puts}
 use Rattle.def_confined.specs.Keeps.{Beside, Keeps}
 use Rattle.def_confined.specs.Partitioned.{Partitioned}
 use Rattle.def_confined.specs.Swept.{FramesSwept}
@@ -42,6 +42,7 @@ use Rattle.law_moves.proofs.Entering.{back_made, globals_made, pcc_made}
 use Rattle.law_moves.proofs.Givens.{own_placed, own_live, own_kept, sentry_placed, sentry_kept, no_live_of}
 use Rattle.law_moves.proofs.SweepsMoves.{ram_same, moved_beside}
 use Rattle.law_events.proofs.Written.{written_confined, written_left}
+use Rattle.law_moves.proofs.Ticks.{same_frames}
 
 -- ---- what the conditions say
 
@@ -55,14 +56,6 @@ pub record Says (i : Image) (s : State) (t : ℕ) (f : Frame) : Type 0 where
   pub high : cap_address (register (thread s t) 2) ≤ f.top
   pub room : stack_base i t + TRAP_RECORD ≤ record_end (register (thread s t) 2)
 
-none_is : (o : Option Trap) → is_none o ≡ true → o ≡ None
-none_is None e = refl
-none_is (Some w) e = absurd (let clash : false ≡ true = e in cc)
-
-not_true : (b : Bool) → not b ≡ true → b ≡ false
-not_true false e = refl
-not_true true e = absurd (let clash : false ≡ true = e in cc)
-
 pub says : (i : Image) (s : State) (t : ℕ) (f : Frame) → is_handled i (stack_base i t) (thread s t) f ≡ true → Says i s t f
 says i s t f is =
     let c : Cap = register (thread s t) 2 in
@@ -74,8 +67,8 @@ says i s t f is =
     let range = and_parts (cap_base (register (thread s t) 2) == stack_base i t) (is_in_range (stack_base i t) f.top (cap_address (register (thread s t) 2))) all.1.1.1.0 in
     let ends = and_parts (nat_le (stack_base i t) (cap_address (register (thread s t) 2))) (nat_le (cap_address (register (thread s t) 2)) f.top) range.1 in
     record {
-      some = eqb-false (handler_entry i f.actor) 0 (not_true (handler_entry i f.actor == 0) inner_parts.0);
-      fresh = not_true f.handling inner_parts.1;
+      some = eqb-false (handler_entry i f.actor) 0 (not-true (handler_entry i f.actor == 0) inner_parts.0);
+      fresh = not-true f.handling inner_parts.1;
       tagged = all.0;
       unsealed = eqb-true (cap_seal (register (thread s t) 2)) 0 all.1.0;
       local = all.1.1.0;
@@ -92,23 +85,6 @@ before_mark i old why f fs = record (handled i old why f fs) { frames = f ∷ fs
 
 same_fades : (i : Image) (objects : List Object) (c : Cap) → Fades i objects objects c c
 same_fades i objects c = inr (refl, λ tagged has_. has_)
-
-same_frames : (i : Image) (objects : List Object) (fs : List Frame) → FramesFade i objects objects fs fs
-same_frames i objects [] = tt
-same_frames i objects (f ∷ fs) = (
-  record {
-    actor = refl;
-    export = refl;
-    same_top = refl;
-    c1 = same_fades i objects f.c1;
-    c2 = same_fades i objects f.c2;
-    c3 = same_fades i objects f.c3;
-    c8 = same_fades i objects f.c8;
-    c9 = same_fades i objects f.c9;
-    returns = λ tagged sealed rooted. refl;
-  },
-  same_frames i objects fs,
-)
 
 same_thread : (i : Image) (objects : List Object) (t : Thread) → ThreadFades i objects objects t t
 same_thread i objects t = record {
@@ -146,9 +122,6 @@ two_sets P (v ∷ vs) zero zero x y new same = new
 two_sets P (v ∷ vs) zero (suc u) x y new same = same (get_or vs u nobody)
 two_sets P (v ∷ vs) (suc t) zero x y new same = same v
 two_sets P (v ∷ vs) (suc t) (suc u) x y new same = two_sets P vs t u x y new same
-
-abbrev with_words : State → List Granule → State
-with_words s gs = record s { granules = gs }
 
 marked_confined : (i : Image) (s : State) (t : ℕ) (old : Thread) (why : Trap) (f : Frame) (fs : List Frame)
     → Confined i (changed s t (before_mark i old why f fs) s.running (clock_of s)) → Confined i (record s { threads = slice_set s.threads t (handled i old why f fs) })

@@ -1,12 +1,9 @@
 -- Ticks, inputs and steps, whole.
 use Rattle.std.proofs.Common.{ℕ, ◌≡◌, ◌+◌, ◌&&◌, true, false, not, List, [], ◌∷◌, Option, Some, None, refl, sym, ◌∙◌, slice_set, map, arith}
-use Rattle.std.proofs.lemmas.List.{length-map}
 use Rattle.law_lists.proofs.Tests.{chosen}
 use Rattle.ct_entry.specs.declared.acts.Deed.{Deed}
 use Rattle.ct_entry.specs.declared.acts.Owned.{Owned}
-use Rattle.def_machine.specs.Image.{Image}
 use Rattle.def_machine.specs.State.{State, Frame, thread}
-use Rattle.def_machine.specs.Memory.{filtered}
 use Rattle.def_sched.specs.Picks.{pick, moved_last}
 use Rattle.def_machine.specs.Threads.{Clockwork, picked, timed, statuses_of}
 use Rattle.def_step.specs.declared.Event.{Event}
@@ -27,7 +24,7 @@ use Rattle.def_confined.specs.Holding.{EndedOn, EndsFit}
 use Rattle.def_confined.specs.Keeps.{Beside, Keeps}
 use Rattle.law_moves.proofs.Ends.{swept_keeps}
 use Rattle.law_moves.proofs.Ticks.{timed_keeps}
-use Rattle.law_moves.proofs.SweepsMoves.{ThreadLeft, ram_same, moved_beside, clock_beside, stopped_beside}
+use Rattle.law_moves.proofs.SweepsMoves.{ram_same, moved_beside, clock_beside, stopped_beside, picked_left}
 use Rattle.law_events.proofs.Fairness.{Fair, some_same, none_licensed}
 use Rattle.law_events.proofs.Steps.{executed_fair}
 
@@ -58,19 +55,6 @@ preempted_kept b s None h = same_kept b s h
 preempted_kept b s (Some t) h = chosen (Kept b s) (s.pending && not (thread s t).posture.off) (record s { running = None; pending = false }) s
     (λ is. stops_kept b s (record (clock_of s) { pending = false }) h)
     (λ none. same_kept b s h)
-
--- where none ran, a thread may be picked
-picked_left : (i : Image) (s : State) (t : ℕ) → s.running ≡ None → Beside i s → ThreadLeft i s t (picked i s (thread s t)) (Some t)
-picked_left i s t idle h = record {
-  sweeps = λ w. record {
-    frames = w.frames t;
-    registers = λ stops. absurd (stops refl);
-    others = λ u other stops is. let clash : None ≡ Some u = sym idle ∙ is in cc;
-  };
-  deep = h.bounded.deep t;
-  few = omega (arith, h.bounded.few t, length-map (thread s t).registers (filtered i s));
-  ends = λ e. record { over = e.over; none = e.none };
-}
 
 picked_kept : (b : Platform) (s : State) (o : Option ℕ) → s.running ≡ o → Partitioned b.image → Confined b.image s → Kept b s (picked_from b s o)
 picked_kept b s (Some t) runs parts h = same_kept b s h
@@ -131,9 +115,6 @@ ticked_kept b s (Some t) h = chosen (Kept b s) (thread s t).posture.off (record 
     (λ none. stops_kept b s (clock_of s) h)
 
 -- ---- spans with interrupts off
-
-owned : State → ℕ → ℕ → Owned
-owned s t source = record { thread = t; actor = actor_of (thread s t).frames; export = source }
 
 off_by_frames : (b : Platform) (s : State) (t : ℕ) (fs : List Frame) → (thread s t).frames ≡ fs → Wired b → Confined b.image s → EndedOn s → (thread s t).posture.off ≡ true
     → OffLicensed b.image.entries (record { thread = t; actor = actor_of fs; export = (thread s t).posture.source })

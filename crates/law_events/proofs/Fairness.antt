@@ -5,7 +5,7 @@ use Rattle.def_words.specs.declared.Trap.{Trap}
 use Rattle.def_words.specs.declared.Posture.{Posture}
 use Rattle.ct_entry.specs.declared.acts.Act.TheVariants as acts
 use Rattle.ct_entry.specs.declared.acts.Deed.{Deed}
-use Rattle.def_machine.specs.Image.{Image, stack_base}
+use Rattle.def_machine.specs.Image.{Image}
 use Rattle.def_machine.specs.State.{State, Frame, Object, thread}
 use Rattle.def_step.specs.Handlers.{handler_value, return_taken}
 use Rattle.def_confined.specs.Facts.{Facts}

@@ -132,7 +132,7 @@ module _ (Q : State → Option (ℕ × Act) → Type 0) (i : Image) (s : State) 
 
 -- ---- the event
 
-left_by : (Q : State → Option (ℕ × Act) → Type 0) (r : Ran) (z : State) (told : Option (ℕ × Act)) → r ≡ Leaves z told → Left Q r → Q z told
+pub left_by : (Q : State → Option (ℕ × Act) → Type 0) (r : Ran) (z : State) (told : Option (ℕ × Act)) → r ≡ Leaves z told → Left Q r → Q z told
 left_by Q r z told is h = subst (Left Q) is h
 
 module _ (i : Image) (s after : State) (t entry number base long live : ℕ) (parts : Partitioned i) (away : RootsAway i) (k : Keeps i s) (blank : Blank i s) where

@@ -1,6 +1,6 @@
 -- What is live at an address, and so what is hidden, as the objects of the heap change.
 use Rattle.std.proofs.Common.{ℕ, ◌≡◌, ◌+◌, ◌≤◌, ◌<◌, ◌&&◌, ◌||◌, Bool, true, false, not, inl, inr, ◌⊎◌, nat_eq, nat_le, nat_lt, List, [], ◌∷◌, refl, sym, ap, ◌∙◌, subst, arith}
-use Rattle.std.proofs.lemmas.Bool.{eqb-true, leb-true, ltb-true, and_parts}
+use Rattle.std.proofs.lemmas.Bool.{eqb-true, leb-true, ltb-true, and_parts, or_left, or_right, or_cases}
 use Rattle.law_lists.proofs.Tests.{chosen, bool_tells}
 use Rattle.def_machine.specs.Image.{Image, address_of, trusted_end}
 use Rattle.def_machine.specs.State.{Object}
@@ -11,18 +11,6 @@ abbrev covers : ℕ → Object → Bool
 covers x r = r.live && nat_le r.base x && nat_lt x (r.base + r.length)
 
 -- ---- tests
-
-or_right : (a b : Bool) → b ≡ true → (a || b) ≡ true
-or_right true b h = refl
-or_right false b h = h
-
-or_left : (a b : Bool) → a ≡ true → (a || b) ≡ true
-or_left true b h = refl
-or_left false b h = absurd (let clash : false ≡ true = h in cc)
-
-or_tells : (a b : Bool) → (a || b) ≡ true → (a ≡ true) ⊎ (b ≡ true)
-or_tells true b h = inl refl
-or_tells false b h = inr h
 
 less_hidden : (a b c old new : Bool) → (old ≡ true → new ≡ true) → (a || (b && c && not new)) ≡ true → (a || (b && c && not old)) ≡ true
 less_hidden true b c old new g h = refl
@@ -42,7 +30,7 @@ pub among_live : (r : Object) (rs : List Object) (x : ℕ) → is_live_at rs x �
 among_live r [] x h = absurd (let clash : false ≡ true = h in cc)
 among_live r (q ∷ qs) x h = chosen (λ (zs : List Object). is_live_at zs x ≡ true) (nat_lt r.base q.base) (r ∷ q ∷ qs) (q ∷ placed_among r qs)
     (λ first. or_right (covers x r) (is_live_at (q ∷ qs) x) h)
-    (λ later. elim (or_tells (covers x q) (is_live_at qs x) h) [
+    (λ later. elim (or_cases (covers x q) (is_live_at qs x) h) [
       | inl here ↦ or_left (covers x q) (is_live_at (placed_among r qs) x) here
       | inr there ↦ or_right (covers x q) (is_live_at (placed_among r qs) x) (among_live r qs x there)
     ])
@@ -51,7 +39,7 @@ among_live r (q ∷ qs) x h = chosen (λ (zs : List Object). is_live_at zs x ≡
 
 pub quarantine_live : (r : Object) (rs : List Object) (x : ℕ) → Each (λ q. q.number ≡ r.number → q ≡ r) rs → (x < r.base) ⊎ (r.base + r.length ≤ x) → is_live_at rs x ≡ true → is_live_at (quarantine r.number rs) x ≡ true
 quarantine_live r [] x one out h = absurd (let clash : false ≡ true = h in cc)
-quarantine_live r (q ∷ qs) x one out h = elim (or_tells (covers x q) (is_live_at qs x) h) [
+quarantine_live r (q ∷ qs) x one out h = elim (or_cases (covers x q) (is_live_at qs x) h) [
   | inl here ↦ chosen (λ (z : Object). (covers x z || is_live_at (quarantine r.number qs) x) ≡ true) (nat_eq q.number r.number) (record q { live = false }) q
       (λ is. absurd (outside q (one.0 (eqb-true q.number r.number is)) here))
       (λ not. or_left (covers x q) (is_live_at (quarantine r.number qs) x) here)

@@ -53,7 +53,7 @@ opened_derived c tagged token = λ there.
       seal = inl (inr (omega (arith, token)), inl w.kind);
     }
 
-object_not_code : (i : Image) (r : Object) (c : Cap) → IsObjectCap i r c → has c execute ≡ false
+pub object_not_code : (i : Image) (r : Object) (c : Cap) → IsObjectCap i r c → has c execute ≡ false
 unfolding bit
 object_not_code i r c o = elim (bool_tells (has c execute)) [
   | inl is ↦ absurd (let clash : true ≡ false = sym (o.rooted.heap_rights o.heap execute is) in cc)

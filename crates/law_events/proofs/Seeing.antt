@@ -1,5 +1,5 @@
 -- What the running thread loads, stores or fetches through isn't hidden.
-use Rattle.std.proofs.Common.{ℕ, ◌≡◌, ◌+◌, ◌-◌, ◌*◌, ◌/◌, ◌%◌, ◌<◌, ◌≤◌, ◌⊎◌, inl, inr, ◌&&◌, ◌||◌, Bool, true, false, not, nat_le, nat_lt, List, [], ◌∷◌, Option, Some, refl, sym, ap, ◌∙◌, arith, subst}
+use Rattle.std.proofs.Common.{ℕ, ◌≡◌, ◌+◌, ◌-◌, ◌*◌, ◌/◌, ◌%◌, ◌<◌, ◌≤◌, ◌⊎◌, inl, inr, ◌&&◌, ◌||◌, Bool, true, false, not, nat_le, nat_lt, List, [], ◌∷◌, Some, refl, ◌∙◌, arith}
 use Rattle.law_lists.proofs.Tests.{bool_tells, le_tells, lt_tells}
 use Rattle.def_words.specs.declared.Cap.{Cap}
 use Rattle.def_words.specs.Authority.{cap_base, cap_top}
@@ -13,10 +13,7 @@ use Rattle.def_confined.specs.Confined.{Confined, ObjectFits}
 use Rattle.def_hidden.specs.Hidden.{Shut, MayReach, is_live_at, is_hidden_at, is_hidden}
 use Rattle.law_moves.proofs.Derives.{code_no_heap}
 use Rattle.law_moves.proofs.JumpsMoves.{in_rooted}
-
--- the granule's address, at or below
-near : (i : Image) (x : ℕ) → i.ram ≤ x → (address_of i (granule_of i x) ≤ x) × (x < address_of i (granule_of i x) + 8)
-near i x inside = (omega (arith, inside), omega (arith, inside))
+use Rattle.law_moves.proofs.Filters.{granule_near}
 
 -- outside of whole granules the granule is too
 out_of : (from to x y : ℕ) → from % 8 ≡ 0 → to % 8 ≡ 0 → y % 8 ≡ 0 → y ≤ x → x < y + 8 → (x < from) ⊎ (to ≤ x) → (nat_le from y && nat_lt y to) ≡ false
@@ -67,7 +64,7 @@ none_hidden i rs y one two = elim two [
 -- what lies outside the trusted region's areas and the heap isn't hidden
 pub away_seen : (i : Image) (rs : List Object) (x : ℕ) → Shut i → i.ram ≤ x → (x < i.trusted) ⊎ (trusted_end i ≤ x) → (x < i.heap_base) ⊎ (i.heap_end ≤ x) → is_hidden i rs (granule_of i x) ≡ false
 away_seen i rs x shut inside trusted heap =
-    let n = near i x inside in
+    let n = granule_near i x inside in
     let even = shut.even in
     let ram = even.0 in
     let at : address_of i (granule_of i x) % 8 ≡ 0 = omega (arith, ram) in
@@ -85,7 +82,7 @@ register_sees i s t n x shut h runs inside tagged may low high =
           let range = r.heap heap in
           let base = range.0 in
           let below = shut.below in
-          let near_ = near i x inside in
+          let near_ = granule_near i x inside in
           let even = shut.even in
           let ram = even.0 in
           let at : address_of i (granule_of i x) % 8 ≡ 0 = omega (arith, ram) in

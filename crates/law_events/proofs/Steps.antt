@@ -48,7 +48,7 @@ use Rattle.law_events.proofs.Smalls.{IsSmall, by_small, read_small}
 use Rattle.law_events.proofs.Goings.{FlowFits, Fetching}
 use Rattle.law_events.proofs.Goings as going
 use Rattle.law_routines.proofs.Cases.{by_next, by_routine}
-use Rattle.def_events.specs.Stands.{RoutineKeeps, EventTellsLicensed}
+use Rattle.def_events.specs.Stands.{RoutineKeeps, RoutineTellsLicensed}
 use Rattle.law_events.proofs.Serving.{switch_stands, rests_stands}
 use Rattle.law_events.proofs.Waiting.{wait_stands, wake_stands}
 use Rattle.law_events.proofs.Charging.{allocate_stands, remaining_stands}
@@ -143,7 +143,7 @@ ran_fair : (b : Platform) (s : State) (t : ℕ) (r : Ran) → Partitioned b.imag
 ran_fair b s t (Traps why) parts facts h runs tells = trapped_fair b s t why runs parts facts h tells
 ran_fair b s t (Leaves after told) parts facts h runs stands = record { confined = stands.0.confined; licensed = told_licensed told stands.1; beside = λ e. stands.0.beside }
   where
-    told_licensed : (o : Option (ℕ × Act)) → EventTellsLicensed b.image s t o → (d : Deed) → option_map (deed_told s t) o ≡ Some d → Licensed b.image.entries d
+    told_licensed : (o : Option (ℕ × Act)) → RoutineTellsLicensed b.image s t o → (d : Deed) → option_map (deed_told s t) o ≡ Some d → Licensed b.image.entries d
     told_licensed None h d e = none_licensed b d e
     told_licensed (Some told) h d e = some_same (Licensed b.image.entries) (deed_told s t told) d e h
 

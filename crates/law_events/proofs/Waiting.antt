@@ -66,14 +66,14 @@ wait_stands i s t parts k runs =
 -- ---- wake
 
 -- a status of a list that is as long as the threads
-given_status : (ts : List Thread) (ss : List Status) (t : ℕ) → length ss ≡ length ts → get_or (with_statuses ts ss) t nobody ≡ with_status (get_or ts t nobody) (get_or ss t Ended)
+pub given_status : (ts : List Thread) (ss : List Status) (t : ℕ) → length ss ≡ length ts → get_or (with_statuses ts ss) t nobody ≡ with_status (get_or ts t nobody) (get_or ss t Ended)
 given_status [] [] t e = refl
 given_status [] (x ∷ xs) t e = absurd (omega (arith, e))
 given_status (t ∷ ts) [] k e = absurd (omega (arith, e))
 given_status (t ∷ ts) (x ∷ xs) zero e = refl
 given_status (t ∷ ts) (x ∷ xs) (suc k) e = given_status ts xs k (omega (arith, e))
 
-given_length : (ts : List Thread) (ss : List Status) → length (with_statuses ts ss) ≡ length ts
+pub given_length : (ts : List Thread) (ss : List Status) → length (with_statuses ts ss) ≡ length ts
 given_length [] ss = refl
 given_length (t ∷ ts) [] = refl
 given_length (t ∷ ts) (x ∷ xs) = ap suc (given_length ts xs)

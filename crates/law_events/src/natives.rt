@@ -21,7 +21,8 @@ ghost use Rattle.def_events.specs.Stands.{RoutineKeeps};
 /// that stands beside; and what it did, a call, an allocation or a free, is licensed as a deed of its caller's.
 pub fn routines_stand()
     ensures switch { (i : Image) (s : State) (t : ℕ)
-        → Partitioned i → Facts i → Keeps i s → s.running ≡ Some t → RoutineKeeps i s t (switch i s t) }
+        → Partitioned i → Facts i → Keeps i s → s.running ≡ Some t
+        → RoutineKeeps i s t (switch i s t) }
     ensures back { (i : Image) (s : State) (t : ℕ)
         → Partitioned i → Keeps i s → s.running ≡ Some t
         → RoutineKeeps i s t (Leaves (returned i s t (thread s t).frames) None) }
@@ -33,18 +34,22 @@ pub fn routines_stand()
     ensures wakes { (i : Image) (s : State) (t : ℕ)
         → Partitioned i → Keeps i s → s.running ≡ Some t → RoutineKeeps i s t (wake i s t) }
     ensures allocate { (i : Image) (s : State) (t : ℕ)
-        → Partitioned i → Facts i → Keeps i s → s.running ≡ Some t → RoutineKeeps i s t (allocate i s t) }
+        → Partitioned i → Facts i → Keeps i s → s.running ≡ Some t
+        → RoutineKeeps i s t (allocate i s t) }
     ensures free { (i : Image) (s : State) (t : ℕ)
-        → Partitioned i → Facts i → Keeps i s → s.running ≡ Some t → RoutineKeeps i s t (free i s t) }
+        → Partitioned i → Facts i → Keeps i s → s.running ≡ Some t
+        → RoutineKeeps i s t (free i s t) }
     ensures remaining { (i : Image) (s : State) (t : ℕ)
-        → Partitioned i → Facts i → Keeps i s → s.running ≡ Some t → RoutineKeeps i s t (remaining i s t) }
+        → Partitioned i → Facts i → Keeps i s → s.running ≡ Some t
+        → RoutineKeeps i s t (remaining i s t) }
     ensures seals { (i : Image) (s : State) (t : ℕ)
         → Partitioned i → Facts i → Keeps i s → s.running ≡ Some t
         → RoutineKeeps i s t (token_key i s t) × RoutineKeeps i s t (token_new i s t) }
     ensures opens { (i : Image) (s : State) (t : ℕ)
         → Partitioned i → Keeps i s → s.running ≡ Some t → RoutineKeeps i s t (token_open s t) }
     ensures token_free { (i : Image) (s : State) (t : ℕ)
-        → Partitioned i → Facts i → Keeps i s → s.running ≡ Some t → RoutineKeeps i s t (token_free i s t) }
+        → Partitioned i → Facts i → Keeps i s → s.running ≡ Some t
+        → RoutineKeeps i s t (token_free i s t) }
 {}
 
 /// A call through an export that passes plain values enters its callee clean.

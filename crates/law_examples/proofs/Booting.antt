@@ -1,5 +1,6 @@
 -- The state in which this firmware starts is confined.
 use Rattle.std.proofs.Common.{ℕ, ◌≡◌, ◌||◌, not, true, false, [], ◌∷◌, Some, None, refl, sym, ap, ◌∙◌, subst, arith, lit≤}
+use Rattle.std.proofs.lemmas.Bool.{not-true}
 use Rattle.def_words.specs.declared.Cap.{Cap}
 use Rattle.def_words.specs.declared.Shadow.{Shadow}
 use Rattle.def_words.specs.Authority.{cap_top}
@@ -17,7 +18,7 @@ use Rattle.law_moves.proofs.Places.{all_of}
 use Rattle.law_examples.specs.Small.{small, made_0, made_2, made_18}
 use Rattle.law_examples.specs.Starting.{starting, first_pcc, first_frame, first_thread}
 use Rattle.law_lists.proofs.Tests.{by_test}
-use Rattle.law_examples.proofs.Cases.{not_so, past_end}
+use Rattle.law_examples.proofs.Cases.{past_end}
 use Rattle.law_examples.proofs.Placing.{kept_by, boot_caps}
 use Rattle.law_examples.proofs.Mades.{is_first, is_0, is_2, is_18}
 use Rattle.law_examples.proofs.Rooting.{entry_placed, rooted_0, rooted_2, rooted_18, rooted_first}
@@ -73,7 +74,7 @@ small_filled = record {
   filled = λ k. past_end small.boot 9 k nothing;
   untagged = by_test (λ k. is_fixed (region small k) || not (booted small k).cap.tag) 42 refl (λ j. refl);
   kept = λ k tagged. (boot_caps k tagged).kept tagged;
-  unmarked = λ k. not_so (booted small k).mark (by_test (λ j. not (booted small j).mark) 42 refl (λ j. refl) k);
+  unmarked = λ k. not-true (booted small k).mark (by_test (λ j. not (booted small j).mark) 42 refl (λ j. refl) k);
   size = lit≤ tt;
 }
 

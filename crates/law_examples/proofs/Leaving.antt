@@ -1,5 +1,6 @@
 -- Without the fact a return leads out of the invariant.
 use Rattle.std.proofs.Common.{ℕ, ◌+◌, ◌≡◌, ◌||◌, inl, inr, Bool, not, true, false, List, Some, [], ◌∷◌, refl, sym, ap, ◌∙◌, subst, arith, lit<, lit≤}
+use Rattle.std.proofs.lemmas.Bool.{not-true}
 use Rattle.def_profile.specs.declared.rights.TheConstants.{GLOBALS_RIGHTS, SERVICE_RIGHTS}
 use Rattle.def_profile.specs.declared.native.TheConstants.{NATIVE_LENGTH, RETURN_ENTRY}
 use Rattle.def_profile.specs.declared.seals.TheConstants.{RETURN_ENABLE}
@@ -27,7 +28,7 @@ use Rattle.law_words.proofs.Rights.{memory_is_root, executable_is_root, taken}
 use Rattle.law_moves.proofs.Boots.{as_boot, is_fixed, not_live, kept_as}
 use Rattle.law_examples.proofs.Mades.{make, kind_service}
 use Rattle.law_lists.proofs.Tests.{by_test}
-use Rattle.law_examples.proofs.Cases.{not_so, of_kind, past_end}
+use Rattle.law_examples.proofs.Cases.{of_kind, past_end}
 use Rattle.law_examples.proofs.Rooting.{by_entry_of, entry_placed}
 use Rattle.law_examples.proofs.Alone.{Filled, ThreadHolds, alone_confined}
 use Rattle.law_examples.specs.Loosely.{without_exports, Loosely}
@@ -45,7 +46,7 @@ imports k = is_call k || is_shared k || is_library_slot k
 
 no_import : (k : Kind) (n : ℕ) → imports k ≡ true → (root_of two.entries n).origin ≡ Listing k → ⊥
 unfolding root_of gate_for
-no_import k n imported is = let clash : true ≡ false = sym imported ∙ sym (ap (of_kind imports) is) ∙ not_so (of_kind imports (root_of two.entries n).origin) (told n) in cc
+no_import k n imported is = let clash : true ≡ false = sym imported ∙ sym (ap (of_kind imports) is) ∙ not-true (of_kind imports (root_of two.entries n).origin) (told n) in cc
   where
     told : (m : ℕ) → not (of_kind imports (root_of two.entries m).origin) ≡ true
     told = by_test (λ m. not (of_kind imports (root_of two.entries m).origin)) 7 refl (λ j. refl)

@@ -1,6 +1,6 @@
 -- Each capability of boot is what the image says.
 use Rattle.std.proofs.Common.{ℕ, ◌≡◌, [], ◌||◌, ◌&&◌, ◌==◌, nat_le, nat_lt, nat_eq, Bool, not, inl, inr, true, false, refl, sym, ap, ◌∙◌, subst, arith}
-use Rattle.std.proofs.lemmas.Bool.{leb-true, ltb-true, and_parts}
+use Rattle.std.proofs.lemmas.Bool.{leb-true, ltb-true, and_parts, not-true}
 use Rattle.def_words.specs.declared.Cap.{Cap}
 use Rattle.def_words.specs.declared.Shadow.{Shadow}
 use Rattle.def_words.specs.Authority.{cap_address}
@@ -20,11 +20,11 @@ use Rattle.def_confined.specs.Places.{Placed}
 use Rattle.law_reach.proofs.Joins.{reaches_own, joined_is}
 use Rattle.law_words.proofs.Rights.{taken}
 use Rattle.law_moves.proofs.Boots.{as_boot, no_object, no_source}
-use Rattle.law_moves.proofs.Makes.{made_rooted}
+use Rattle.law_moves.proofs.Makes.{made_rooted, not_boot}
 use Rattle.law_examples.specs.Starting.{first_pcc}
 use Rattle.law_examples.specs.Small.{small, made_0, made_1, made_2, made_3, made_4, made_5, made_6, made_7, made_8, made_9, made_11, made_12, made_13, made_14, made_18}
 use Rattle.law_lists.proofs.Tests.{implied}
-use Rattle.law_examples.proofs.Cases.{not_so, of_kind}
+use Rattle.law_examples.proofs.Cases.{of_kind}
 use Rattle.law_examples.proofs.Mades.{is_first, is_0, is_1, is_2, is_3, is_4, is_5, is_6, is_7, is_8, is_9, is_11, is_12, is_13, is_14, is_18}
 
 -- what the image says of an entry's capability, as a test
@@ -67,7 +67,7 @@ by_entry_of i n low high set at kind d is legal same test native boots =
       rights = λ no p there. subst (λ m. bit m p ≡ true) same there;
       heap_rights = λ any. absurd (let clash : true ≡ false = sym any ∙ none in cc);
       local = λ there. implied (bit set store_local) (is_stack r.origin) g.0 there;
-      held = λ stack. not_so (bit set global) (implied (is_stack r.origin) (not (bit set global)) h.0 stack);
+      held = λ stack. not-true (bit set global) (implied (is_stack r.origin) (not (bit set global)) h.0 stack);
       returns = λ any. let both = and_parts (nat_lt low high) (bit set execute) (implied (is_return kind) _ j.0 (return_of kind any)) in (ltb-true low high both.0, both.1, none);
       off = λ four. let clash : false ≡ true = subst (λ m. not (m == 4) ≡ true) four k.0 in cc;
       calls = λ nine. call_of r.origin (implied (kind == 9) _ k.1 (ap (λ m. m == 9) nine));
@@ -191,13 +191,6 @@ rooted_18 = by_entry_of small 18 _ _ _ _ _ made_18 is_18 taken.stack.0 refl refl
 
 pub boot_18 : BootMade small 18 made_18
 boot_18 = record { from = ap (λ (x : Shadow). x.root) is_18.1; source = ap (λ (x : Shadow). x.source) is_18.1; rooted = rooted_18 }
-
-not_boot : IsBootType 0 → ⊥
-not_boot (inl e) = omega (arith, e)
-not_boot (inr (inl e)) = omega (arith, e)
-not_boot (inr (inr (inl e))) = omega (arith, e)
-not_boot (inr (inr (inr (inl e)))) = omega (arith, e)
-not_boot (inr (inr (inr (inr e)))) = omega (arith, e)
 
 pub rooted_first : Rooted small first_pcc
 unfolding root_of gate_for bit

@@ -8,13 +8,13 @@ ghost use Rattle.def_gen.specs.Description.{firmware};
 ghost use Rattle.def_gen.specs.Numbers.{count_of};
 ghost use Rattle.def_gen.specs.Sources.{sources};
 ghost use Rattle.def_image.specs.Parts.{PartsRow};
-ghost use Rattle.def_link.specs.Links.{LinksTo};
+ghost use Rattle.def_link.specs.Links.{RowsLinkTo};
 
 /// The description and the sources of a generated firmware are linked to the parts of an image
 /// (`links`); there is a source for each compartment (`each`), of bytes that 32 bits count (`short`).
 pub fn generated_links()
     ensures links { (seed : ℕ)
-        → (p : PartsRow) × LinksTo (description_of (firmware seed)) (sources seed) p }
+        → (p : PartsRow) × RowsLinkTo (description_of (firmware seed)) (sources seed) p }
     ensures each { (seed : ℕ) → length (sources seed) ≡ count_of seed }
     ensures short { (seed : ℕ)
         → AllByRecursion (λ (t : List ℕ). length t < 2 ^ 32) (sources seed) }

@@ -1,13 +1,14 @@
 -- Accesses to a list of granules.
 use Rattle.std.proofs.Common.{ℕ, zero, suc, ◌≡◌, ◌+◌, ◌*◌, ◌/◌, ◌%◌, ◌^◌, ◌<◌, ◌≤◌, ◌⊎◌, inl, inr, Bool, true, false, List, [], ◌∷◌, length, refl, sym, ap, ◌∙◌, arith, subst}
-use Rattle.std.proofs.Math.ListN.{set}
+use Rattle.std.proofs.Math.ListN.{set, replicate}
 use Rattle.std.proofs.lemmas.Bool.{cases_eq}
 use Rattle.std.proofs.lemmas.List.{get_or-set_same, get_or-set_other, set_comm, ext_get_or}
 use Rattle.law_lists.proofs.Sets.{after_set_at}
 use Rattle.law_lists.proofs.Tests.{lt_tells, chosen_in}
 use Rattle.def_words.specs.declared.Cap.{Cap}
+use Rattle.def_words.specs.Capability.{IsSettled}
 use Rattle.def_memory.specs.declared.Granule.{Granule}
-use Rattle.def_memory.specs.Granules.{plain, nothing, granule_at, blank}
+use Rattle.def_memory.specs.Granules.{plain, nothing, granule_at, cap_in, blank}
 use Rattle.def_memory.specs.Accesses.{IsAccess, Disjoint, part_of, with_part, loaded, stored, loaded_cap, stored_cap, byte_at}
 use Rattle.def_memory.specs.Ranges.{IsZeroed, IsMarked, zeroed, zeroed_from, mark_range, marked_from, IsNextTagged, NoneTagged, is_tagged}
 use Rattle.law_granules.proofs.Words.{words_comm, words_same, words_below, words_above, pair_of, four_of}
@@ -16,6 +17,16 @@ set_twice : {A : Type 0} (xs : List A) (i : ℕ) (x y : A) → set (set xs i x) 
 set_twice [] i x y = refl
 set_twice (z ∷ zs) zero x y = refl
 set_twice (z ∷ zs) (suc i) x y = ap (λ r. z ∷ r) (set_twice zs i x y)
+
+-- what is plain is settled
+pub plain_settled : (n : ℕ) → IsSettled (plain n)
+plain_settled n e = refl
+
+-- granules of nothing hold zero
+pub none_held : (n k : ℕ) → cap_in (replicate n nothing) k ≡ plain 0
+none_held zero k = refl
+none_held (suc n) zero = refl
+none_held (suc n) (suc k) = none_held n k
 
 -- an access lies in one granule of the list
 pub in_list : (gs : List Granule) (at width : ℕ) → IsAccess (8 * length gs) at width → at / 8 < length gs

@@ -80,11 +80,3 @@ passed_word ram gs low high n c = elim (bool_tells (nat_le low n && nat_lt n hig
 
 pub passed_keeps : (ram : ℕ) (gs : List Granule) (low high : ℕ) → KeepsWords (λ n c. filtered_between ram gs low high n c)
 passed_keeps ram gs low high = record { zero_is = λ n. zero_passes ram gs low high n; word_is = λ n c. passed_word ram gs low high n c }
-
-pub slice_frames : (ram : ℕ) (gs : List Granule) (low high area actor top : ℕ) (handling : Bool) (j : ℕ)
-    → frames_from (kept_granules (λ n c. filtered_between ram gs low high n c) 0 gs) area actor top handling j ≡ kept_frames (λ n c. filtered_between ram gs low high n c) (8 * area) (frames_from gs area actor top handling j)
-slice_frames ram gs low high area actor top handling j = frames_kept (λ n c. filtered_between ram gs low high n c) (passed_keeps ram gs low high) gs area actor top handling j
-
-pub slice_registers : (ram : ℕ) (gs : List Granule) (low high k n : ℕ)
-    → caps_from (kept_granules (λ n c. filtered_between ram gs low high n c) 0 gs) k n ≡ kept_registers (λ n c. filtered_between ram gs low high n c) (8 * k) (caps_from gs k n)
-slice_registers ram gs low high k n = registers_kept (λ n c. filtered_between ram gs low high n c) (passed_keeps ram gs low high) gs k n

@@ -8,10 +8,7 @@ use Rattle.def_words.specs.declared.Cap.{Cap}
 use Rattle.def_memory.specs.declared.Granule.{Granule}
 use Rattle.def_memory.specs.Granules.{plain, nothing, granule_at, blank}
 use Rattle.def_memory.specs.Accesses.{loaded, stored, loaded_cap, stored_cap}
-use Rattle.def_memory.specs.Ranges.{IsZeroed, IsMarked, zeroed_from, marked_from}
-use Rattle.def_machine.specs.Image.{Image}
-use Rattle.def_machine.specs.State.{State}
-use Rattle.def_hidden.specs.Hidden.{Blank, is_hidden}
+use Rattle.def_memory.specs.Ranges.{zeroed_from, marked_from}
 use Rattle.def_areas.specs.Touches.{Touches}
 use Rattle.def_hidden.specs.Hiding.{hide, with_hidden_from, with_hidden}
 
@@ -111,30 +108,6 @@ pub marked_seen : (h : ℕ → Bool) (gs : List Granule) (from to : ℕ) (on : B
 unfolding with_hidden
 marked_seen h gs from to on place = marked_seen_from h 0 gs from to on place
 
--- a range is zeroed, hidden or not
-pub zero_seen : (hides : ℕ → Bool) (gs hs : List Granule) (from to : ℕ) → IsZeroed from to gs hs → IsZeroed from to (with_hidden hides gs) (with_hidden hides hs)
-zero_seen hides gs hs from to is = record {
-  size = with_hidden_length hides hs ∙ is.size ∙ sym (with_hidden_length hides gs);
-  zero = λ k within. with_hidden_at hides hs k ∙ ap (λ x. hide (hides k) x) (is.zero k within) ∙ blanks (hides k) (granule_at gs k) ∙ ap blank (sym (with_hidden_at hides gs k));
-  rest = λ k out. with_hidden_at hides hs k ∙ ap (λ x. hide (hides k) x) (is.rest k out) ∙ sym (with_hidden_at hides gs k);
-}
-  where
-    blanks : (b : Bool) (g : Granule) → hide b (blank g) ≡ blank (hide b g)
-    blanks true g = refl
-    blanks false g = refl
-
--- marks are set the same way
-pub marks_seen : (hides : ℕ → Bool) (gs hs : List Granule) (from to : ℕ) (on : Bool) → IsMarked from to on gs hs → IsMarked from to on (with_hidden hides gs) (with_hidden hides hs)
-marks_seen hides gs hs from to on is = record {
-  size = with_hidden_length hides hs ∙ is.size ∙ sym (with_hidden_length hides gs);
-  marks = λ k lt within. with_hidden_at hides hs k ∙ ap (λ x. hide (hides k) x) (is.marks k (omega (arith, lt, with_hidden_length hides gs)) within) ∙ marked_too (hides k) (granule_at gs k) ∙ ap (λ (x : Granule). let z : Granule = record x { mark = on } in z) (sym (with_hidden_at hides gs k));
-  rest = λ k out. with_hidden_at hides hs k ∙ ap (λ x. hide (hides k) x) (is.rest k out) ∙ sym (with_hidden_at hides gs k);
-}
-  where
-    marked_too : (b : Bool) (g : Granule) → hide b (record g { mark = on }) ≡ record (hide b g) { mark = on }
-    marked_too true g = refl
-    marked_too false g = refl
-
 -- ---- changes with hidden granules
 
 -- an object appears where its granules read as zero: what is hidden shrinks
@@ -167,14 +140,3 @@ hidden_changes h gs hs lo hi touches hidden =
     ))
     (λ k lt is not. absurd (let clash : true ≡ false = sym is ∙ not in cc))
     (λ k lt a b. touches.marks k)
-
--- what is zero stays as it is when it is hidden
-pub blank_seen : (i : Image) (s : State) → Blank i s → with_hidden (is_hidden i s.objects) s.granules ≡ s.granules
-blank_seen i s blank_ =
-    sym (with_hidden_is (is_hidden i s.objects) s.granules s.granules refl (λ k lt. elim (bool_tells (is_hidden i s.objects k)) [
-      | inl e ↦ rw e (zero_is (granule_at s.granules k) (blank_ k e))
-      | inr e ↦ rw e refl
-    ]))
-  where
-    zero_is : (g : Granule) → g.cap ≡ plain 0 → g ≡ blank g
-    zero_is g e = ap (λ (c : Cap). let z : Granule = record { cap = c; mark = g.mark } in z) e

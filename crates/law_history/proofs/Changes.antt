@@ -1,12 +1,12 @@
 -- What each change of a state leaves anywhere comes of what stood there before.
-use Rattle.std.proofs.Common.{ℕ, zero, suc, ◌≡◌, ◌+◌, ◌-◌, ◌*◌, ◌/◌, ◌&&◌, Bool, true, false, not, nat_le, nat_lt, List, [], ◌∷◌, map, slice_set, Option, Some, None, refl, subst, arith}
+use Rattle.std.proofs.Common.{ℕ, zero, suc, ◌≡◌, ◌+◌, ◌-◌, ◌*◌, ◌/◌, ◌&&◌, Bool, true, false, not, nat_le, nat_lt, List, [], ◌∷◌, map, slice_set, None, refl, subst, arith}
 use Rattle.std.proofs.Math.ListN.{get_or}
 use Rattle.law_lists.proofs.Tests.{chosen}
 use Rattle.law_lists.proofs.Sets.{after_set}
 use Rattle.law_lists.proofs.Maps.{at_map}
 use Rattle.def_words.specs.declared.Cap.{Cap}
 use Rattle.def_words.specs.declared.Trap.{Trap}
-use Rattle.def_words.specs.Authority.{cap_address, cap_base}
+use Rattle.def_words.specs.Authority.{cap_base}
 use Rattle.def_words.specs.Capability.{integer, untagged, with_address}
 use Rattle.def_words.specs.Jumped.{opened}
 use Rattle.law_words.proofs.Passing.{opened_is}
@@ -18,12 +18,12 @@ use Rattle.def_sched.specs.declared.Status.{Status}
 use Rattle.def_sched.specs.Statuses.{woken, woken_count}
 use Rattle.def_machine.specs.Image.{Image, made_cap, code_entry, globals_entry, handler_entry, area_of, stack_base}
 use Rattle.def_machine.specs.State.{State, Thread, Frame, Object, thread, register, granule, nobody}
-use Rattle.def_machine.specs.Objects.{Each, has_quarantined, painted}
+use Rattle.def_machine.specs.Objects.{Each}
 use Rattle.def_machine.specs.Memory.{filtered, is_marked_in}
 use Rattle.def_machine.specs.Registers.{written}
 use Rattle.def_machine.specs.Threads.{picked, timed, with_status, statuses_of, with_statuses, jumped}
 use Rattle.def_machine.specs.Frames.{Given, argument, cap_passed, entered_by, answer, left_by, switched}
-use Rattle.def_machine.specs.Heap.{sliced, sweep_over, ram_size, ended_sweep, sweep_on, sweep_began, with_slice, slice_end, quarantined}
+use Rattle.def_machine.specs.Heap.{sliced, sweep_over, with_slice, quarantined}
 use Rattle.def_machine.specs.Slices.{kept_frames, kept_thread, marks_cleared, is_number}
 use Rattle.def_reach.specs.Roots.{root_of, gate_for}
 use Rattle.def_step.specs.declared.TheConstants.{TRAP_RECORD}
@@ -38,15 +38,7 @@ use Rattle.def_safety.specs.Everywhere.{FrameHas, ThreadHas, Everywhere}
 use Rattle.law_moves.proofs.Results.{address_result}
 use Rattle.def_events.specs.Passes.{Widens, Passes}
 use Rattle.law_history.proofs.Values.{filtered_has}
-
-pub sixteen : (P : Cap → Type 0) (c0 c1 c2 c3 c4 c5 c6 c7 c8 c9 c10 c11 c12 c13 c14 c15 : Cap) → P c0 → P c1 → P c2 → P c3 → P c4 → P c5 → P c6 → P c7 → P c8 → P c9 → P c10 → P c11 → P c12 → P c13 → P c14 → P c15 → P (plain 0) → (n : ℕ)
-    → P (get_or (c0 ∷ c1 ∷ c2 ∷ c3 ∷ c4 ∷ c5 ∷ c6 ∷ c7 ∷ c8 ∷ c9 ∷ c10 ∷ c11 ∷ c12 ∷ c13 ∷ c14 ∷ c15 ∷ []) n (plain 0))
-sixteen P c0 c1 c2 c3 c4 c5 c6 c7 c8 c9 c10 c11 c12 c13 c14 c15 p0 p1 p2 p3 p4 p5 p6 p7 p8 p9 p10 p11 p12 p13 p14 p15 past n = each_get (c0 ∷ c1 ∷ c2 ∷ c3 ∷ c4 ∷ c5 ∷ c6 ∷ c7 ∷ c8 ∷ c9 ∷ c10 ∷ c11 ∷ c12 ∷ c13 ∷ c14 ∷ c15 ∷ []) n (p0, (p1, (p2, (p3, (p4, (p5, (p6, (p7, (p8, (p9, (p10, (p11, (p12, (p13, (p14, (p15, tt))))))))))))))))
-  where
-    each_get : (cs : List Cap) (n : ℕ) → Each P cs → P (get_or cs n (plain 0))
-    each_get [] n each = past
-    each_get (c ∷ cs) zero each = each.0
-    each_get (c ∷ cs) (suc n) each = each_get cs n each.1
+use Rattle.law_routines.proofs.Events.{sixteen}
 
 -- ---- what only stays, or loses its tag
 

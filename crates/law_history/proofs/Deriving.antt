@@ -8,7 +8,7 @@ use Rattle.def_machine.specs.Platform.{Platform}
 use Rattle.def_machine.specs.Image.{Image}
 use Rattle.def_machine.specs.State.{State, Frame, Object, thread, register}
 use Rattle.def_machine.specs.Objects.{Any, Each}
-use Rattle.def_machine.specs.Heap.{object_cap, swept, with_object}
+use Rattle.def_machine.specs.Heap.{object_cap, with_object}
 use Rattle.def_machine.specs.Threads.{statuses_of}
 use Rattle.def_confined.specs.Confined.{Confined}
 use Rattle.def_confined.specs.Keeps.{Keeps}
@@ -27,19 +27,18 @@ use Rattle.def_safety.specs.Opening.{FindsSealed, MayOpen}
 use Rattle.def_safety.specs.Tokened.{Tokened}
 use Rattle.law_events.proofs.Events.{ready_keeps}
 use Rattle.law_moves.proofs.Rows.{among_any}
-use Rattle.law_history.proofs.Sweeping.{begun, swept_case, sliced_case}
-use Rattle.def_machine.specs.Heap.{slice_end, with_slice}
 use Rattle.law_routines.proofs.Objects.{made_says}
 use Rattle.law_routines.proofs.Tokens.{token_says}
 use Rattle.def_safety.specs.Comes.{Saves, in_granule, in_counter, in_register, in_frame, Stood, Derives, untagged, stood, result, opened, linked, own, sentry, stack, IsNew, Comes, derived, object, sealed, token}
 use Rattle.def_events.specs.Opened.{ComesOpened}
 use Rattle.def_events.specs.Opened as opens
 use Rattle.def_events.specs.Passes.{Widens, Passes}
-use Rattle.law_history.proofs.Changes.{answers_has, let_go_has, with_slice_has, sweep_over_has}
+use Rattle.law_history.proofs.Changes.{answers_has, let_go_has}
 use Rattle.law_history.proofs.Events.{executed_has, again, ready_regular, ticked_regular}
 use Rattle.law_history.proofs.Everywheres.{each_there}
 use Rattle.law_history.proofs.Openings.{finds_sealed}
 use Rattle.law_history.proofs.Whole.{ready_tokened}
+use Rattle.law_history.proofs.Sweeps.{swept_has}
 
 derives_pass : (i : Image) (P : Cap → Type 0) → Passes i P (Derives i P)
 derives_pass i P = record {
@@ -156,17 +155,6 @@ continued_come b P s y (Some t) runs same w parts facts held h =
 
 all_stood : (i : Image) (P T : Cap → Type 0) (s z : State) → Everywhere P z → AllCome i P T s z
 all_stood i P T s z h = each_there P (ComesBy i P T s z) (λ c d. derives (stood d)) z h
-
--- a sweep: all stands where it stood, or lost its tag
-pub swept_has : (P : Cap → Type 0) → Widens P P → (i : Image) (s : State) → Everywhere P s → Everywhere P (swept i s)
-swept_has P w i s h = swept_case (Everywhere P) i s
-    (λ idle none. h)
-    (λ idle begins. sliced_case (Everywhere P) i (begun s) 0
-    (λ whole. sweep_over_has P P w i (with_slice i (begun s) 0 (slice_end i (begun s) 0)) (with_slice_has P P w i (begun s) 0 (slice_end i (begun s) 0) (record { granules = h.granules; threads = h.threads })))
-    (λ part. with_slice_has P P w i (begun s) 0 (slice_end i (begun s) 0) (record { granules = h.granules; threads = h.threads })))
-    (λ x runs. sliced_case (Everywhere P) i s x
-    (λ whole. sweep_over_has P P w i (with_slice i s x (slice_end i s x)) (with_slice_has P P w i s x (slice_end i s x) h))
-    (λ part. with_slice_has P P w i s x (slice_end i s x) h))
 
 event_comes : (b : Platform) (s : State) (e : Event) (P : Cap → Type 0) → Partitioned b.image → Facts b.image → Keeps b.image s → ((c : Cap) → c.tag ≡ false → P c) → Everywhere P s → AllCome b.image P (FoundBy b P s e) s (happens b s e).0
 event_comes b s Step P parts facts k none h =

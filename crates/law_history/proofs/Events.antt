@@ -1,7 +1,6 @@
 -- Each event: what it leaves anywhere comes of what stood there before. What a routine does to objects and rows is left
 -- to who asks.
 use Rattle.std.proofs.Common.{ℕ, ◌≡◌, ◌+◌, ◌-◌, ◌&&◌, ◌≤◌, ◌^◌, true, false, not, List, [], ◌∷◌, map, Option, Some, None, Ok, Err, Result, refl, sym, ap, ◌∙◌, subst, arith}
-use Rattle.std.specs.Prelude.{unwrap_or}
 use Rattle.std.proofs.Math.Nat.{div-mul-le_self}
 use Rattle.law_lists.proofs.Tests.{chosen}
 use Rattle.def_words.specs.declared.Cap.{Cap}
@@ -12,10 +11,9 @@ use Rattle.def_memory.specs.Granules.{plain, granule_at}
 use Rattle.def_instr.specs.declared.Instr.{Instr}
 use Rattle.def_sched.specs.Picks.{pick}
 use Rattle.ct_entry.specs.declared.rows.Owner.TheVariants.{Compartment}
-use Rattle.def_reach.specs.Roots.{gate_for}
 use Rattle.def_machine.specs.Platform.{Platform}
-use Rattle.def_machine.specs.Image.{Image, root, made_cap, code_entry, globals_entry, handler_entry, stack_base, stack_entry, stack_top}
-use Rattle.def_machine.specs.State.{State, Frame, Object, Counts, thread, register, granule}
+use Rattle.def_machine.specs.Image.{Image, root, handler_entry, stack_base}
+use Rattle.def_machine.specs.State.{State, Frame, Object, thread, register, granule}
 use Rattle.def_machine.specs.Frames.{callee_start, returned, ended_with}
 use Rattle.def_machine.specs.Heap.{with_object, object_cap}
 use Rattle.def_machine.specs.Threads.{timed, statuses_of}
@@ -29,7 +27,7 @@ use Rattle.def_step.specs.declared.Class.{Class}
 use Rattle.def_step.specs.declared.Class.TheVariants as class
 use Rattle.def_step.specs.Accesses.{Accessed}
 use Rattle.def_step.specs.Checks.{first_failed}
-use Rattle.def_step.specs.Events.{preempted_from, preempted, picked_as, picked_from, scheduled, continued, one_more_step, stepped, interrupted, ticked}
+use Rattle.def_step.specs.Events.{preempted_from, preempted, picked_as, picked_from, one_more_step, interrupted, ticked}
 use Rattle.def_step.specs.Handlers.{is_handled, handler_entered}
 use Rattle.def_step.specs.Instructions.{Effect, carried_out, named_by, gives, flows, accesses, around, space_of, put_done, operand, executed}
 use Rattle.def_step.specs.Jumps.{Flowed}
@@ -51,7 +49,7 @@ use Rattle.law_routines.proofs.Stepping.{IfDone, carried}
 use Rattle.def_events.specs.Passes.{Widens, Passes}
 use Rattle.law_history.proofs.Values.{IfFlows, IfAccesses, result_has, flow_has, accessed_has}
 use Rattle.law_history.proofs.Changes.{same_has, over_has, picked_has, slept_has, returned_back, ended_back, handler_has, put_has, answers_has, stops_has, wakes_has, enters_has}
-use Rattle.law_history.proofs.Routines.{Goes, executed_goes}
+use Rattle.law_history.proofs.Routines.{executed_goes}
 
 -- objects and rows are as they were, and what stands anywhere is so
 pub record Regular (C : Cap → Type 0) (s z : State) : Type 0 where

@@ -24,8 +24,8 @@ use Rattle.law_moves.proofs.Rows.{any_map, among_any}
 use Rattle.law_history.proofs.Everywheres.{each_there}
 use Rattle.law_history.proofs.Keying.{among_row, left_row}
 use Rattle.law_history.proofs.Made.{Fresh, fresh, sealed_whole, opened_seal}
-use Rattle.law_history.proofs.Moving.{each_unit}
 use Rattle.law_history.proofs.Passing.{fits_pass}
+use Rattle.law_moves.proofs.Objects.{each_unit}
 
 abbrev pub AllFit : Image → State → Type 0
 AllFit i z = Everywhere (TokenFits i z.objects z.tokens) z

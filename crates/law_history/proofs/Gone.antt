@@ -1,5 +1,5 @@
 -- A number of which no object is live, and none will be: numbers are given once, and none that was freed becomes live.
-use Rattle.std.proofs.Common.{ℕ, ◌≡◌, ◌+◌, ◌<◌, ◌&&◌, true, false, not, nat_eq, List, [], ◌∷◌, map, Option, Some, None, Result, Ok, Err, refl, sym, ap, ◌∙◌, subst, arith}
+use Rattle.std.proofs.Common.{ℕ, ◌≡◌, ◌+◌, ◌<◌, ◌&&◌, true, false, not, nat_eq, List, [], ◌∷◌, Option, Some, None, Result, Ok, Err, refl, sym, ap, ◌∙◌, subst, arith}
 use Rattle.std.proofs.lemmas.Bool.{eqb-false}
 use Rattle.law_lists.proofs.Tests.{chosen}
 use Rattle.def_words.specs.declared.Cap.{Cap}
@@ -8,17 +8,16 @@ use Rattle.def_words.specs.Capability.{integer}
 use Rattle.def_sched.specs.Picks.{pick}
 use Rattle.def_machine.specs.Image.{Image}
 use Rattle.def_machine.specs.State.{State, Frame, Object, thread}
-use Rattle.def_machine.specs.Objects.{Any, Each, quarantine, painted, placed_among}
+use Rattle.def_machine.specs.Objects.{Each, quarantine, painted, placed_among}
 use Rattle.def_machine.specs.Heap.{with_slice, slice_end, sweep_over}
-use Rattle.def_machine.specs.Threads.{timed, statuses_of}
+use Rattle.def_machine.specs.Threads.{statuses_of}
 use Rattle.def_machine.specs.Frames.{returned, ended_with}
 use Rattle.def_confined.specs.Confined.{Confined, ObjectFits}
 use Rattle.def_confined.specs.Places.{LiveCovers}
 use Rattle.def_step.specs.declared.Event.{Event}
 use Rattle.def_step.specs.declared.Event.TheVariants.{Step, Tick, Sweep, Input}
-use Rattle.def_step.specs.Events.{preempted_from, preempted, picked_as, picked_from, scheduled, continued, one_more_step, stepped, interrupted, ticked, happens, run}
-use Rattle.def_step.specs.Handlers.{handler_entered}
-use Rattle.def_step.specs.Instructions.{Effect, put_done, executed}
+use Rattle.def_step.specs.Events.{preempted_from, preempted, picked_as, picked_from, continued, one_more_step, interrupted, happens, run}
+use Rattle.def_step.specs.Instructions.{Effect}
 use Rattle.def_step.specs.Quotas.{quota_in, let_go}
 use Rattle.def_step.specs.Routines.{answers}
 use Rattle.def_machine.specs.Platform.{Platform}

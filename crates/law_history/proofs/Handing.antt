@@ -9,15 +9,12 @@ use Rattle.def_machine.specs.Platform.{Platform}
 use Rattle.def_step.specs.Events.{noted, stepped, with_deed}
 use Rattle.def_step.specs.Instructions.{executed}
 use Rattle.def_step.specs.Quotas.{allocate, free}
-use Rattle.def_step.specs.Routines.{Ran, Leaves}
 use Rattle.def_step.specs.Tokens.{token_key, token_new, token_free}
 use Rattle.def_events.specs.Leaving.{Left}
 use Rattle.def_safety.specs.Each.{ready}
 use Rattle.law_history.proofs.Steps.{none_told, step_case}
 use Rattle.law_history.proofs.Telling.{ToldBy, Tells, executed_tells}
-
-left_by : (Q : State → Option (ℕ × Act) → Type 0) (r : Ran) (z : State) (told : Option (ℕ × Act)) → r ≡ Leaves z told → Left Q r → Q z told
-left_by Q r z told is h = subst (Left Q) is h
+use Rattle.law_events.proofs.Handing.{left_by}
 
 -- of both routines that free, and of those three that allocate, run by thread t
 abbrev pub BothFree : (State → Option (ℕ × Act) → Type 0) → Image → State → ℕ → Type 0

@@ -1,8 +1,8 @@
 -- Rows as one is added and one goes, and what the tests of the routines say of them.
 use Rattle.std.proofs.Common.{ℕ, ◌≡◌, ◌⊎◌, inl, inr, ◌==◌, not, Bool, true, false, List, [], ◌∷◌, Option, Some, None, refl, sym, ap, ◌∙◌, nat_lt}
 use Rattle.std.specs.List.{list_any}
-use Rattle.std.proofs.lemmas.Bool.{eqb-true, and_parts}
-use Rattle.law_lists.proofs.Tests.{chosen, bool_tells, eq_tells}
+use Rattle.std.proofs.lemmas.Bool.{eqb-true, and_parts, eq-eqb}
+use Rattle.law_lists.proofs.Tests.{chosen, bool_tells}
 use Rattle.def_machine.specs.State.{Token}
 use Rattle.def_machine.specs.Objects.{Any}
 use Rattle.def_machine.specs.Rows.{IsApart, RowsDiffer}
@@ -98,11 +98,8 @@ row_there key n (k ∷ ks) e = elim (bool_tells (is_row_of key n k)) [
 
 -- ---- what tests say of rows, the other way round
 
-pub eq_is : (a b : ℕ) → a ≡ b → (a == b) ≡ true
-eq_is a b same = elim (eq_tells a b) [ inl is ↦ is.0 | inr not ↦ absurd (not.1 same) ]
-
 key_is : (n : ℕ) (k : Token) → IsKeyRow n k → is_key_row n k ≡ true
-key_is n k h = rw (eq_is k.number n h.0, h.1) refl
+key_is n k h = rw (eq-eqb k.number n h.0, h.1) refl
 
 pub there_key : (n : ℕ) (ks : List Token) → Any (IsKeyRow n) ks → list_any (is_key_row n) ks ≡ true
 there_key n [] h = absurd h
@@ -110,7 +107,7 @@ there_key n (k ∷ ks) (inl h) = rw (key_is n k h) refl
 there_key n (k ∷ ks) (inr h) = elim (bool_tells (is_key_row n k)) [ inl is ↦ rw is refl | inr not ↦ rw not (there_key n ks h) ]
 
 row_is : (key n : ℕ) (k : Token) → IsTokenRow key n k → is_row_of key n k ≡ true
-row_is key n k h = rw (eq_is k.number n h.0, h.1, eq_is key key refl) refl
+row_is key n k h = rw (eq-eqb k.number n h.0, h.1, eq-eqb key key refl) refl
 
 pub there_row : (key n : ℕ) (ks : List Token) → Any (IsTokenRow key n) ks → list_any (is_row_of key n) ks ≡ true
 there_row key n [] h = absurd h

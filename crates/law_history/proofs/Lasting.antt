@@ -1,8 +1,6 @@
 -- What is shut stays shut until it is opened, and a key stays a key.
-use Rattle.std.proofs.Common.{ℕ, ◌≡◌, ◌+◌, ◌<◌, ◌⊎◌, ◌&&◌, not, inl, inr, true, false, List, [], ◌∷◌, Option, Some, None, refl, sym, ◌∙◌, subst, arith}
-use Rattle.law_lists.proofs.Tests.{chosen, eq_tells}
-use Rattle.def_sched.specs.Picks.{pick}
-use Rattle.def_machine.specs.Threads.{statuses_of}
+use Rattle.std.proofs.Common.{ℕ, ◌≡◌, ◌+◌, ◌<◌, ◌⊎◌, ◌&&◌, inl, inr, true, false, List, [], ◌∷◌, Option, Some, None, refl, sym, ◌∙◌, subst, arith}
+use Rattle.law_lists.proofs.Tests.{eq_tells}
 use Rattle.def_words.specs.Capability.{integer}
 use Rattle.def_machine.specs.Platform.{Platform}
 use Rattle.def_machine.specs.State.{State, Object, thread, register}
@@ -15,7 +13,7 @@ use Rattle.def_confined.specs.Partitioned.{Partitioned}
 use Rattle.def_confined.specs.Facts.{Facts}
 use Rattle.def_step.specs.declared.Event.{Event}
 use Rattle.def_step.specs.declared.Event.TheVariants.{Step, Tick, Sweep, Input}
-use Rattle.def_step.specs.Events.{picked_as, picked_from, preempted_from, preempted, scheduled, continued, one_more_step, received, happens, run}
+use Rattle.def_step.specs.Events.{preempted, scheduled, continued, one_more_step, received, happens, run}
 use Rattle.def_step.specs.Instructions.{executed}
 use Rattle.def_step.specs.Quotas.{let_go}
 use Rattle.def_step.specs.Routines.{answers}
@@ -36,6 +34,7 @@ use Rattle.law_history.proofs.Passing.{fits_pass, shut_passes}
 use Rattle.law_history.proofs.Shutting.{Standing, opened_object}
 use Rattle.law_history.proofs.Sweeps.{swept_has, swept_rows}
 use Rattle.law_history.proofs.Whole.{event_tokened, ready_tokened}
+use Rattle.law_history.proofs.Deriving.{same_next}
 
 -- ---- an object that is shut
 
@@ -98,22 +97,6 @@ continued_stays b s (Some t) runs parts facts k rows n below h =
       })
       | inr shut ↦ inr (record { granules = shut.granules; threads = shut.threads })
     ]
-
--- before a step nothing is handed out
-same_next : (b : Platform) (s : State) → (scheduled b (preempted (one_more_step s))).next ≡ s.next
-same_next b s = at_pick (preempted (one_more_step s)) (preempted (one_more_step s)).running ∙ at_stop (one_more_step s) (one_more_step s).running
-  where
-    at_choice : (z : State) (o : Option ℕ) → (picked_as b z o).next ≡ z.next
-    at_choice z None = refl
-    at_choice z (Some t) = refl
-
-    at_pick : (z : State) (o : Option ℕ) → (picked_from b z o).next ≡ z.next
-    at_pick z None = at_choice z (pick b.image.priorities (statuses_of z.threads) z.picks)
-    at_pick z (Some t) = refl
-
-    at_stop : (z : State) (o : Option ℕ) → (preempted_from z o).next ≡ z.next
-    at_stop z None = refl
-    at_stop z (Some t) = chosen (λ (y : State). y.next ≡ z.next) (z.pending && not (thread z t).posture.off) (record z { running = None; pending = false }) z (λ is. refl) (λ not. refl)
 
 pub stays_shut : (b : Platform) (s : State) (e : Event) → Partitioned b.image → Facts b.image → Keeps b.image s → RowsFit s.objects s.tokens → StaysShut b s e
 stays_shut b s Step parts facts k rows n below h = elim (continued_stays b s (ready b s).running refl parts facts (ready_keeps b s parts k) (ready_fit b s rows) n (rw (same_next b s) below)

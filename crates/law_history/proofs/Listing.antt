@@ -1,6 +1,6 @@
 -- Rows among others, and those that are left where one goes.
 use Rattle.std.proofs.Common.{ℕ, ◌≡◌, ◌==◌, Bool, true, false, not, nat_lt, List, [], ◌∷◌, refl, sym}
-use Rattle.std.proofs.lemmas.Bool.{eqb-false}
+use Rattle.std.proofs.lemmas.Bool.{eqb-false, not-true}
 use Rattle.law_lists.proofs.Tests.{chosen}
 use Rattle.def_machine.specs.State.{Token}
 use Rattle.def_machine.specs.Objects.{Each}
@@ -18,14 +18,10 @@ among_differ k (q ∷ qs) a b = chosen RowsDiffer (nat_lt k.number q.number) (k 
     (λ is. (a, b))
     (λ not. (among_each (IsApart q.number) k qs (λ e. a.0 (sym e)) b.0, among_differ k qs a.1 b.1))
 
-denied : (b : Bool) → not b ≡ true → b ≡ false
-denied true e = let clash : false ≡ true = e in cc
-denied false e = refl
-
 pub without_each : (P Q : Token → Type 0) (n : ℕ) (ks : List Token) → ((k : Token) → P k → IsApart n k → Q k) → Each P ks → Each Q (without_row n ks)
 without_each P Q n [] f h = tt
 without_each P Q n (k ∷ ks) f h = chosen (Each Q) (not (k.number == n)) (k ∷ without_row n ks) (without_row n ks)
-    (λ other. (f k h.0 (eqb-false k.number n (denied (k.number == n) other)), without_each P Q n ks f h.1))
+    (λ other. (f k h.0 (eqb-false k.number n (not-true (k.number == n) other)), without_each P Q n ks f h.1))
     (λ same. without_each P Q n ks f h.1)
 
 pub without_differ : (n : ℕ) (ks : List Token) → RowsDiffer ks → RowsDiffer (without_row n ks)

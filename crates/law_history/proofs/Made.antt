@@ -1,13 +1,11 @@
 -- A new object's capability, as it is and sealed.
-use Rattle.std.proofs.Common.{ℕ, ◌≡◌, ◌+◌, ◌<◌, inl, inr, ◌==◌, true, false, List, refl, sym, ap, ◌∙◌, subst, arith}
+use Rattle.std.proofs.Common.{ℕ, ◌≡◌, ◌+◌, ◌<◌, inr, ◌==◌, true, List, refl, sym, ap, ◌∙◌, subst, arith}
 use Rattle.std.proofs.lemmas.Bool.{eqb-true, and_parts}
-use Rattle.law_lists.proofs.Tests.{bool_tells}
 use Rattle.ct_entry.specs.declared.rows.Kind.TheVariants as kind
 use Rattle.def_words.specs.declared.Cap.{Cap}
 use Rattle.def_words.specs.declared.Shadow.{Shadow}
 use Rattle.def_words.specs.Authority.{cap_base, cap_top}
 use Rattle.def_words.specs.Capability.{word_sealed}
-use Rattle.def_words.specs.Permissions.{has, bit, execute}
 use Rattle.def_words.specs.Seals.{cap_seal, seal_type}
 use Rattle.law_words.proofs.Narrowing.{shadow_kept}
 use Rattle.law_words.proofs.Sealed.{WithField, with_field}
@@ -32,6 +30,7 @@ use Rattle.law_events.proofs.Handing.{long_enough}
 use Rattle.law_moves.proofs.Derives.{of_heap}
 use Rattle.law_routines.proofs.Objects.{made_says}
 use Rattle.law_routines.proofs.Places as places
+use Rattle.law_events.proofs.Sealing.{object_not_code}
 
 -- the object that an allocation made, and its capability
 pub record Fresh (i : Image) (s : State) (r : Object) : Type 0 where
@@ -58,13 +57,6 @@ fresh i s t size r parts facts held quota is =
       cap = λ there. object_made i (s.next + 1) (new_object s (quota_in s t) size m.base) parts listed new.fits some there;
     })
 
-not_code : (i : Image) (r : Object) (c : Cap) → IsObjectCap i r c → has c execute ≡ false
-unfolding bit
-not_code i r c o = elim (bool_tells (has c execute)) [
-  | inl is ↦ absurd (let clash : true ≡ false = sym (o.rooted.heap_rights o.heap execute is) in cc)
-  | inr not ↦ not
-]
-
 -- sealed as a token, it is of the whole object
 pub record SealedWhole (i : Image) (r : Object) (tokens : List Token) : Type 0 where
   pub sealed : cap_seal (sealed_token r) ≡ 11
@@ -80,7 +72,7 @@ sealed_whole i s r tokens f row tagged =
     let high : cap_top (sealed_token r) ≡ r.base + r.length = ap (λ b. b.top) w.bounds ∙ o.high in
     let P : Shadow → Type 0 = λ z. of_heap i z ≡ true in
     record {
-      sealed = w.kind ∙ ap (λ b. seal_type b 3) (not_code i r (object_cap r) o);
+      sealed = w.kind ∙ ap (λ b. seal_type b 3) (object_not_code i r (object_cap r) o);
       heap = subst P (sym shadows) o.heap;
       whole = record {
         covers = record {
@@ -98,7 +90,7 @@ sealed_whole i s r tokens f row tagged =
 pub sealed_type : (i : Image) (s : State) (r : Object) → Fresh i s r → (sealed_token r).tag ≡ true → cap_seal (sealed_token r) ≡ 11
 sealed_type i s r f tagged =
     let w : WithField (object_cap r) (sealed_token r) 3 = with_field (object_cap r) (sealed_token r) 3 (omega arith) refl in
-    w.kind ∙ ap (λ b. seal_type b 3) (not_code i r (object_cap r) (f.cap tagged))
+    w.kind ∙ ap (λ b. seal_type b 3) (object_not_code i r (object_cap r) (f.cap tagged))
 
 -- an opened token is unsealed, and all else of it stays
 pub opened_seal : (c : Cap) → cap_seal (opened_token c) ≡ 0

@@ -1,7 +1,7 @@
 -- How an event changes the marks of frames, and which event marks one.
 use Rattle.std.proofs.Common.{ℕ, zero, suc, ◌≡◌, ◌+◌, ◌==◌, ◌&&◌, ◌⊎◌, inl, inr, Bool, true, false, not, nat_le, List, [], ◌∷◌, length, map, slice_set, Option, Some, None, Result, Ok, Err, refl, sym, ap, ◌∙◌, subst, option_map, arith}
 use Rattle.std.proofs.Math.ListN.{get_or}
-use Rattle.std.proofs.lemmas.Bool.{and_parts}
+use Rattle.std.proofs.lemmas.Bool.{and_parts, not-true}
 use Rattle.law_lists.proofs.Tests.{chosen}
 use Rattle.ct_entry.specs.declared.acts.Act.TheVariants as acts
 use Rattle.ct_entry.specs.declared.acts.Deed.{Deed}
@@ -145,15 +145,11 @@ done_go s t (Ok d) = λ u. kept_go s t _ refl u
 
 -- ---- a handler that is entered
 
-not_true : (b : Bool) → not b ≡ true → b ≡ false
-not_true false e = refl
-not_true true e = absurd (let clash : false ≡ true = e in cc)
-
 fresh : (i : Image) (s : State) (t : ℕ) (f : Frame) → is_handled i (stack_base i t) (thread s t) f ≡ true → f.handling ≡ false
 fresh i s t f is =
     let both = and_parts (not (handler_entry i f.actor == 0) && not f.handling) (has_room (stack_base i t) f.top (register (thread s t) 2)) is in
     let inner = and_parts (not (handler_entry i f.actor == 0)) (not f.handling) both.0 in
-    not_true f.handling inner.1
+    not-true f.handling inner.1
 
 -- a state and the deed that is told with it: marks go on, and a frame is marked by a trap alone that enters a handler
 record Goes (b : Platform) (s : State) (told : Option Deed) (z : State) (u : ℕ) : Type 0 where

@@ -10,6 +10,7 @@ use Rattle.law_moves.proofs.Rows.{among_any, each_map, each_any, each_take, left
 use Rattle.law_moves.proofs.Quarantines.{quarantine_any}
 use Rattle.def_machine.specs.Rows.{IsLiveOf, IsApart, RowsFit}
 use Rattle.law_history.proofs.Listing.{among_each, among_differ, without_each, without_differ}
+use Rattle.law_moves.proofs.Objects.{each_unit}
 
 -- each row's object is among others
 kept : (objects others : List Object) (tokens : List Token) → ((n : ℕ) → Any (IsLiveOf n) objects → Any (IsLiveOf n) others) → RowsFit objects tokens → RowsFit others tokens
@@ -31,10 +32,6 @@ sealed_fit i next r k objects tokens fits lives new named h =
   where
     below : (q : Token) → Any (IsLiveOf q.number) objects → q.number ≡ next → ⊥
     below q any same = each_take (ObjectFits i next) (IsLiveOf q.number) ⊥ objects (λ o f is. (let low = f.number in let here = is.1 in omega (arith, low, here, same))) fits any
-
-pub each_unit : (rs : List Object) → Each (λ q. Unit {0}) rs
-each_unit [] = tt
-each_unit (x ∷ xs) = (tt, each_unit xs)
 
 pub gone_fit : (n : ℕ) (objects : List Object) (tokens : List Token) → RowsFit objects tokens → RowsFit (quarantine n objects) (without_row n tokens)
 gone_fit n objects tokens h = record {

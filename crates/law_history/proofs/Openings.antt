@@ -2,9 +2,9 @@
 use Rattle.std.proofs.Common.{ℕ, ◌≡◌, ◌+◌, ◌==◌, ◌<◌, ◌&&◌, ◌⊎◌, inl, inr, Bool, true, false, List, [], ◌∷◌, Option, Some, None, refl, sym, ap, ◌∙◌, subst, arith}
 use Rattle.std.specs.Prelude.{find}
 use Rattle.std.specs.List.{list_any}
-use Rattle.std.proofs.lemmas.Bool.{eqb-true, and_parts}
+use Rattle.std.proofs.lemmas.Bool.{eqb-true, and_parts, eq-eqb, and_from}
 use Rattle.law_lists.proofs.Sets.{after_set_split}
-use Rattle.law_lists.proofs.Tests.{bool_tells, chosen}
+use Rattle.law_lists.proofs.Tests.{chosen}
 use Rattle.ct_entry.specs.declared.acts.Deed.{Deed}
 use Rattle.def_profile.specs.declared.seals.TheConstants.{TOKEN_TYPE}
 use Rattle.def_words.specs.declared.Cap.{Cap}
@@ -28,14 +28,14 @@ use Rattle.def_step.specs.Events.{continued, happens, noted, with_deed}
 use Rattle.def_step.specs.Instructions.{executed, ran}
 use Rattle.def_step.specs.Routines.{answered, answers, code}
 use Rattle.def_step.specs.Tokens.{is_all_of, is_key_row, is_row_of, as_key, as_token, key_of, opened_token, sealed_object, token_of, token_open}
-use Rattle.def_safety.specs.Opening.{AnswersOpening, FindsSealed, HoldsBoth, IsKeyIn, IsSealedOf, IsTokenIn, IsUnsealedOf, MayOpen, OpensTokens}
+use Rattle.def_safety.specs.Opening.{FindsSealed, HoldsBoth, IsKeyIn, IsSealedOf, IsTokenIn, IsUnsealedOf, MayOpen, OpensTokens}
 use Rattle.def_safety.specs.Tokened.{IsWhole, TokenFits, Tokened}
 use Rattle.law_events.proofs.Events.{ready_keeps}
 use Rattle.law_moves.proofs.Rows.{each_take, one_at, Holds}
 use Rattle.law_moves.proofs.Turns.{after_written}
 use Rattle.law_routines.proofs.Leaving.{option_tells}
 use Rattle.law_routines.proofs.Tokens.{Sealed, sealed_says, token_says}
-use Rattle.law_history.proofs.Keying.{eq_is, key_there, row_there, there_key, there_row}
+use Rattle.law_history.proofs.Keying.{key_there, row_there, there_key, there_row}
 use Rattle.law_history.proofs.Whole.{ready_tokened}
 
 -- ---- what is found is what is sealed so
@@ -67,11 +67,8 @@ as_key_says tokens (Some q) k e = chosen (λ (o : Option Object). o ≡ Some k �
 
 -- ---- what is sealed so is found
 
-both : (a b : Bool) → a ≡ true → b ≡ true → (a && b) ≡ true
-both a b h k = rw (h, k) refl
-
 all_is : (s : State) (c : Cap) (r : Object) → IsSealedOf s c r → is_all_of c r ≡ true
-all_is s c r x = both (r.live && (r.base == cap_base c)) (r.base + r.length == cap_top c) (both r.live (r.base == cap_base c) x.live (eq_is r.base (cap_base c) (sym x.low))) (eq_is (r.base + r.length) (cap_top c) (sym x.high))
+all_is s c r x = and_from (r.live && (r.base == cap_base c)) (r.base + r.length == cap_top c) (and_from r.live (r.base == cap_base c) x.live (eq-eqb r.base (cap_base c) (sym x.low))) (eq-eqb (r.base + r.length) (cap_top c) (sym x.high))
 
 low_of : (c : Cap) (r : Object) → is_all_of c r ≡ true → r.base ≡ cap_base c
 low_of c r is = eqb-true r.base (cap_base c) (and_parts r.live (r.base == cap_base c) (and_parts (r.live && (r.base == cap_base c)) (r.base + r.length == cap_top c) is).0).1
@@ -99,7 +96,7 @@ found_all c (q ∷ qs) r apart some is there = chosen (λ (o : Option Object). o
 sealed_found : (s : State) (c : Cap) (r : Object) → AllApart s.objects → Each IsFilled s.objects → IsSealedOf s c r → sealed_object s.objects c ≡ Some r
 sealed_found s c r apart some x = chosen (λ (o : Option Object). o ≡ Some r) (c.tag && (cap_seal c == TOKEN_TYPE)) (find (is_all_of c) s.objects) None
     (λ is. found_all c s.objects r apart some (all_is s c r x) x.there)
-    (λ not. absurd (let clash : false ≡ true = sym not ∙ both c.tag (cap_seal c == TOKEN_TYPE) x.tagged (eq_is (cap_seal c) TOKEN_TYPE x.sealed) in cc))
+    (λ not. absurd (let clash : false ≡ true = sym not ∙ and_from c.tag (cap_seal c == TOKEN_TYPE) x.tagged (eq-eqb (cap_seal c) TOKEN_TYPE x.sealed) in cc))
 
 key_found : (s : State) (c : Cap) (r : Object) → AllApart s.objects → Each IsFilled s.objects → IsKeyIn s c r → key_of s c ≡ Some r
 key_found s c r apart some x = ap (as_key s.tokens) (sealed_found s c r apart some x.sealed)

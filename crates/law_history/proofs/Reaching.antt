@@ -1,6 +1,6 @@
 -- *Licensed accesses*, of one event: what the running thread's capabilities are of, and what it does through them.
-use Rattle.std.proofs.Common.{ℕ, ◌≡◌, ◌+◌, ◌-◌, ◌≤◌, ◌<◌, ◌&&◌, cond, inl, inr, Bool, true, false, nat_le, List, ◌∷◌, Option, Some, None, refl, sym, ap, ◌∙◌, subst, arith}
-use Rattle.std.proofs.lemmas.Bool.{leb-true, and_parts}
+use Rattle.std.proofs.Common.{ℕ, ◌≡◌, ◌+◌, ◌-◌, ◌≤◌, ◌<◌, ◌&&◌, cond, inl, inr, Bool, true, false, List, ◌∷◌, Option, Some, None, refl, sym, ap, ◌∙◌, subst, arith}
+use Rattle.std.proofs.lemmas.Bool.{and_parts}
 use Rattle.law_lists.proofs.Tests.{chosen}
 use Rattle.ct_entry.specs.declared.rows.Kind.TheVariants as kind
 use Rattle.def_profile.specs.declared.rights.TheConstants.{HEAP_RIGHTS}
@@ -36,7 +36,7 @@ use Rattle.law_moves.proofs.Checks.{AllPass, all_pass}
 use Rattle.law_moves.proofs.Deeds.{register_used, pcc_used}
 use Rattle.law_routines.proofs.Accesses.{by_access}
 use Rattle.law_routines.proofs.Leaving.{option_tells}
-use Rattle.law_events.proofs.Accesses.{load_passes, store_passes, width_of}
+use Rattle.law_events.proofs.Accesses.{load_passes, store_passes, width_of, range_says}
 use Rattle.law_events.proofs.Events.{ready_keeps}
 use Rattle.def_safety.specs.Accesses.{IsUse, IsUseAt, SpansLive, RunsFor, UsesReach, root_rights}
 use Rattle.def_safety.specs.Each.{ready}
@@ -69,9 +69,6 @@ module _ (i : Image) (objects : List Object) (t actor : ℕ) (c : Cap) (u : IsUs
 
 -- ---- what passed checks say
 
-bounds_say : (c : Cap) (from to : ℕ) → is_range_inside c from to ≡ true → (cap_base c ≤ from) × (to ≤ cap_top c)
-bounds_say c from to e = let ends = and_parts (nat_le (cap_base c) from) (nat_le to (cap_top c)) e in (leb-true (cap_base c) from ends.0, leb-true to (cap_top c) ends.1)
-
 load_right : (a : Access) → a.loads ≡ true → used_right a ≡ load_data
 load_right a is = rw is refl
 
@@ -88,12 +85,12 @@ access_used i objects t actor a x y at some use_of =
 word_used : (i : Image) (s : State) (t actor : ℕ) (c : Cap) → (c.tag ≡ true → IsUse i s.objects t actor c) → AllPass (word_checks i s c) → IsUseAt i s.objects t actor c (cap_address c) 4 load_data
 word_used i s t actor c use_of h =
     let both = and_parts (is_range_inside c (cap_address c) (cap_address c + 4)) (lies_in_ram i s (cap_address c) 4) h.1.1.1.0 in
-    let range = bounds_say c (cap_address c) (cap_address c + 4) both.0 in
+    let range = range_says c (cap_address c) (cap_address c + 4) both.0 in
     use_at i s.objects t actor c (use_of h.0) (cap_address c) 4 load_data (omega arith) range.0 range.1 h.1.1.0
 
 fetch_used : (i : Image) (objects : List Object) (t actor : ℕ) (c : Cap) → (c.tag ≡ true → IsUse i objects t actor c) → AllPass (fetch_checks c) → IsUseAt i objects t actor c (cap_address c) 4 execute
 fetch_used i objects t actor c use_of h =
-    let range = bounds_say c (cap_address c) (cap_address c + 4) h.1.1.1.0 in
+    let range = range_says c (cap_address c) (cap_address c + 4) h.1.1.1.0 in
     use_at i objects t actor c (use_of h.0) (cap_address c) 4 execute (omega arith) range.0 range.1 h.1.1.0
 
 -- ---- a capability is moved

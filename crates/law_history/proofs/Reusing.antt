@@ -18,7 +18,6 @@ use Rattle.def_hidden.specs.Hidden.{Shut, Blank}
 use Rattle.def_step.specs.declared.Event.{Event}
 use Rattle.def_step.specs.declared.Event.TheVariants.{Step}
 use Rattle.def_step.specs.Events.{happens, run, stepped}
-use Rattle.def_step.specs.Instructions.{executed}
 use Rattle.def_machine.specs.Platform.{Platform}
 use Rattle.def_step.specs.Quotas.{quota_in, let_go, free}
 use Rattle.def_step.specs.Routines.{answers}
@@ -28,7 +27,7 @@ use Rattle.def_events.specs.Leaving.{Left}
 use Rattle.law_routines.proofs.Leaving.{free_told, free_left, token_free_left}
 use Rattle.law_routines.proofs.Objects.{Found}
 use Rattle.def_safety.specs.Fresh.{HandsOut, AsHanded}
-use Rattle.def_safety.specs.Reuse.{IsSameChunk, Waits, SweepsWhole}
+use Rattle.def_safety.specs.Reuse.{IsSameObject, Waits, SweepsWhole}
 use Rattle.law_history.proofs.Same.{Same, quarantined_stays, ready_same}
 use Rattle.law_history.proofs.Waiting.{waiting}
 use Rattle.law_history.proofs.Gone.{NoneLive, gives_none, ready_none, run_none, not_of}
@@ -150,10 +149,10 @@ waits_whole b s es n base long d number from size live x waits is act meets = el
       let blank = run_blank b s es x.parts x.facts x.wired x.shut x.keeps x.blank in
       let out : HandsOut b.image (ready b (run b s es)) number from size (AsHanded b (ready b (run b s es)) d.thread (stepped b (run b s es)).0) = step_allocates b (run b s es) d number from size live x.parts x.facts keeps blank act is in
       let same : Same (run b s es) (ready b (run b s es)) = ready_same b (run b s es) in
-      let here : Any (IsSameChunk (chunk_at n base long)) (ready b (run b s es)).objects = subst (Any (IsSameChunk (chunk_at n base long))) (sym same.objects) there in
+      let here : Any (IsSameObject (chunk_at n base long)) (ready b (run b s es)).objects = subst (Any (IsSameObject (chunk_at n base long))) (sym same.objects) there in
       let starts = out.told.1 in
       let spans = out.told.2 in
-      absurd (each_take (Apart out.object) (IsSameChunk (chunk_at n base long)) ⊥ (ready b (run b s es)).objects
+      absurd (each_take (Apart out.object) (IsSameObject (chunk_at n base long)) ⊥ (ready b (run b s es)).objects
       (λ q apart row. meets (elim apart.1 [ inl below ↦ inl (omega (arith, below, row.1, starts, spans)) | inr above ↦ inr (omega (arith, above, row.1, row.2, starts)) ]))
       out.fresh.object.apart here)
 ]

@@ -1,7 +1,6 @@
 -- What holds of each move of a state by which a step of a thread leaves it, with what its routine found, holds of what the
 -- step leaves.
 use Rattle.std.proofs.Common.{ℕ, ◌≡◌, ◌-◌, ◌==◌, ◌≤◌, inl, inr, nat_lt, true, List, ◌∷◌, length, Option, Some, None, Ok, Err, Result, refl, ap, ◌∙◌, if◌then◌else◌}
-use Rattle.std.proofs.lemmas.Bool.{eqb-true}
 use Rattle.law_lists.proofs.Tests.{chosen}
 use Rattle.def_profile.specs.declared.answers.TheConstants.{UNWOUND}
 use Rattle.def_profile.specs.declared.native.TheConstants.{RETURN, TOKEN_OPEN}

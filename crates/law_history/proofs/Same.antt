@@ -7,7 +7,7 @@ use Rattle.def_sched.specs.Picks.{pick}
 use Rattle.def_machine.specs.Image.{Image}
 use Rattle.def_words.specs.Capability.{integer}
 use Rattle.def_machine.specs.State.{State, Frame, Object, thread}
-use Rattle.def_machine.specs.Objects.{Any, Each, placed_among}
+use Rattle.def_machine.specs.Objects.{Any, placed_among}
 use Rattle.def_machine.specs.Heap.{with_object, quarantined, object_cap}
 use Rattle.def_machine.specs.Threads.{timed, statuses_of}
 use Rattle.def_machine.specs.Frames.{returned, ended_with}
@@ -19,8 +19,9 @@ use Rattle.law_moves.proofs.Quarantines.{quarantine_any, any_quarantine}
 use Rattle.law_routines.proofs.Objects.{made_says}
 use Rattle.law_routines.proofs.Leaving.{Moves}
 use Rattle.law_routines.proofs.Stepping.{Steps, IfDone, carried, executed_left}
+use Rattle.law_moves.proofs.Objects.{each_unit}
 use Rattle.def_step.specs.Handlers.{handler_entered}
-use Rattle.def_safety.specs.Reuse.{IsSameChunk, Waits, IsPainted}
+use Rattle.def_safety.specs.Reuse.{IsSameObject, Waits, IsPainted}
 use Rattle.def_step.specs.Instructions.{Effect, put_done, executed}
 use Rattle.def_machine.specs.Platform.{Platform}
 use Rattle.def_step.specs.Events.{preempted_from, preempted, picked_as, picked_from, scheduled, continued, one_more_step, stepped, interrupted, ticked}
@@ -49,14 +50,14 @@ ended_same i s t value (f ∷ g ∷ gs) = record { objects = refl; front = refl 
 
 pub record Stays (s r : State) : Type 0 where
   pub front : r.front ≡ s.front
-  pub rows : (q : Object) → Any (IsSameChunk q) s.objects → Any (IsSameChunk q) r.objects
+  pub rows : (q : Object) → Any (IsSameObject q) s.objects → Any (IsSameObject q) r.objects
   pub waits : (q : Object) → Any (Waits q) s.objects → Any (Waits q) r.objects
   pub painted : (q : Object) → Any (IsPainted q) r.objects → Any (IsPainted q) s.objects
 
 pub same_stays : (s r : State) → Same s r → Stays s r
 same_stays s r h = record {
   front = h.front;
-  rows = λ q any. subst (Any (IsSameChunk q)) (sym h.objects) any;
+  rows = λ q any. subst (Any (IsSameObject q)) (sym h.objects) any;
   waits = λ q any. subst (Any (Waits q)) (sym h.objects) any;
   painted = λ q any. subst (Any (IsPainted q)) h.objects any;
 }
@@ -69,15 +70,11 @@ stays_on s r q a b = record {
   painted = λ o any. a.painted o (b.painted o any);
 }
 
-each_unit : (rs : List Object) → Each (λ q. Unit {0}) rs
-each_unit [] = tt
-each_unit (x ∷ xs) = (tt, each_unit xs)
-
 -- an object more, which isn't painted
 added_stays : (s : State) (r : Object) → r.painted ≡ false → Stays s (with_object s r)
 added_stays s r none = record {
   front = refl;
-  rows = λ q any. among_any (IsSameChunk q) r s.objects (inr any);
+  rows = λ q any. among_any (IsSameObject q) r s.objects (inr any);
   waits = λ q any. among_any (Waits q) r s.objects (inr any);
   painted = λ q any. elim (any_among (IsPainted q) r s.objects any) [
     | inl here ↦ absurd (let clash : false ≡ true = sym none ∙ here.1 in cc)
@@ -89,7 +86,7 @@ added_stays s r none = record {
 pub quarantined_stays : (i : Image) (s : State) (r : Object) → Stays s (quarantined i s r)
 quarantined_stays i s r = record {
   front = refl;
-  rows = λ q any. quarantine_any (λ z. Unit {0}) (IsSameChunk q) (IsSameChunk q) r.number s.objects (λ z u k not. k) (λ z u k is. (k.0, k.1, k.2)) (each_unit s.objects) any;
+  rows = λ q any. quarantine_any (λ z. Unit {0}) (IsSameObject q) (IsSameObject q) r.number s.objects (λ z u k not. k) (λ z u k is. (k.0, k.1, k.2)) (each_unit s.objects) any;
   waits = λ q any. quarantine_any (λ z. Unit {0}) (Waits q) (Waits q) r.number s.objects (λ z u k not. k) (λ z u k is. ((k.0.0, k.0.1, k.0.2), k.1)) (each_unit s.objects) any;
   painted = λ q any. any_quarantine (λ z. Unit {0}) (IsPainted q) (IsPainted q) r.number s.objects (λ z u k not. k) (λ z u k is. ((k.0.0, k.0.1, k.0.2), k.1)) (each_unit s.objects) any;
 }

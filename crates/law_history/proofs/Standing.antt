@@ -27,7 +27,7 @@ use Rattle.law_routines.proofs.Leaving.{Moves}
 use Rattle.law_routines.proofs.Objects.{made_says}
 use Rattle.law_routines.proofs.Stepping.{Steps, IfDone, carried, executed_left}
 use Rattle.law_history.proofs.Keying.{among_row, row_of_among, left_row, row_left}
-use Rattle.law_history.proofs.Moving.{each_unit}
+use Rattle.law_moves.proofs.Objects.{each_unit}
 
 -- a row of the object of a number, with what it says of it
 abbrev Says : Option ℕ → ℕ → Token → Type 0

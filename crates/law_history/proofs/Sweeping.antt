@@ -9,7 +9,7 @@ use Rattle.def_machine.specs.Objects.{Any, has_quarantined, painted, unpainted}
 use Rattle.def_machine.specs.Heap.{with_slice, slice_end, sweep_over, ram_size, ended_sweep, sweep_began, sweep_on, swept}
 use Rattle.law_moves.proofs.Rows.{any_map, left_any, any_left}
 use Rattle.law_moves.proofs.Slices.{slice_length}
-use Rattle.def_safety.specs.Reuse.{IsSameChunk, Waits, IsPainted}
+use Rattle.def_safety.specs.Reuse.{IsSameObject, Waits, IsPainted}
 
 abbrev pub begun : State → State
 begun s = record s { objects = painted s.objects; front = Some 0 }
@@ -46,20 +46,20 @@ sliced_case P i s x over on =
 
 -- ---- rows
 
-pub painted_row : (r : Object) (rows : List Object) → Any (IsSameChunk r) rows → Any (IsSameChunk r) (painted rows)
+pub painted_row : (r : Object) (rows : List Object) → Any (IsSameObject r) rows → Any (IsSameObject r) (painted rows)
 painted_row r [] h = absurd h
 painted_row r (q ∷ qs) (inl h) = inl h
 painted_row r (q ∷ qs) (inr h) = inr (painted_row r qs h)
 
-pub waits_row : (r : Object) (rows : List Object) → Any (Waits r) rows → Any (IsSameChunk r) rows
-waits_row r rows h = any_map (Waits r) (IsSameChunk r) rows (λ q k. k.0) h
+pub waits_row : (r : Object) (rows : List Object) → Any (Waits r) rows → Any (IsSameObject r) rows
+waits_row r rows h = any_map (Waits r) (IsSameObject r) rows (λ q k. k.0) h
 
 -- what waits stays where the painted leave
 pub waits_left : (r : Object) (rows : List Object) → Any (Waits r) rows → Any (Waits r) (unpainted rows)
 waits_left r rows h = left_any (Waits r) rows (any_map (Waits r) (λ q. (q.painted ≡ false) × Waits r q) rows (λ q k. (k.1, k)) h)
 
 -- a row is painted, or it waits
-pub row_tells : (r : Object) (rows : List Object) → Any (IsSameChunk r) rows → Any (IsPainted r) rows ⊎ Any (Waits r) rows
+pub row_tells : (r : Object) (rows : List Object) → Any (IsSameObject r) rows → Any (IsPainted r) rows ⊎ Any (Waits r) rows
 row_tells r [] h = absurd h
 row_tells r (q ∷ qs) (inl h) = elim (bool_tells q.painted) [ inl is ↦ inl (inl (h, is)) | inr none ↦ inr (inl (h, none)) ]
 row_tells r (q ∷ qs) (inr h) = elim (row_tells r qs h) [ inl is ↦ inl (inr is) | inr waits ↦ inr (inr waits) ]

@@ -1,5 +1,5 @@
 -- Tokens and keys at a sweep: what was quarantined leaves, and so does every capability of it.
-use Rattle.std.proofs.Common.{ℕ, ◌≡◌, ◌+◌, ◌≤◌, ◌<◌, inl, inr, ◌⊎◌, not, false, List, [], ◌∷◌, refl, arith}
+use Rattle.std.proofs.Common.{ℕ, ◌≡◌, ◌+◌, ◌≤◌, ◌<◌, inl, inr, ◌⊎◌, false, List, [], ◌∷◌, refl, arith}
 use Rattle.def_words.specs.declared.Cap.{Cap}
 use Rattle.def_words.specs.Authority.{cap_base, cap_top}
 use Rattle.def_machine.specs.Image.{Image}
@@ -19,6 +19,7 @@ use Rattle.law_history.proofs.Everywheres.{OfObject, both, objects_everywhere}
 use Rattle.law_history.proofs.Fitting.{AllFit, moved}
 use Rattle.law_history.proofs.Naming.{Named}
 use Rattle.law_history.proofs.Passing.{fits_pass}
+use Rattle.law_moves.proofs.Begins.{paint_apart}
 
 -- ---- objects
 
@@ -29,17 +30,6 @@ same_row P Q (r ∷ rs) l k a (inl p) (inl q) = inl (p, q)
 same_row P Q (r ∷ rs) l k a (inl p) (inr q) = each_take (Apart r) Q (Any (λ r. P r × Q r) (r ∷ rs)) rs (λ x apart here. absurd (l r x p here apart)) a.0 q
 same_row P Q (r ∷ rs) l k a (inr p) (inl q) = each_take (Apart r) P (Any (λ r. P r × Q r) (r ∷ rs)) rs (λ x apart here. absurd (k x r here q apart)) a.0 p
 same_row P Q (r ∷ rs) l k a (inr p) (inr q) = inr (same_row P Q rs l k a.1 p q)
-
-painted_apart : (rs : List Object) → AllApart rs → AllApart (painted rs)
-painted_apart [] h = tt
-painted_apart (r ∷ rs) h = (each (painted_one r) rs h.0, painted_apart rs h.1)
-  where
-    painted_one : (r q : Object) → Apart r q → Apart (record r { painted = not r.live }) (record q { painted = not q.live })
-    painted_one r q a = (a.0, a.1)
-
-    each : ((q : Object) → Apart r q → Apart (record r { painted = not r.live }) (record q { painted = not q.live })) → (qs : List Object) → Each (Apart r) qs → Each (Apart (record r { painted = not r.live })) (painted qs)
-    each f [] e = tt
-    each f (q ∷ qs) e = (f q e.0, each f qs e.1)
 
 painted_long : (rs : List Object) → Each (λ (r : Object). 0 < r.length) rs → Each (λ (r : Object). 0 < r.length) (painted rs)
 painted_long [] h = tt
@@ -102,7 +92,7 @@ pub swept_fit : (i : Image) (s : State) → Partitioned i → Confined i s → E
 swept_fit i s parts held some h = swept_case (IfFits i) i s
     (λ idle none after. h)
     (λ idle begins. sliced_case (IfFits i) i (begun s) 0
-    (λ whole. over_fit i (with_slice i (begun s) 0 (slice_end i (begun s) 0)) parts (painted_long s.objects some) (painted_apart s.objects held.apart) (on_fit i (begun s) 0 (begun_fit i s h)))
+    (λ whole. over_fit i (with_slice i (begun s) 0 (slice_end i (begun s) 0)) parts (painted_long s.objects some) (paint_apart s.objects held.apart) (on_fit i (begun s) 0 (begun_fit i s h)))
     (λ part after. on_fit i (begun s) 0 (begun_fit i s h)))
     (λ x runs. sliced_case (IfFits i) i s x
     (λ whole. over_fit i (with_slice i s x (slice_end i s x)) parts some held.apart (on_fit i s x h))

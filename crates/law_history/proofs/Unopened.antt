@@ -1,18 +1,16 @@
 -- No jump and no return opens what is sealed as a token: what it would make is of no object, and of no root.
-use Rattle.std.proofs.Common.{ℕ, ◌≡◌, ◌+◌, ◌≤◌, ◌<◌, inl, inr, not, nat_eq, true, false, List, [], ◌∷◌, refl, sym, ap, ◌∙◌, subst, arith}
-use Rattle.law_lists.proofs.Tests.{bool_tells, both_right}
+use Rattle.std.proofs.Common.{ℕ, ◌≡◌, ◌+◌, ◌≤◌, ◌<◌, inl, inr, true, false, List, [], ◌∷◌, refl, sym, ap, ◌∙◌, subst, arith}
 use Rattle.def_words.specs.declared.Cap.{Cap}
 use Rattle.def_words.specs.Authority.{cap_base, cap_top}
 use Rattle.def_words.specs.Narrows.{IsOpened}
 use Rattle.def_words.specs.Seals.{cap_seal}
 use Rattle.def_memory.specs.declared.Granule.{Granule}
-use Rattle.def_reach.specs.Roots.{is_quota}
 use Rattle.def_machine.specs.Platform.{Platform}
 use Rattle.def_machine.specs.Image.{Image, Region, Fixed, Globals, Shared, HeapRam, Stack, Bare, region, root, address_of}
 use Rattle.def_machine.specs.State.{State, Frame, Object, Token, thread, register, granule}
 use Rattle.def_machine.specs.Objects.{Any, Each}
 use Rattle.def_safety.specs.Wired.{Wired}
-use Rattle.def_confined.specs.Capabilities.{Rooted, heap_cap}
+use Rattle.def_confined.specs.Capabilities.{Rooted}
 use Rattle.def_confined.specs.Confined.{Confined, FramesHold, ObjectFits}
 use Rattle.def_confined.specs.Keeps.{Keeps}
 use Rattle.def_confined.specs.Partitioned.{Partitioned}
@@ -27,6 +25,7 @@ use Rattle.law_events.proofs.Events.{event_keeps}
 use Rattle.law_moves.proofs.JumpsMoves.{in_rooted}
 use Rattle.law_moves.proofs.Rows.{each_take}
 use Rattle.law_history.proofs.Everywheres.{each_there}
+use Rattle.law_moves.proofs.Targets.{opened_no_heap}
 
 -- ---- all that is tagged has a root
 
@@ -91,17 +90,9 @@ stands_has P s c h (in_frame t any) = saved_fits P c (thread s t).frames (h.thre
 
 -- ---- what a jump would make of it
 
-no_heap : (i : Image) (d : Cap) → d.shadow.source ≡ 0 → heap_cap i d ≡ false
-no_heap i d none = elim (bool_tells (heap_cap i d)) [
-  | inl heap ↦
-      let P : ℕ → Type 0 = λ n. not (nat_eq n 0) ≡ true in
-      absurd (let clash : false ≡ true = subst P none (both_right (is_quota (root i d.shadow.root).origin) (not (nat_eq d.shadow.source 0)) heap) in cc)
-  | inr other ↦ other
-]
-
 no_root : (i : Image) (next : ℕ) (objects : List Object) (tokens : List Token) (c d : Cap) → Facts i → Each (ObjectFits i next) objects → Each (λ (r : Object). 0 < r.length) objects → Any (IsWhole tokens c) objects → Rooted i d → IsOpened c d → ⊥
 no_root i next objects tokens c d facts fits some whole rooted o =
-    let range = rooted.range (no_heap i d o.source) in
+    let range = rooted.range (opened_no_heap i d o.source) in
     let under = range.0 in
     let over = range.1 in
     let base = o.same_base in

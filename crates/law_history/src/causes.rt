@@ -1,7 +1,7 @@
 //! Laws of what native routines answer, one cause a line, each under the premise that those before it
 //! don't hold: the refusals of an allocation in their order, of a free and of a wait; those of a key, of
 //! a token and of its free; how long a sleep lasts; and that a wake wakes the threads of the lowest
-//! numbers. law_sched has which thread is picked, law_history what token_open answers. Functions with
+//! numbers. law_sched has which thread is picked, keys.rt what token_open answers. Functions with
 //! empty bodies whose contracts are the laws.
 
 ghost use Rattle.std.specs.List.{range_with_len};

@@ -7,9 +7,9 @@
 
 mod causes;
 mod derived;
+mod keys;
 mod marks;
 mod reuse;
-mod sealing;
 mod shadows;
 mod token_rows;
 
@@ -42,9 +42,9 @@ pub use causes::{
     allocations_refused, services_answer, sleeps_last, tokens_answer, wakes_in_order,
 };
 pub use derived::{events_derive, events_derive_opened};
+pub use keys::{events_fit, events_tokened, keys_last, tokens_opened, tokens_stay_shut};
 pub use marks::handlers_enter_once;
 pub use reuse::{sweep_before_reuse, sweeps_paint};
-pub use sealing::{events_fit, events_tokened, keys_last, tokens_opened, tokens_stay_shut};
 pub use shadows::shadows_unread;
 pub use token_rows::rows_last;
 

@@ -10,7 +10,7 @@ ghost use Rattle.def_step.specs.declared.Event.TheVariants.{Sweep};
 ghost use Rattle.def_step.specs.Events.{happens, run};
 ghost use Rattle.def_machine.specs.Platform.{Platform};
 ghost use Rattle.def_confined.specs.Changes.{NewObject};
-ghost use Rattle.def_safety.specs.Reuse.{IsSameChunk, Waits, IsPainted, ObjectsMeet, SweepBegins, SweepsWhole};
+ghost use Rattle.def_safety.specs.Reuse.{IsSameObject, Waits, IsPainted, ObjectsMeet, SweepBegins, SweepsWhole};
 
 /// Where an object stands among the others that no sweep has painted, as each does when it is freed, and after some
 /// events an object may be put where its chunk was, there was a whole sweep among them.
@@ -23,7 +23,7 @@ pub fn sweep_before_reuse()
 /// An object leaves only at the end of a sweep that has painted it, and is painted only where a sweep begins.
 pub fn sweeps_paint()
     ensures leaves { (b : Platform) (s : State) (e : Event) (r : Object)
-        → Any (IsSameChunk r) s.objects → (Any (IsSameChunk r) (happens b s e).0.objects → ⊥)
+        → Any (IsSameObject r) s.objects → (Any (IsSameObject r) (happens b s e).0.objects → ⊥)
         → (e ≡ Sweep) × ((happens b s e).0.front ≡ None)
         × Any (IsPainted r) (sweep_began s s.front).objects }
     ensures paints { (b : Platform) (s : State) (e : Event) (r : Object)

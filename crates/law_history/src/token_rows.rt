@@ -17,7 +17,8 @@ ghost use Rattle.def_safety.specs.Tokened.{IsKeyRow, IsTokenRow};
 /// more (`kept`).
 pub fn rows_last()
     ensures named { (b : Platform) (s : State) (es : List Event) (key n : ℕ)
-        → n < s.next → Any (IsTokenRow key n) (run b s es).tokens → Any (IsTokenRow key n) s.tokens }
+        → n < s.next → Any (IsTokenRow key n) (run b s es).tokens
+        → Any (IsTokenRow key n) s.tokens }
     ensures keys { (b : Platform) (s : State) (es : List Event) (n : ℕ)
         → n < s.next → Any (IsKeyRow n) (run b s es).tokens → Any (IsKeyRow n) s.tokens }
     ensures kept { (b : Platform) (s : State) (es : List Event) (key n : ℕ)

@@ -1,5 +1,6 @@
 -- An accepted image is accepted when it is upgraded.
-use Rattle.std.proofs.Common.{ℕ, zero, suc, ◌≡◌, ◌<◌, ◌≤◌, ◌^◌, ◌⊎◌, inl, inr, Bool, true, false, nat_le, Some, None, refl, sym, ap, ◌∙◌, subst, arith}
+use Rattle.std.proofs.Common.{ℕ, zero, suc, ◌≡◌, ◌≤◌, ◌⊎◌, inl, inr, nat_le, None, refl, subst, arith}
+use Rattle.std.proofs.lemmas.Bool.{leb-true}
 use Rattle.law_lists.proofs.Tests.{both_left, both_right}
 use Rattle.def_image.specs.Parts.{PartsRow, upgraded}
 use Rattle.def_image.specs.Profile.{last_version}
@@ -8,9 +9,8 @@ use Rattle.def_image.specs.Shapes.{IsShaped, IsSpellable}
 use Rattle.def_image.specs.Checks.{first}
 use Rattle.def_image.specs.Limits.{limit_checks}
 use Rattle.def_image.specs.Accepted.{IsFaultless}
-use Rattle.law_image.proofs.Tells.{le_is}
 use Rattle.def_boot.specs.Upgrade.{StaysFaultless}
-use Rattle.law_image.proofs.Limits.{the_first, limits_stay}
+use Rattle.law_image.proofs.Limits.{limits_stay}
 use Rattle.law_image.proofs.Regions.{regions_stay}
 use Rattle.law_image.proofs.Slots.{indexes_stay, rights_stay}
 
@@ -67,8 +67,8 @@ one_or_two (suc (suc v)) low high = inr (omega (arith, high))
 
 pub stays : StaysFaultless
 stays p f =
-    let low = le_is 1 p.version (both_left (nat_le 1 p.version) (nat_le p.version last_version) f.version) in
-    let high = le_is p.version last_version (both_right (nat_le 1 p.version) (nat_le p.version last_version) f.version) in
+    let low = leb-true 1 p.version (both_left (nat_le 1 p.version) (nat_le p.version last_version) f.version) in
+    let high = leb-true p.version last_version (both_right (nat_le 1 p.version) (nat_le p.version last_version) f.version) in
     elim (one_or_two p.version low high) [
       | inl one ↦ record {
         spellable = spellable_stays p f.spellable;

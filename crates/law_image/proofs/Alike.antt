@@ -14,18 +14,17 @@ use Rattle.def_memory.specs.declared.Granule.{Granule}
 use Rattle.def_memory.specs.Granules.{plain}
 use Rattle.def_machine.specs.Image.{Image, Region}
 use Rattle.def_machine.specs.State as st
-use Rattle.def_machine.specs.State.{State}
 use Rattle.def_sched.specs.declared.Status.TheVariants.{Ready}
 use Rattle.def_image.specs.declared.ImportRow.{ImportRow}
 use Rattle.def_image.specs.declared.SlotKind.{SlotKind}
 use Rattle.def_image.specs.declared.SlotKind.TheVariants as slot
 use Rattle.def_image.specs.Parts.{SlotRow, CodeRow, CompartmentRow, ThreadRow, PartsRow, upgraded}
-use Rattle.def_image.specs.Regions.{Holder, CodeOf, TableOf, GlobalsOf, SharedOf, SealedOf, StackOf, TrustedPart, RegionRow, trusted_region, later_regions, regions_of}
+use Rattle.def_image.specs.Regions.{Holder, CodeOf, TableOf, GlobalsOf, SharedOf, SealedOf, StackOf, TrustedPart, RegionRow, trusted_region, regions_of}
 use Rattle.def_image.specs.Members.{compartment, library, code_number, globals_number, library_number, stack_number}
 use Rattle.def_boot.specs.Entries.{slot_row, slot_rows, export_rows, code_row, globals_row, compartment_rows, library_rows, stack_row, rows_from, entry_rows, library_export_row}
 use Rattle.def_boot.specs.Gates.{gates_of, entries_of}
 use Rattle.def_boot.specs.Made.{entry_cap, entry_caps, caps_at_boot, boot_cap_of, return_sentry}
-use Rattle.def_boot.specs.Contents.{word_from_bytes, gate_word, covers, owned_content, content, region_in, region_at, content_at, boot_cap, granules_from, granules_in, boot_granules, part_at, part, parts_from, is_heap}
+use Rattle.def_boot.specs.Contents.{word_from_bytes, gate_word, covers, owned_content, content, region_in, region_at, content_at, boot_cap, granules_from, granules_in, boot_granules, part_at, part, parts_from}
 use Rattle.def_boot.specs.Boot.{image_of, platform_of, bases_of, first_thread, first_threads, first_frame, first_posture, entry_address, boot_state}
 use Rattle.def_boot.specs.Upgrade.{BootsAlike}
 use Rattle.law_image.proofs.Regions.{unplaced, Alike, later_alike}

@@ -23,7 +23,7 @@ use Rattle.law_image.proofs.OneCut.{one_cut}
 
 -- ---- names
 
-no_name : (k : ℕ) → name_of (zeros k) ≡ []
+pub no_name : (k : ℕ) → name_of (zeros k) ≡ []
 no_name zero = refl
 no_name (suc k) = refl
 

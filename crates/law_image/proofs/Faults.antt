@@ -1,6 +1,6 @@
 -- Bytes have one answer: an image, or one fault at one place.
 use Rattle.std.proofs.Common.{ℕ, suc, ◌≡◌, ◌<◌, ◌^◌, ◌⊎◌, inl, inr, Bool, true, false, nat_le, List, length, take, drop, Option, Some, None, refl, sym, ap, ◌∙◌, subst, arith}
-use Rattle.std.specs.Prelude.{bytes_eq, ◌&&◌}
+use Rattle.std.specs.Prelude.{bytes_eq}
 use Rattle.std.specs.Int.{w32, from_le_bytes, is_in_range}
 use Rattle.def_image.specs.Raw.{RawImage}
 use Rattle.def_image.specs.Parts.{PartsRow}
@@ -12,7 +12,7 @@ use Rattle.def_image.specs.Lying.{region_checks}
 use Rattle.def_image.specs.Indexes.{index_checks}
 use Rattle.def_image.specs.Rights.{right_checks}
 use Rattle.def_image.specs.Accepted.{is_begun, Spells, IsImage, IsCut, BreaksLimit, SpellsParts, BreaksRegion, BreaksIndex, BreaksRight}
-use Rattle.law_lists.proofs.Tests.{le_tells}
+use Rattle.law_lists.proofs.Tests.{le_tells, all_three}
 use Rattle.def_image.specs.Answers.{ImagesHaveNoFault, OneFault}
 use Rattle.law_image.proofs.Rows.{number_back}
 use Rattle.law_image.proofs.OneCut.{one_cut}
@@ -22,9 +22,6 @@ use Rattle.law_image.proofs.Backs.{one_reading}
 
 pub eight : (n : ℕ) → nat_le 8 (suc (suc (suc (suc (suc (suc (suc (suc n)))))))) ≡ true
 eight n = elim (le_tells 8 (suc (suc (suc (suc (suc (suc (suc (suc n))))))))) [ inl h ↦ h.0 | inr h ↦ absurd (let less = h.1 in omega (arith, less)) ]
-
-pub all_three : (a b c : Bool) → a ≡ true → b ≡ true → c ≡ true → (a && b && c) ≡ true
-all_three a b c e f g = rw (e, f, g) refl
 
 begun : (r : RawImage) → r.version < 2 ^ 32 → is_in_range 1 last_version r.version ≡ true → is_begun (spelled r) ≡ true
 unfolding spelled

@@ -4,6 +4,7 @@ use Rattle.std.specs.List.{list_any}
 use Rattle.std.proofs.lemmas.Bool.{leb-true, lt-ltb, eqb-true, not-true, not-false}
 use Rattle.ct_entry.specs.Listed.{DeviceRow}
 use Rattle.law_lists.proofs.Tests.{le_tells, lt_tells, both_left, both_right}
+use Rattle.law_lists.proofs.Places.{any_not}
 use Rattle.def_words.specs.LeastBounds.{rounded_of}
 use Rattle.def_image.specs.declared.Check.{Check}
 use Rattle.def_image.specs.declared.format.TheConstants.{DEVICE}
@@ -14,7 +15,7 @@ use Rattle.def_image.specs.Lying.{region_checks, device_asked, region_asked, is_
 use Rattle.def_image.specs.Sizes.{header_size}
 use Rattle.def_image.specs.Laid.{IsLaid, AreLaid, IsIn}
 use Rattle.def_image.specs.Sound.{IsAway, DeviceFits}
-use Rattle.law_image.proofs.Tells.{any_not, among_taken}
+use Rattle.law_image.proofs.Tells.{among_taken}
 use Rattle.law_image.proofs.Passing.{left_none, right_none, head_none, passes}
 
 -- ---- ranges that don't meet

@@ -1,6 +1,7 @@
 -- What the limits of an image's fields say of its parts: the header, devices and objects.
 use Rattle.std.proofs.Common.{ℕ, ◌≡◌, ◌+◌, ◌≤◌, ◌%◌, ◌==◌, ◌||◌, not, Bool, true, false, cond, nat_le, nat_lt, nat_eq, List, [], ◌∷◌, ◌++◌, length, map, take, Some, None, slice_get, subst, arith}
 use Rattle.std.proofs.lemmas.List.{length-map}
+use Rattle.std.proofs.lemmas.Bool.{not-false, ltb-false, eqb-true, or_parts}
 use Rattle.def_profile.specs.declared.limits.TheConstants.{RAM_END, MOST_BYTES}
 use Rattle.def_profile.specs.Versions as version
 use Rattle.def_image.specs.declared.Check.{Check}
@@ -13,14 +14,14 @@ use Rattle.def_image.specs.Profile.{most_threads, outside}
 use Rattle.def_image.specs.Checks.{first, walked, check}
 use Rattle.def_image.specs.Limits.{header_limits, name_checks, shared_limits, sealed_limits, thread_limits, thread_limits_by, shared_name, sealed_name, thread_name, owner_names, overfills, are_zeros}
 use Rattle.def_image.specs.Sound.{IsWithin, AreFew, SealedFits}
-use Rattle.law_image.proofs.Tells.{lt_not, eq_is, not_false, or_left, or_right, within_is}
+use Rattle.law_image.proofs.Tells.{within_is}
 use Rattle.law_image.proofs.Passing.{right_none, head_none, passes, all_pass}
 use Rattle.law_image.proofs.Holding.{Limited}
 use Rattle.law_image.proofs.Members.{map_at, map_taken}
 
 -- ---- the header
 
-threads_most : (v : ℕ) → most_threads v ≤ 64
+pub threads_most : (v : ℕ) → most_threads v ≤ 64
 threads_most v = by (nat_eq v 1)
   where
     by : (b : Bool) → cond (nat_le THREADS_TAKEN (cond b 16 64)) THREADS_TAKEN (cond b 16 64) ≤ 64
@@ -51,7 +52,7 @@ pub record HeaderFits (p : PartsRow) : Type 0 where
   pub sweep : IsWithin 1 65536 p.sweep
 
 few_of : {A B : Type 0} (f : A → B) (xs : List A) (n : ℕ) → nat_lt n (length (map f xs)) ≡ false → length xs ≤ n
-few_of f xs n e = subst (λ k. k ≤ n) (length-map xs f) (lt_not n (length (map f xs)) e)
+few_of f xs n e = subst (λ k. k ≤ n) (length-map xs f) (ltb-false n (length (map f xs)) e)
 
 pub header_fits : (p : PartsRow) → first (header_limits (raw_of p)) ≡ None → HeaderFits p
 unfolding header_limits raw_of
@@ -62,8 +63,8 @@ header_fits p e =
     let s1 = outside 256 most p.size in
     let s2 = not (p.size % 16 == 0) in
     let s3 = nat_lt RAM_END (p.ram + p.size) in
-    let both = or_left (s1 || s2) s3 size in
-    let within = within_is 256 most p.size (or_left s1 s2 both) in
+    let both = (or_parts (s1 || s2) s3 size).0 in
+    let within = within_is 256 most p.size (or_parts s1 s2 both).0 in
     record {
       few = record {
         devices = few_of raw_device p.devices 16 h.0;
@@ -74,10 +75,10 @@ header_fits p e =
         threads = (let a = few_of raw_thread p.threads (most_threads p.version) h.1.1.1.1.1.0 in let b = threads_most p.version in omega (arith, a, b));
       };
       quantum = within_is 1 1000000 p.quantum h.1.1.1.1.1.1.0;
-      ram = eq_is (p.ram % 16) 0 (not_false (nat_eq (p.ram % 16) 0) h.1.1.1.1.1.1.1.0);
-      size = eq_is (p.size % 16) 0 (not_false (nat_eq (p.size % 16) 0) (or_right s1 s2 both));
+      ram = eqb-true (p.ram % 16) 0 (not-false (nat_eq (p.ram % 16) 0) h.1.1.1.1.1.1.1.0);
+      size = eqb-true (p.size % 16) 0 (not-false (nat_eq (p.size % 16) 0) (or_parts s1 s2 both).1);
       sized = (let low = within.0 in let high = within.1 in let m = ram_most p.version in (low, omega (arith, high, m)));
-      end = lt_not RAM_END (p.ram + p.size) (or_right (s1 || s2) s3 size);
+      end = ltb-false RAM_END (p.ram + p.size) (or_parts (s1 || s2) s3 size).1;
       sweep = sweep_within p.version p.sweep (within_is (version.least_sweep p.version) (version.most_sweep p.version) p.sweep h.1.1.1.1.1.1.1.1.1.0);
     }
 
@@ -109,7 +110,7 @@ sealed_fits p h i s is =
     record {
       size = within_is 1 MOST_BYTES s.length each.0;
       seal = within_is 13 15 s.seal each.1.0;
-      bytes = lt_not s.length (length s.bytes) (or_right (outside 1 MOST_BYTES (length s.bytes)) (nat_lt s.length (length s.bytes)) each.1.1.0);
+      bytes = ltb-false s.length (length s.bytes) (or_parts (outside 1 MOST_BYTES (length s.bytes)) (nat_lt s.length (length s.bytes)) each.1.1.0).1;
     }
 
 -- ---- threads
@@ -128,6 +129,6 @@ thread_fits p h i t is =
     let each = all_pass last (right_none names last a.1) in
     record {
       stack = within_is 256 32768 t.stack_length each.0;
-      priority = lt_not 15 t.priority each.1.0;
+      priority = ltb-false 15 t.priority each.1.0;
       frames = within_is 1 96 t.frames each.1.1.0;
     }

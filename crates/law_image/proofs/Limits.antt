@@ -1,22 +1,18 @@
 -- I3: limits of the last version are no narrower, and the others don't depend on places.
-use Rattle.std.proofs.Common.{ℕ, ◌≡◌, ◌+◌, ◌*◌, ◌%◌, ◌==◌, ◌≤◌, ◌||◌, not, Bool, true, false, nat_lt, nat_le, nat_eq, List, [], ◌++◌, length, map, Some, None, refl, sym, ◌∙◌, subst, arith, inl, inr}
-use Rattle.std.specs.List.{AllByRecursion}
-use Rattle.std.proofs.lemmas.Bool.{le-ltb}
+use Rattle.std.proofs.Common.{ℕ, ◌≡◌, ◌+◌, ◌%◌, ◌==◌, ◌≤◌, ◌||◌, not, Bool, false, nat_lt, List, [], ◌++◌, length, map, None, refl, arith}
+use Rattle.std.proofs.lemmas.Bool.{le-ltb, ltb-false, le-leb, or_from, or_parts}
 use Rattle.def_profile.specs.declared.limits.TheConstants.{RAM_END}
-use Rattle.def_image.specs.declared.Check.{Check}
 use Rattle.def_image.specs.declared.RawEntry.{RawEntry}
 use Rattle.def_image.specs.declared.format.TheConstants.{ENTRY, DEVICE, SHARED, THREAD, COMPARTMENT_HEAD, LIBRARY_HEAD}
-use Rattle.def_image.specs.Raw.{RawDevice, RawShared, RawSealed, RawCode, RawCompartment, RawThread, RawImage}
+use Rattle.def_image.specs.Raw.{RawDevice, RawShared, RawSealed, RawCode, RawCompartment, RawThread}
 use Rattle.def_image.specs.Parts.{PartsRow, upgraded}
 use Rattle.def_image.specs.Profile.{outside}
 use Rattle.def_image.specs.Spelling.{raw_of, raw_thread}
 use Rattle.def_image.specs.Sizes.{sum_of, entries_size, sealed_size, compartment_size, library_size, devices_at, shared_at, sealed_at, compartments_at, libraries_at, threads_at}
 use Rattle.def_image.specs.Checks.{first, walked}
 use Rattle.def_image.specs.Limits.{limit_checks, header_limits, name_checks, device_limits, shared_limits, sealed_limits, row_limits, gate_limits, own_slot_limits, slot_limits, export_limits, code_limits, own_numbers, own_slots_limits, own_gates, dirty_padding, library_numbers, slots_limits, library_gates, compartment_limits_by, compartment_limits, library_limits_by, library_limits, thread_limits_by, thread_limits, Bounds, compartment_bounds, library_bounds, compartment_name, library_name, thread_name, owner_names, compartment_entries, library_entries, first_library_entry}
-use Rattle.law_lists.proofs.Tests.{le_tells}
-use Rattle.law_image.proofs.Tells.{lt_not, or_left, or_right, within_is}
-use Rattle.law_image.proofs.Walks.{first_later}
-use Rattle.law_image.proofs.Passing.{left_none, right_none, all_pass}
+use Rattle.law_image.proofs.Tells.{within_is}
+use Rattle.law_image.proofs.Passing.{all_pass, joined_none}
 use Rattle.law_image.proofs.Holding.{limited}
 use Rattle.law_image.proofs.Flags.{flags, joined, none_of, none_alike, walks_alike}
 
@@ -94,16 +90,10 @@ library_alike entry seen at place c =
 -- ---- the header, from the first version to the last
 
 not_more : (a b n : ℕ) → a ≤ b → nat_lt a n ≡ false → nat_lt b n ≡ false
-not_more a b n le e = le-ltb b n (omega (arith, lt_not a n e, le))
-
-le_so : (a b : ℕ) → a ≤ b → nat_le a b ≡ true
-le_so a b le = elim (le_tells a b) [ inl h ↦ h.0 | inr h ↦ absurd (let lt = h.1 in omega (arith, le, lt)) ]
+not_more a b n le e = le-ltb b n (omega (arith, ltb-false a n e, le))
 
 within_so : (low high n : ℕ) → low ≤ n → n ≤ high → outside low high n ≡ false
-within_so low high n a b = rw (le_so low n a, le_so n high b) refl
-
-none_or : (a b : Bool) → a ≡ false → b ≡ false → (a || b) ≡ false
-none_or a b e f = rw e f
+within_so low high n a b = rw (le-leb low n a, le-leb n high b) refl
 
 missized : (size ram : ℕ) → (outside 256 8388608 size || not (size % 16 == 0) || nat_lt RAM_END (ram + size)) ≡ false
     → (outside 256 67108864 size || not (size % 16 == 0) || nat_lt RAM_END (ram + size)) ≡ false
@@ -111,12 +101,12 @@ missized size ram e =
     let narrow = outside 256 8388608 size in
     let odd = not (size % 16 == 0) in
     let past = nat_lt RAM_END (ram + size) in
-    let front = or_left (narrow || odd) past e in
-    let within = within_is 256 8388608 size (or_left narrow odd front) in
+    let front = (or_parts (narrow || odd) past e).0 in
+    let within = within_is 256 8388608 size (or_parts narrow odd front).0 in
     let low = within.0 in
     let high = within.1 in
-    none_or (outside 256 67108864 size || odd) past
-    (none_or (outside 256 67108864 size) odd (within_so 256 67108864 size low (omega (arith, high))) (or_right narrow odd front)) (or_right (narrow || odd) past e)
+    or_from (outside 256 67108864 size || odd) past
+    (or_from (outside 256 67108864 size) odd (within_so 256 67108864 size low (omega (arith, high))) (or_parts narrow odd front).1) (or_parts (narrow || odd) past e).1
 
 one_rate : (sweep : ℕ) → outside 64 64 sweep ≡ false → outside 1 65536 sweep ≡ false
 one_rate sweep e =
@@ -157,9 +147,6 @@ header_stays p e =
 
 -- ---- all
 
-both_none : (xs ys : List Check) → first xs ≡ None → first ys ≡ None → first (xs ++ ys) ≡ None
-both_none xs ys e f = first_later xs ys e ∙ f
-
 pub limits_stay : (p : PartsRow) → first (limit_checks (raw_of (the_first p))) ≡ None → first (limit_checks (raw_of (upgraded p))) ≡ None
 unfolding limit_checks raw_of
 limits_stay p e =
@@ -191,5 +178,5 @@ limits_stay p e =
     let nt : first t ≡ None = none_alike (walked (thread_limits r) (λ t. THREAD) (threads_at r) [] r.threads) t
     (walks_alike (thread_limits r) (thread_limits q) (λ t. THREAD) (λ t. THREAD)
     (λ at place earlier k. threads_alike (owner_names r ++ map thread_name earlier) at place k) (threads_at r) (threads_at q) [] r.threads) was.threads in
-    both_none (h ++ d ++ s ++ x ++ c ++ l) t
-    (both_none (h ++ d ++ s ++ x ++ c) l (both_none (h ++ d ++ s ++ x) c (both_none (h ++ d ++ s) x (both_none (h ++ d) s (both_none h d nh nd) ns) nx) nc) nl) nt
+    joined_none (h ++ d ++ s ++ x ++ c ++ l) t
+    (joined_none (h ++ d ++ s ++ x ++ c) l (joined_none (h ++ d ++ s ++ x) c (joined_none (h ++ d ++ s) x (joined_none (h ++ d) s (joined_none h d nh nd) ns) nx) nc) nl) nt

@@ -1,7 +1,6 @@
 -- Members of lists by index, and the numbers of entries as sums.
-use Rattle.std.proofs.Common.{ℕ, zero, suc, ◌≡◌, ◌+◌, ◌<◌, List, [], ◌∷◌, length, map, take, Some, slice_get, get_or, All, refl, ap, subst, arith}
+use Rattle.std.proofs.Common.{ℕ, zero, suc, ◌≡◌, ◌+◌, List, [], ◌∷◌, length, map, take, Some, slice_get, refl, ap, subst, arith}
 use Rattle.std.specs.List.{AllByRecursion}
-use Rattle.std.proofs.lemmas.Option.{slice_get-get_or}
 use Rattle.def_image.specs.Sizes.{sum_of}
 use Rattle.def_image.specs.Members.{number_in}
 
@@ -17,14 +16,6 @@ all_at P (y ∷ ys) (suc i) x h is = all_at P ys i x h.1 is
 
 pub all_back : {A B : Type 0} (P : B → Type 0) (f : A → B) (xs : List A) (i : ℕ) (x : A) → AllByRecursion P (map f xs) → slice_get xs i ≡ Some x → P (f x)
 all_back P f xs i x h is = all_at P (map f xs) i (f x) h (map_at f xs i x is)
-
-pub some_in : {A : Type 0} (xs : List A) (i : ℕ) → i < length xs → (x : A) × (slice_get xs i ≡ Some x)
-some_in [] i lt = absurd (omega (arith, lt))
-some_in (y ∷ ys) zero lt = (y, refl)
-some_in (y ∷ ys) (suc i) lt = some_in ys i (omega (arith, lt))
-
-pub all_there : {A : Type 0} (P : A → Type 0) (xs : List A) → ((i : ℕ) (x : A) → slice_get xs i ≡ Some x → P x) → All P xs
-all_there P xs one = λ k d lt. one k (get_or xs k d) (slice_get-get_or xs k d lt)
 
 pub taken : {A : Type 0} (xs : List A) (i : ℕ) (x : A) → slice_get xs i ≡ Some x → length (take i xs) ≡ i
 taken [] i x is = cc

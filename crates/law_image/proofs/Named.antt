@@ -3,8 +3,9 @@ use Rattle.std.proofs.Common.{ℕ, zero, suc, ◌≡◌, ◌+◌, ◌==◌, ◌&
 use Rattle.std.specs.List.{list_any}
 use Rattle.std.specs.Prelude.{option_map}
 use Rattle.std.proofs.lemmas.Option.{slice_get-map}
-use Rattle.std.proofs.lemmas.Bool.{ltb-true, ltb-false, eqb-true, not-false}
+use Rattle.std.proofs.lemmas.Bool.{ltb-true, ltb-false, eqb-true, not-false, or_parts}
 use Rattle.law_lists.proofs.Tests.{eq_tells, both_left, both_right}
+use Rattle.law_lists.proofs.Places.{present}
 use Rattle.def_image.specs.declared.ImportRow.{ImportRow}
 use Rattle.def_image.specs.declared.SlotKind.{SlotKind}
 use Rattle.def_image.specs.declared.SlotKind.TheVariants.{Service, Device, Shared, Sealed, Call, Library, Quota, Key}
@@ -18,9 +19,8 @@ use Rattle.def_image.specs.Limits.{misnumbered}
 use Rattle.def_image.specs.Indexes.{index_checks, compartment_asked, library_asked, thread_asked, own_slot_asked, slot_asked, part_size, code_size, is_own_astray, is_astray, is_named, is_reserved, is_switch, is_service, comes_before, enters, exports_of, code_in}
 use Rattle.def_image.specs.Rights.{right_checks, compartment_rights, library_rights, right_asked, library_right_asked, fits_kind, rights_of, is_library}
 use Rattle.def_image.specs.Sound.{Names, IsInPlace, OwnSlotFits, LibrarySlotFits}
-use Rattle.law_image.proofs.Tells.{or_left, or_right, within_is}
+use Rattle.law_image.proofs.Tells.{within_is}
 use Rattle.law_image.proofs.Passing.{left_none, right_none, head_none, passes}
-use Rattle.law_image.proofs.Members.{some_in}
 
 -- ---- the parts of the walks
 
@@ -52,7 +52,7 @@ righted p e =
 -- ---- what is there
 
 pub export_there : (c : CodeRow) (j : ℕ) → nat_lt j (length c.exports) ≡ true → (x : GateRow) × (slice_get c.exports j ≡ Some x)
-export_there c j e = some_in c.exports j (ltb-true j (length c.exports) e)
+export_there c j e = present c.exports j (ltb-true j (length c.exports) e)
 
 pub record Called (cs : List CompartmentRow) (b j : ℕ) : Type 0 where
   pub compartment : CompartmentRow
@@ -84,9 +84,9 @@ linked ls l j e = by (slice_get ls l) refl e
 
 pub names_of : (p : PartsRow) (r : ImportRow) (k : SlotKind) → is_named p r k ≡ true → misnumbered (kind_byte k) r.first ≡ false → Names p r k
 names_of p r Service e m = let le = ltb-false last_service r.first m in omega (arith, le)
-names_of p r Device e m = some_in p.devices r.first (ltb-true r.first (length p.devices) e)
-names_of p r Shared e m = some_in p.shared r.first (ltb-true r.first (length p.shared) e)
-names_of p r Sealed e m = some_in p.sealed r.first (ltb-true r.first (length p.sealed) e)
+names_of p r Device e m = present p.devices r.first (ltb-true r.first (length p.devices) e)
+names_of p r Shared e m = present p.shared r.first (ltb-true r.first (length p.shared) e)
+names_of p r Sealed e m = present p.sealed r.first (ltb-true r.first (length p.sealed) e)
 names_of p r Call e m = let h = called p.compartments r.first r.second e in (h.compartment, h.gate, h.at, h.in_it)
 names_of p r Library e m = let h = linked p.libraries r.first r.second e in (h.library, h.gate, h.at, h.in_it)
 names_of p r Quota e m = ltb-false 2147483647 r.first m
@@ -111,8 +111,8 @@ not_astray : (p : PartsRow) (earlier : List SlotRow) (r : ImportRow) → is_astr
 not_astray p earlier r e =
     let a = not (is_named p r r.kind) in
     let b = is_reserved r in
-    let ab = or_left (a || b) (list_any (comes_before r) earlier) e in
-    record { named = not-false (is_named p r r.kind) (or_left a b ab); free = or_right a b ab }
+    let ab = (or_parts (a || b) (list_any (comes_before r) earlier) e).0 in
+    record { named = not-false (is_named p r r.kind) (or_parts a b ab).0; free = (or_parts a b ab).1 }
 
 -- the test of slot j of a compartment
 own_test : (p : PartsRow) → Indexed p → (b : ℕ) (c : CompartmentRow) → slice_get p.compartments b ≡ Some c → (j : ℕ) (s : SlotRow) → slice_get c.code.slots j ≡ Some s

@@ -1,6 +1,7 @@
 -- What the limits of an image's fields say of compartments and libraries, their slots and their exports.
 use Rattle.std.proofs.Common.{ℕ, ◌≡◌, ◌+◌, ◌*◌, ◌<◌, ◌≤◌, ◌^◌, ◌%◌, ◌||◌, not, Bool, true, false, nat_le, nat_lt, nat_eq, List, [], ◌++◌, length, map, take, Some, None, slice_get, refl, sym, ap, ◌∙◌, subst, arith, inl, inr}
 use Rattle.std.proofs.lemmas.List.{length-map}
+use Rattle.std.proofs.lemmas.Bool.{not-false, ltb-false, eqb-true, or_parts}
 use Rattle.def_profile.specs.declared.limits.TheConstants.{MOST_BYTES}
 use Rattle.law_lists.proofs.Tests.{le_tells}
 use Rattle.ct_entry.specs.declared.rows.Mode.{Mode}
@@ -15,10 +16,10 @@ use Rattle.def_image.specs.Sizes.{sum_of, compartment_size, library_size, compar
 use Rattle.def_image.specs.Profile.{outside}
 use Rattle.def_image.specs.Checks.{first, walked}
 use Rattle.def_image.specs.Limits as lim
-use Rattle.def_image.specs.Limits.{name_checks, code_limits, row_limits, gate_limits, own_slot_limits, slot_limits, export_limits, own_numbers, compartment_limits, compartment_limits_by, library_numbers, library_limits, library_limits_by, Bounds, compartment_bounds, library_bounds, byte_at, number_at, misnumbered, is_misnamed, is_unnamed_key, entry_name}
+use Rattle.def_image.specs.Limits.{name_checks, code_limits, row_limits, gate_limits, own_slot_limits, slot_limits, export_limits, own_numbers, compartment_limits, compartment_limits_by, library_numbers, library_limits, library_limits_by, Bounds, compartment_bounds, library_bounds, misnumbered, is_misnamed, is_unnamed_key, entry_name}
 use Rattle.def_image.specs.Members as mem
 use Rattle.def_image.specs.Sound.{IsWithin, CodeFits, ExportFits, LibraryExportFits}
-use Rattle.law_image.proofs.Tells.{lt_not, eq_is, not_false, or_left, or_right, within_is}
+use Rattle.law_image.proofs.Tells.{within_is}
 use Rattle.law_image.proofs.Passing.{left_none, all_pass}
 use Rattle.law_image.proofs.Members.{taken, sum_map, number_is}
 use Rattle.law_image.proofs.Rows.{first_at, offset_at, stack_at, entry_at}
@@ -51,13 +52,13 @@ gate_limited b text entry at x so ss se e =
     let h = all_pass (gate_limits b text entry at (export_field x)) e in
     let place = subst (λ n. (not (nat_eq (n % 4) 0) || nat_le text n) ≡ false) (offset_at x so) h.0 in
     record {
-      even = eq_is (x.offset % 4) 0 (not_false (nat_eq (x.offset % 4) 0) (or_left (not (nat_eq (x.offset % 4) 0)) (nat_le text x.offset) place));
-      inside = le_not text x.offset (or_right (not (nat_eq (x.offset % 4) 0)) (nat_le text x.offset) place);
-      stack = lt_not b.stack x.stack (subst (λ n. nat_lt b.stack n ≡ false) (stack_at x ss) h.1.0);
-      args = lt_not b.args x.args h.1.1.0;
+      even = eqb-true (x.offset % 4) 0 (not-false (nat_eq (x.offset % 4) 0) (or_parts (not (nat_eq (x.offset % 4) 0)) (nat_le text x.offset) place).0);
+      inside = le_not text x.offset (or_parts (not (nat_eq (x.offset % 4) 0)) (nat_le text x.offset) place).1;
+      stack = ltb-false b.stack x.stack (subst (λ n. nat_lt b.stack n ≡ false) (stack_at x ss) h.1.0);
+      args = ltb-false b.args x.args h.1.1.0;
       posture = h.1.1.1.0;
       passes = h.1.1.1.1.0;
-      entry_is = eq_is x.entry entry (not_false (nat_eq x.entry entry) (subst (λ n. not (nat_eq n entry) ≡ false) (entry_at x se) h.1.1.1.1.1.1.0));
+      entry_is = eqb-true x.entry entry (not-false (nat_eq x.entry entry) (subst (λ n. not (nat_eq n entry) ≡ false) (entry_at x se) h.1.1.1.1.1.1.0));
     }
 
 -- ---- slots and exports in their lists
@@ -105,13 +106,13 @@ code_fits : (at : ℕ) (c : CodeRow) → first (code_limits at (raw_code c)) ≡
 code_fits at c e few =
     let h = all_pass (code_limits at (raw_code c)) e in
     let slots : length (map raw_slot c.slots) ≡ length c.slots = length-map c.slots raw_slot in
-    let fits = lt_not c.length (8 * length (map raw_slot c.slots) + length c.text) h.0 in
+    let fits = ltb-false c.length (8 * length (map raw_slot c.slots) + length c.text) h.0 in
     let words = nat_eq (length c.text % 4) 0 in
     let long = nat_lt MOST_BYTES (length c.text) in
     record {
       fits = subst (λ n. 8 * n + length c.text ≤ c.length) slots fits;
-      words = eq_is (length c.text % 4) 0 (not_false words (or_right long (not words) h.1.0));
-      text = lt_not MOST_BYTES (length c.text) (or_left long (not words) h.1.0);
+      words = eqb-true (length c.text % 4) 0 (not-false words (or_parts long (not words) h.1.0).1);
+      text = ltb-false MOST_BYTES (length c.text) (or_parts long (not words) h.1.0).0;
       exports = few;
     }
 
@@ -123,10 +124,10 @@ compartment_limited_by c entry at seen e =
     let slots : length r.code.slots ≡ length c.code.slots = length-map c.code.slots raw_slot in
     let exports : length r.code.exports ≡ length c.code.exports = length-map c.code.exports raw_gate in
     record {
-      code = code_fits at c.code h.code (subst (λ n. n ≤ 64) exports (lt_not 64 (length r.code.exports) each.1.1.1.0));
+      code = code_fits at c.code h.code (subst (λ n. n ≤ 64) exports (ltb-false 64 (length r.code.exports) each.1.1.1.0));
       slots = within_is 1 148 (length c.code.slots) (subst (λ n. outside 1 148 n ≡ false) slots each.1.1.0);
       globals = within_is 16 MOST_BYTES c.globals_length each.0;
-      initial = lt_not c.globals_length (length c.initial) (or_right (nat_lt MOST_BYTES (length c.initial)) (nat_lt c.globals_length (length c.initial)) each.1.0);
+      initial = ltb-false c.globals_length (length c.initial) (or_parts (nat_lt MOST_BYTES (length c.initial)) (nat_lt c.globals_length (length c.initial)) each.1.0).1;
       slot = λ j s is small. own_numbered (at + COMPARTMENT_HEAD) c.code.slots h.slots j s is small;
       export = λ j x is small. subst (λ n. GateLimited compartment_bounds (length c.code.text) (entry + 2 + n + j) x.row) slots
           (gate_numbered compartment_bounds (length c.code.text) (entry + 2 + length r.code.slots) (at + COMPARTMENT_HEAD + entries_size r.code.slots) c.code.exports h.gates j x is small);
@@ -158,8 +159,8 @@ library_limited_by c entry at seen e =
     let slots : length r.slots ≡ length c.slots = length-map c.slots raw_slot in
     let exports : length r.exports ≡ length c.exports = length-map c.exports raw_gate in
     record {
-      code = code_fits at c h.code (subst (λ n. n ≤ 64) exports (lt_not 64 (length r.exports) each.1.0));
-      slots = subst (λ n. n ≤ 128) slots (lt_not 128 (length r.slots) each.0);
+      code = code_fits at c h.code (subst (λ n. n ≤ 64) exports (ltb-false 64 (length r.exports) each.1.0));
+      slots = subst (λ n. n ≤ 128) slots (ltb-false 128 (length r.slots) each.0);
       slot = λ j s is small. slot_numbered (at + LIBRARY_HEAD) c.slots h.slots j s is small;
       export = λ j x is small. subst (λ n. GateLimited library_bounds (length c.text) (entry + 1 + n + j) x.row) slots
           (gate_numbered library_bounds (length c.text) (entry + 1 + length r.slots) (at + LIBRARY_HEAD + entries_size r.slots) c.exports h.gates j x is small);

@@ -3,7 +3,7 @@ use Rattle.std.proofs.Common.{ℕ, zero, suc, ◌≡◌, ◌+◌, Bool, true, fa
 use Rattle.std.specs.List.{AllByRecursion}
 use Rattle.std.proofs.lemmas.List.{append-nil}
 use Rattle.def_image.specs.declared.Check.{Check}
-use Rattle.def_image.specs.Checks.{first, walked}
+use Rattle.def_image.specs.Checks.{first, walked, check}
 
 pub left_none : (xs ys : List Check) → first (xs ++ ys) ≡ None → first xs ≡ None
 unfolding first
@@ -22,6 +22,20 @@ right_none (x ∷ xs) ys e = by x.fails e (λ h. right_none xs ys h)
     by : (b : Bool) → cond b (Some x.place) (first (xs ++ ys)) ≡ None → (first (xs ++ ys) ≡ None → first ys ≡ None) → first ys ≡ None
     by true h rec = absurd (let clash : Some x.place ≡ None = h in cc)
     by false h rec = rec h
+
+-- of two lists, and of one check, on which none fails
+pub joined_none : (xs ys : List Check) → first xs ≡ None → first ys ≡ None → first (xs ++ ys) ≡ None
+unfolding first
+joined_none [] ys a b = b
+joined_none (x ∷ xs) ys a b = by x.fails a (λ h. joined_none xs ys h b)
+  where
+    by : (c : Bool) → cond c (Some x.place) (first xs) ≡ None → (first xs ≡ None → first (xs ++ ys) ≡ None) → cond c (Some x.place) (first (xs ++ ys)) ≡ None
+    by true h rest = absurd (let clash : Some x.place ≡ None = h in cc)
+    by false h rest = rest h
+
+pub one_none : (place : ℕ) (fails : Bool) → fails ≡ false → first (check place fails ∷ []) ≡ None
+unfolding first
+one_none place fails a = ap (λ c. cond c (Some place) None) a
 
 pub head_none : (x : Check) (xs : List Check) → first (x ∷ xs) ≡ None → (x.fails ≡ false) × (first xs ≡ None)
 unfolding first

@@ -1,14 +1,13 @@
 -- Each size is the length of its spelling, so that places are offsets in the bytes.
-use Rattle.std.proofs.Common.{ℕ, ◌≡◌, ◌+◌, ◌*◌, Bool, true, false, cond, nat_eq, List, [], ◌∷◌, ◌++◌, length, refl, sym, ap, ◌∙◌, arith}
+use Rattle.std.proofs.Common.{ℕ, ◌≡◌, ◌+◌, ◌*◌, Bool, true, false, cond, nat_eq, List, [], ◌∷◌, ◌++◌, length, refl, ap, ◌∙◌, arith}
 use Rattle.std.specs.List.{flat_map, AllByRecursion}
 use Rattle.std.proofs.lemmas.List.{length-append}
 use Rattle.std.proofs.lemmas.List.Concat.{flat_map-cons}
 use Rattle.def_image.specs.declared.RawEntry.{RawEntry}
-use Rattle.def_image.specs.declared.format.TheConstants.{THREAD}
 use Rattle.def_image.specs.Raw.{RawDevice, RawShared, RawSealed, RawCode, RawCompartment, RawThread, RawImage}
 use Rattle.def_image.specs.Spelling.{number, count, magic, sweep_spelled, entry_spelled, device_spelled, shared_spelled, sealed_spelled, tables_spelled, compartment_spelled, library_spelled, thread_spelled, spelled}
-use Rattle.def_image.specs.Shapes.{IsField, IsRawEntry, IsDevice, IsShared, IsSealed, IsCode, IsCompartment, IsThread, IsShaped}
-use Rattle.def_image.specs.Sizes.{sum_of, rate_size, sealed_size, tables_size, compartment_size, library_size, threads_at}
+use Rattle.def_image.specs.Shapes.{IsRawEntry, IsDevice, IsShared, IsSealed, IsCode, IsCompartment, IsThread}
+use Rattle.def_image.specs.Sizes.{sum_of, rate_size, sealed_size, tables_size, compartment_size, library_size}
 use Rattle.def_image.specs.Answers.{PlacesAreOffsets}
 
 -- ---- lists

@@ -1,5 +1,5 @@
 -- I4: where regions and devices lie doesn't depend on where their bases stand in the bytes.
-use Rattle.std.proofs.Common.{ℕ, ◌≡◌, ◌+◌, ◌&&◌, ◌||◌, not, Bool, true, false, nat_le, List, [], ◌∷◌, ◌++◌, map, Some, None, refl, sym, ap, ◌∙◌}
+use Rattle.std.proofs.Common.{ℕ, ◌≡◌, ◌+◌, ◌&&◌, ◌||◌, not, nat_le, List, [], ◌∷◌, ◌++◌, map, None, refl, sym, ap, ◌∙◌}
 use Rattle.std.specs.List.{list_any}
 use Rattle.std.proofs.lemmas.List.{map-append}
 use Rattle.ct_entry.specs.Listed.{DeviceRow}
@@ -8,7 +8,7 @@ use Rattle.def_image.specs.declared.format.TheConstants.{DEVICE, SHARED, THREAD}
 use Rattle.def_image.specs.Parts.{SharedRow, SealedRow, CodeRow, CompartmentRow, ThreadRow, PartsRow, upgraded}
 use Rattle.def_image.specs.Sizes.{sealed_size, compartment_size, library_size, header_size, shared_at, sealed_at, compartments_at, libraries_at, threads_at}
 use Rattle.def_image.specs.Spelling.{raw_sealed, raw_compartment, raw_code, raw_of}
-use Rattle.def_image.specs.Regions.{RegionRow, shared_regions, sealed_regions, compartment_regions, library_regions, stack_regions, trusted_region, later_regions, regions_of}
+use Rattle.def_image.specs.Regions.{RegionRow, shared_regions, sealed_regions, compartment_regions, library_regions, stack_regions, trusted_region, later_regions}
 use Rattle.def_image.specs.Checks.{first, walked, check}
 use Rattle.def_image.specs.Lying.{region_checks, device_asked, region_asked, is_laid, is_laid_below, is_in_ram, is_even, is_heap_laid, meets_region, meets_native}
 use Rattle.def_words.specs.LeastBounds.{rounded_of}
@@ -49,7 +49,7 @@ walk_alike p rs qs e = sym (unplaced_walk p [] rs) ∙ ap (λ l. flags (walk p [
 
 -- ---- the regions of an image
 
-same_tail : {x : RegionRow} {l m : List RegionRow} → l ≡ m → (x ∷ l) ≡ (x ∷ m)
+pub same_tail : {x : RegionRow} {l m : List RegionRow} → l ≡ m → (x ∷ l) ≡ (x ∷ m)
 same_tail {x = x} e = ap (λ (l : List RegionRow). x ∷ l) e
 
 shared_moved : (at place n : ℕ) (ss : List SharedRow) → Alike (shared_regions at n ss) (shared_regions place n ss)

@@ -1,7 +1,6 @@
 -- I5 and I6: what slots and threads name, and rights, don't depend on places.
-use Rattle.std.proofs.Common.{ℕ, ◌≡◌, ◌+◌, ◌==◌, ◌||◌, not, Bool, List, [], ◌∷◌, ◌++◌, length, Some, None, refl, ap, ◌∙◌, if◌then◌else◌}
+use Rattle.std.proofs.Common.{ℕ, ◌≡◌, ◌+◌, ◌==◌, ◌||◌, not, Bool, List, [], ◌∷◌, ◌++◌, length, None, refl, ap, if◌then◌else◌}
 use Rattle.std.specs.List.{list_any}
-use Rattle.def_image.specs.declared.Check.{Check}
 use Rattle.def_image.specs.declared.ImportRow.{ImportRow}
 use Rattle.def_image.specs.declared.SlotKind.{SlotKind}
 use Rattle.def_image.specs.declared.SlotKind.TheVariants.{Service, Device, Shared, Sealed, Call, Library, Quota, Key}
@@ -9,8 +8,8 @@ use Rattle.def_image.specs.declared.format.TheConstants.{ENTRY, THREAD, COMPARTM
 use Rattle.def_image.specs.Parts.{SlotRow, CodeRow, CompartmentRow, ThreadRow, PartsRow, upgraded}
 use Rattle.def_image.specs.Sizes.{compartments_at, libraries_at, threads_at}
 use Rattle.def_image.specs.Spelling.{raw_of}
-use Rattle.def_image.specs.Checks.{first, walked, check}
-use Rattle.def_image.specs.Indexes.{is_named, is_astray, is_own_astray, is_reserved, is_switch, comes_before, slot_asked, own_slot_asked, compartment_asked, library_asked, thread_asked, part_size, code_size, index_checks}
+use Rattle.def_image.specs.Checks.{first, walked}
+use Rattle.def_image.specs.Indexes.{is_named, is_astray, is_reserved, is_switch, comes_before, slot_asked, own_slot_asked, compartment_asked, library_asked, thread_asked, part_size, code_size, index_checks}
 use Rattle.def_image.specs.Rights.{right_asked, library_right_asked, compartment_rights, library_rights, right_checks}
 use Rattle.law_image.proofs.Flags.{flags, joined, none_alike, walks_alike}
 

@@ -6,22 +6,13 @@
 
 mod upgrade;
 
-ghost use Rattle.std.specs.Prelude.{◌≡◌, None};
 ghost use Rattle.def_image.specs.Accepted.{IsFaultless};
-ghost use Rattle.def_image.specs.Checks.{first};
-ghost use Rattle.def_image.specs.Laid.{AreLaid};
-ghost use Rattle.def_image.specs.Lying.{region_checks};
 ghost use Rattle.def_image.specs.Parts.{PartsRow};
 ghost use Rattle.def_image.specs.Reading.{OneCut, OneReading};
 ghost use Rattle.def_image.specs.Sound.{Sound};
 ghost use Rattle.def_image.specs.Answers.{EndsWhole, ImagesHaveNoFault, OneFault, PlacesAreOffsets};
 
 pub use upgrade::{upgrade_boots_alike, upgrade_is_accepted};
-
-/// Regions of an image whose checks of regions pass are laid out apart, in RAM below the heap.
-pub fn regions_laid()
-    ensures { (p : PartsRow) → first (region_checks p) ≡ None → AreLaid p }
-{}
 
 /// Parts on which no check fails, as those of each accepted image, are sound: RAM and heap, the
 /// regions, and by index each device, object, compartment, library, slot, export and thread.

@@ -5,7 +5,7 @@ use Rattle.std.proofs.Math.Nat.{mul-mod_left, add-mul-mod_self_right}
 use Rattle.def_profile.specs.declared.bounds.TheConstants.{LAST_EXPONENT, MOST_UNITS}
 use Rattle.law_lists.proofs.Tests.{le_tells}
 use Rattle.def_words.specs.LeastBounds.{floor_units, ceil_units, exponent_for, rounded_of}
-use Rattle.law_words.proofs.Leasts.{exponent_is, ceil_le, floor_under}
+use Rattle.law_words.proofs.Leasts.{exponent_is, ceil_above, ceil_le, floor_under}
 use Rattle.law_words.proofs.Exacts.{no_larger, exact_flag}
 use Rattle.def_layout.specs.declared.Region.{Region}
 use Rattle.def_layout.specs.Placement.{whole_size, region_length, region_base, region, placed, last_end, needed}
@@ -77,6 +77,21 @@ apart end (m ∷ ns) (suc i) (suc j) r q a b lt = apart (next_end end m) ns i j 
 
 pub in_ram : (base size : ℕ) (ns : List ℕ) (i : ℕ) (r : Region) → needed base ns ≤ size → slice_get (placed base ns) i ≡ Some r → r.base + r.length ≤ base + size
 in_ram base size ns i r le is = let top = high base ns i r is in let up = grows base ns in omega (arith, le, top, up)
+
+-- ---- lengths
+
+pub whole_above : (n : ℕ) → n ≤ whole_size n
+whole_above n = by ((n + 16 - 1) / 16) ((n + 16 - 1) % 16) (div-add-mod' (n + 16 - 1) 16) (omega arith)
+  where
+    by : (k rest : ℕ) → k * 16 + rest ≡ n + 16 - 1 → rest < 16 → n ≤ max 16 (k * 16)
+    by k rest split small = omega (arith, split, small)
+
+-- a length is at least the size in whole units
+pub length_above : (n : ℕ) → whole_size n ≤ region_length n
+length_above n = ceil_above (whole_size n) (exponent_for 0 (whole_size n))
+
+pub size_fits : (n : ℕ) → n ≤ region_length n
+size_fits n = let whole = whole_above n in let length = length_above n in omega (arith, whole, length)
 
 -- ---- what a word can spell
 

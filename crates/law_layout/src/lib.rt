@@ -3,14 +3,14 @@
 //! Functions with empty bodies whose contracts are the laws.
 #![tactic(auto)]
 
-mod rounds;
+mod lengths;
 
 ghost use Rattle.std.specs.Prelude.{◌%◌, ◌+◌, ◌<◌, ◌≡◌, ◌≤◌, List, Some, length, slice_get, ℕ};
 ghost use Rattle.def_layout.specs.declared.Region.{Region};
 ghost use Rattle.def_layout.specs.Placement.{IsLeastBase, last_end, needed, placed, region_base, region_length};
 ghost use Rattle.def_layout.specs.Lies.{AreSmall, IsSpelled};
 
-pub use rounds::lengths_round_to_the_least;
+pub use lengths::lengths_round_to_the_least;
 
 /// Each base is the least at or after the end before it at which a region of this size may begin.
 pub fn bases_are_least()

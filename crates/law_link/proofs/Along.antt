@@ -2,11 +2,12 @@
 use Rattle.std.proofs.Common.{ℕ, suc, ◌≡◌, ◌+◌, false, List, [], ◌∷◌, ◌++◌, length, map, None, refl, sym, ap, ◌∙◌, subst, append_assoc}
 use Rattle.std.specs.Prelude.{⊤}
 use Rattle.std.specs.List.{AllByRecursion}
+use Rattle.std.proofs.lemmas.List.{map_push}
 use Rattle.def_texts.specs.Names.{among}
 use Rattle.def_image.specs.declared.Check.{Check}
 use Rattle.def_image.specs.Checks.{first, walked}
-use Rattle.law_link.proofs.Walks.{joined_none}
 use Rattle.law_link.proofs.Fields.{New}
+use Rattle.law_image.proofs.Passing.{joined_none}
 
 -- each member has a property, with the fields of those before it known
 unfoldable pub Along : {A B : Type 0} → (A → B) → (List B → A → Type 0) → List B → List A → Type 0
@@ -39,10 +40,6 @@ unfolding Along
 along_all raw G earlier [] h = tt
 along_all raw G earlier (x ∷ xs) h = (h.0, along_all raw G (earlier ++ raw x ∷ []) xs h.1)
 
-map_end : {B C : Type 0} (f : B → C) (xs : List B) (y : B) → map f (xs ++ y ∷ []) ≡ map f xs ++ f y ∷ []
-map_end f [] y = refl
-map_end f (x ∷ xs) y = ap (λ l. f x ∷ l) (map_end f xs y)
-
 -- its name is none of those before it
 pub along_new : {A B : Type 0} (raw : A → B) (name : B → List ℕ) (title : A → List ℕ) (earlier : List B) (seen : List (List ℕ)) (xs : List A)
     → map name earlier ≡ seen → AllByRecursion (λ x. name (raw x) ≡ title x) xs → New seen (map title xs)
@@ -52,7 +49,7 @@ along_new raw name title earlier seen [] is back h = tt
 along_new raw name title earlier seen (x ∷ xs) is back h = (
   subst (λ l. among (title x) l ≡ false) (sym is) h.0,
   along_new raw name title (earlier ++ raw x ∷ []) (seen ++ title x ∷ []) xs
-      (map_end name earlier (raw x) ∙ ap (λ l. l ++ name (raw x) ∷ []) is ∙ ap (λ n. seen ++ n ∷ []) back.0) back.1 h.1,
+      (map_push name earlier (raw x) ∙ ap (λ l. l ++ name (raw x) ∷ []) is ∙ ap (λ n. seen ++ n ∷ []) back.0) back.1 h.1,
 )
 
 -- some stand before it
@@ -70,7 +67,7 @@ along_after raw name title prefix earlier seen [] is back h = tt
 along_after raw name title prefix earlier seen (x ∷ xs) is back h = (
   subst (λ l. among (title x) (prefix ++ l) ≡ false) (sym is) h.0,
   along_after raw name title prefix (earlier ++ raw x ∷ []) (seen ++ title x ∷ []) xs
-      (map_end name earlier (raw x) ∙ ap (λ l. l ++ name (raw x) ∷ []) is ∙ ap (λ n. seen ++ n ∷ []) back.0) back.1
+      (map_push name earlier (raw x) ∙ ap (λ l. l ++ name (raw x) ∷ []) is ∙ ap (λ n. seen ++ n ∷ []) back.0) back.1
       (subst (λ l. New l (map title xs)) (append_assoc prefix seen (title x ∷ [])) h.1),
 )
 

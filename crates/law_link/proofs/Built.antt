@@ -1,6 +1,7 @@
 -- Each owner of the parts, by its index, is built of its row and source.
 use Rattle.std.proofs.Common.{ℕ, zero, suc, ◌≡◌, ◌+◌, ◌*◌, Bool, true, false, cond, List, [], ◌∷◌, ◌++◌, length, take, drop, Some, None, Option, slice_get, refl, sym, ap, ◌∙◌, subst, arith}
 use Rattle.std.specs.Prelude.{Result, Ok, Err, nat_lt}
+use Rattle.law_lists.proofs.Places.{still_there}
 use Rattle.def_layout.specs.declared.Region.{Region}
 use Rattle.def_layout.specs.Placement.{placed, last_end, needed}
 use Rattle.def_image.specs.Sizes.{sum_of}
@@ -11,9 +12,8 @@ use Rattle.def_link.specs.declared.LinkFault.TheVariants as fault
 use Rattle.def_link.specs.Owners.{Unit as OwnerUnit, Built, compartment_unit, library_unit, numbered, units_of, unit_built, with_front, source_for, rest_of, all_built}
 use Rattle.def_link.specs.Slots.{compartment_gates, library_gates}
 use Rattle.def_link.specs.Linked.{BuiltCompartment, BuiltLibrary, compartments_with, libraries_with, sizes_of, compartment_slot_count, compartment_part, library_part, compartment_parts, compartment_entries, library_parts, library_entries, parts_of, linked_with, linked}
-use Rattle.def_link.specs.Links.{LinksTo}
+use Rattle.def_link.specs.Links.{RowsLinkTo}
 use Rattle.law_link.proofs.Indexed.{numbered_length}
-use Rattle.law_link.proofs.Walks.{still_there}
 use Rattle.def_link.specs.Code.{source_in, CompartmentCode, LibraryCode}
 
 -- ---- lists by index
@@ -170,7 +170,7 @@ whole d sources p e = by (all_built (units_of d) sources) refl e
         }
 
 pub compartment_built : (d : DescRow) (sources : List (List ℕ)) (p : PartsRow) (i : ℕ) (row : CompartmentRow) (c : CompartmentPart)
-    → LinksTo d sources p → slice_get d.compartments i ≡ Some row → slice_get p.compartments i ≡ Some c → CompartmentCode d sources i row c
+    → RowsLinkTo d sources p → slice_get d.compartments i ≡ Some row → slice_get p.compartments i ≡ Some c → CompartmentCode d sources i row c
 compartment_built d sources p i row c h at there =
     let w = whole d sources p h.linked in
     let none : 0 + i ≡ i = omega arith in
@@ -184,7 +184,7 @@ compartment_built d sources p i row c h at there =
     record { built = o.built; is = o.is; text = k.text; initial = k.initial; entry = k.entry; exports = k.exports }
 
 pub library_built : (d : DescRow) (sources : List (List ℕ)) (p : PartsRow) (i : ℕ) (row : LibraryRow) (c : CodePart)
-    → LinksTo d sources p → slice_get d.libraries i ≡ Some row → slice_get p.libraries i ≡ Some c → LibraryCode d sources i row c
+    → RowsLinkTo d sources p → slice_get d.libraries i ≡ Some row → slice_get p.libraries i ≡ Some c → LibraryCode d sources i row c
 library_built d sources p i row c h at there =
     let w = whole d sources p h.linked in
     let n = length d.compartments in

@@ -54,7 +54,7 @@ pub record Begins (b : Built) (at : AtRow) : Type 0 where
   pub inside : offset < length b.text
 
 -- the number, where it begins a word of the text
-begin_at : Built → ℕ → Option ℕ
+unfoldable pub begin_at : Built → ℕ → Option ℕ
 begin_at b offset = cond (is_begin b offset) (Some offset) None
 
 begins_at : (b : Built) (at : AtRow) (n : ℕ) → label_or b at.label at.offset ≡ Some n → is_none (begin_at b n) ≡ false → Begins b at

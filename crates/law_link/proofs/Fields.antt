@@ -1,6 +1,6 @@
 -- Names and numbers as fields of an image.
 use Rattle.std.proofs.Common.{ℕ, zero, suc, ◌≡◌, ◌+◌, ◌-◌, ◌<◌, ◌≤◌, ◌&&◌, ◌||◌, not, Bool, true, false, cond, nat_le, nat_lt, nat_eq, List, [], ◌∷◌, ◌++◌, length, drop, Some, None, slice_get, refl, sym, ap, ◌∙◌, subst, append_assoc, append-nil, arith, inl, inr}
-use Rattle.std.proofs.lemmas.List.{length-append}
+use Rattle.std.proofs.lemmas.List.{length-append, length-replicate}
 use Rattle.std.specs.Prelude.{⊤, bytes_eq}
 use Rattle.std.specs.Char.{is_ascii_digit}
 use Rattle.std.specs.List.{AllByRecursion, list_all}
@@ -9,6 +9,7 @@ use Rattle.std.proofs.lemmas.Bool.{le-leb, leb-true, ltb-true, eqb-true}
 use Rattle.std.proofs.Math.Seq.{drop_at}
 use Rattle.law_lists.proofs.Alls.{all_joined}
 use Rattle.law_lists.proofs.Tests.{eq_tells, both_left, both_right}
+use Rattle.law_lists.proofs.Places.{still_there}
 use Rattle.def_texts.specs.Names.{is_name, is_name_byte, is_lower, among}
 use Rattle.def_image.specs.Spelling.{zeros, name_field, padding_after}
 use Rattle.def_image.specs.Shapes.{IsField}
@@ -16,7 +17,9 @@ use Rattle.def_image.specs.Profile.{outside}
 use Rattle.def_image.specs.Sound.{IsWithin}
 use Rattle.def_image.specs.Checks.{first, check}
 use Rattle.def_image.specs.Limits.{name_of, are_zeros, name_checks}
-use Rattle.law_link.proofs.Walks.{next_none, one_none, still_there}
+use Rattle.law_link.proofs.Walks.{next_none}
+use Rattle.law_image.proofs.Passing.{one_none}
+use Rattle.law_image.proofs.Backs.{no_name}
 
 -- ---- tests
 
@@ -70,10 +73,6 @@ name_is (b ∷ bs) e =
 
 -- ---- zeros
 
-pub zeros_length : (n : ℕ) → length (zeros n) ≡ n
-zeros_length zero = refl
-zeros_length (suc n) = ap suc (zeros_length n)
-
 pub zeros_bytes : (n : ℕ) → AllByRecursion (λ b. b < 256) (zeros n)
 zeros_bytes zero = tt
 zeros_bytes (suc n) = (omega arith, zeros_bytes n)
@@ -83,13 +82,9 @@ zeros_are zero = refl
 zeros_are (suc n) = zeros_are n
 
 pub padded : (n : ℕ) → IsField (padding_after n) (zeros (padding_after n))
-padded n = record { size = zeros_length (padding_after n); each = zeros_bytes (padding_after n) }
+padded n = record { size = length-replicate (padding_after n) 0; each = zeros_bytes (padding_after n) }
 
 -- ---- a name's field
-
-no_name : (k : ℕ) → name_of (zeros k) ≡ []
-no_name zero = refl
-no_name (suc k) = refl
 
 ends : (name : List ℕ) (k : ℕ) → AllByRecursion (λ b. 0 < b) name → name_of (name ++ zeros k) ≡ name
 ends [] k h = no_name k
@@ -106,7 +101,7 @@ pub name_is_field : (n : List ℕ) → IsName n → IsField 32 (name_field n)
 name_is_field n h =
     let few = h.few in
     let sum = length-append n (zeros (32 - length n)) in
-    let pad = zeros_length (32 - length n) in
+    let pad : length (zeros (32 - length n)) ≡ 32 - length n = length-replicate (32 - length n) 0 in
     record {
       size = omega (arith, few, sum, pad);
       each = all_joined (λ b. b < 256) n (zeros (32 - length n)) h.bytes (zeros_bytes (32 - length n));

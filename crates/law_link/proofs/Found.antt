@@ -10,9 +10,7 @@ use Rattle.def_desc.specs.References.{export_name}
 use Rattle.def_desc.specs.Named.{export_names, library_export_names}
 use Rattle.def_desc.specs.Lawful.{Has, IsCallImport, IsLent}
 use Rattle.def_link.specs.Slots.{index_of, Exported, exported, Exporter, full_names, export_from, compartment_exporters, library_exporters, compartment_export_named, library_export_named}
-
-pub has_mapped : {A B : Type 0} (f : A → B) (xs : List A) (x : A) → Has xs x → Has (map f xs) (f x)
-has_mapped f xs x h = (h.0, slice_get-map f xs h.0 ∙ ap (option_map f) h.1)
+use Rattle.law_desc.proofs.Lists.{has_mapped}
 
 -- a name of a list has an index in it
 index_from : (name : List ℕ) (names : List (List ℕ)) (i : ℕ) → slice_get names i ≡ Some name → index_of name names < length names

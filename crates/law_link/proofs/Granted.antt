@@ -3,6 +3,7 @@ use Rattle.std.proofs.Common.{ℕ, ◌≡◌, ◌+◌, ◌*◌, ◌&&◌, ◌||�
 use Rattle.std.specs.Prelude.{bytes_eq, unwrap_or}
 use Rattle.std.specs.List.{AllByRecursion}
 use Rattle.std.proofs.lemmas.Slice.Eq.{bytes_eq-Decides}
+use Rattle.std.proofs.lemmas.Bool.{not_from_true}
 use Rattle.law_lists.proofs.Alls.{all_joined, all_mapped, all_so}
 use Rattle.def_texts.specs.Names.{among}
 use Rattle.def_layout.specs.Placement.{placed, last_end}
@@ -24,9 +25,10 @@ use Rattle.def_desc.specs.Rows.{Target, ImportRow, QuotaRow, CompartmentRow, Lim
 use Rattle.def_desc.specs.Lawful.{IsLawfulImport, IsLawfulCompartment}
 use Rattle.def_link.specs.Slots.{granted, claimed, slot, target_row, form_row, import_slot, quota_slot, key_slot, compartment_slots, library_slots}
 use Rattle.def_link.specs.Linked.{sizes_of, compartment_parts, compartment_entries, library_parts, parts_of}
-use Rattle.def_link.specs.Links.{LinksTo}
-use Rattle.law_link.proofs.Walks.{joined_none, one_none, walk_all}
+use Rattle.def_link.specs.Links.{RowsLinkTo}
+use Rattle.law_link.proofs.Walks.{walk_all}
 use Rattle.law_link.proofs.Linkeds.{parts, GoodCompartment, GoodLibrary, compartments_good, libraries_good, compartments_all, libraries_all}
+use Rattle.law_image.proofs.Passing.{joined_none, one_none}
 
 -- a slot has rights of its kind
 pub Granted : SlotRow → Type 0
@@ -107,25 +109,22 @@ library_granted d l = each l.imports
 
 -- ---- the checks
 
-passed : (b : Bool) → b ≡ true → not b ≡ false
-passed b e = ap not e
-
 compartment_passes : (at : ℕ) (earlier : List CompartmentPart) (c : CompartmentPart) → AllByRecursion Granted c.code.slots → first (compartment_rights at earlier c) ≡ None
 unfolding Granted
 compartment_passes at earlier c h =
     walk_all Granted right_asked (λ s. ENTRY)
-    (λ place before s k. one_none place (not (fits_kind s.row.kind (rights_of s.row))) (passed (fits_kind s.row.kind (rights_of s.row)) k))
+    (λ place before s k. one_none place (not (fits_kind s.row.kind (rights_of s.row))) (not_from_true (fits_kind s.row.kind (rights_of s.row)) k))
     (at + COMPARTMENT_HEAD) [] c.code.slots h
 
 library_passes : (at : ℕ) (earlier : List CodePart) (c : CodePart) → AllByRecursion LibraryGranted c.slots → first (library_rights at earlier c) ≡ None
 unfolding LibraryGranted
 library_passes at earlier c h =
     walk_all LibraryGranted library_right_asked (λ s. ENTRY)
-    (λ place before s k. one_none place (not (fits_kind s.row.kind (rights_of s.row) && is_library s.row.kind)) (passed (fits_kind s.row.kind (rights_of s.row) && is_library s.row.kind) k))
+    (λ place before s k. one_none place (not (fits_kind s.row.kind (rights_of s.row) && is_library s.row.kind)) (not_from_true (fits_kind s.row.kind (rights_of s.row) && is_library s.row.kind) k))
     (at + LIBRARY_HEAD) [] c.slots h
 
 -- each slot has rights of its kind, and a library's slots are of libraries
-pub rights_pass : (d : DescRow) (sources : List (List ℕ)) (p : PartsRow) → LinksTo d sources p → first (right_checks p) ≡ None
+pub rights_pass : (d : DescRow) (sources : List (List ℕ)) (p : PartsRow) → RowsLinkTo d sources p → first (right_checks p) ≡ None
 unfolding right_checks parts_of
 rights_pass d sources p h =
     let s = parts d sources p h.linked in

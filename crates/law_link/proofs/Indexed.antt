@@ -24,10 +24,11 @@ use Rattle.def_desc.specs.Lawful.{IsCallImport, IsLent, Resolves, IsLawful, IsLa
 use Rattle.def_link.specs.Owners.{numbered}
 use Rattle.def_link.specs.Slots.{index_of, slot, switch_row, claimed, target_row, form_row, import_slot, quota_slot, key_slot, compartment_slots, library_slots, Exporter, compartment_export_named, library_export_named, export_gate, lexport_gate}
 use Rattle.def_link.specs.Linked.{sizes_of, BuiltCompartment, BuiltLibrary, compartment_parts, compartment_entries, library_parts, library_entries, shared_parts, sealed_parts, thread_parts, parts_of}
-use Rattle.def_link.specs.Links.{LinksTo}
-use Rattle.law_link.proofs.Walks.{joined_none, next_none, one_none, walk_all, walk_holding, walk_joined}
+use Rattle.def_link.specs.Links.{RowsLinkTo}
+use Rattle.law_link.proofs.Walks.{next_none, walk_all, walk_holding, walk_joined}
 use Rattle.law_link.proofs.Linkeds.{Parts, parts, GoodCompartment, GoodLibrary, compartments_good, libraries_good, compartments_all, libraries_all}
 use Rattle.law_link.proofs.Found.{exporter_of, library_exporter_of, index_less, call_found, lent_found}
+use Rattle.law_image.proofs.Passing.{joined_none, one_none}
 
 -- ---- tests
 
@@ -299,7 +300,7 @@ all_pass d p h =
     (λ at earlier t k. one_none (at + 40) (not (enters p t)) (ap not k)) (threads_at (raw_of p)) [] p.threads h.threads)
 
 -- what slots and threads name is there, and slots stand in their order
-pub indexes_pass : (d : DescRow) (sources : List (List ℕ)) (p : PartsRow) → LinksTo d sources p → first (index_checks p) ≡ None
+pub indexes_pass : (d : DescRow) (sources : List (List ℕ)) (p : PartsRow) → RowsLinkTo d sources p → first (index_checks p) ≡ None
 indexes_pass d sources p h =
     let s = parts d sources p h.linked in
     all_pass d p (listed d p h.lawful s p (targets d p s) refl)

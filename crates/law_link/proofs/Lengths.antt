@@ -6,25 +6,13 @@ use Rattle.def_words.specs.LeastBounds.{ceil_units, exponent_for}
 use Rattle.law_words.proofs.Leasts.{ceil_le, ceil_above}
 use Rattle.law_words.proofs.Exacts.{no_larger}
 use Rattle.def_layout.specs.Placement.{whole_size, region_length}
-
-whole_above : (n : ℕ) → n ≤ whole_size n
-whole_above n = by ((n + 16 - 1) / 16) ((n + 16 - 1) % 16) (div-add-mod' (n + 16 - 1) 16) (omega arith)
-  where
-    by : (k rest : ℕ) → k * 16 + rest ≡ n + 16 - 1 → rest < 16 → n ≤ max 16 (k * 16)
-    by k rest split small = omega (arith, split, small)
+use Rattle.law_layout.proofs.Placing.{length_above}
 
 whole_unit : (n : ℕ) → 16 ≤ whole_size n
 whole_unit n = by ((n + 16 - 1) / 16)
   where
     by : (k : ℕ) → 16 ≤ max 16 (k * 16)
     by k = omega arith
-
--- a length is at least the size in whole units
-length_above : (n : ℕ) → whole_size n ≤ region_length n
-length_above n = ceil_above (whole_size n) (exponent_for 0 (whole_size n))
-
-pub size_fits : (n : ℕ) → n ≤ region_length n
-size_fits n = let a = whole_above n in let b = length_above n in omega (arith, a, b)
 
 pub unit_fits : (n : ℕ) → 16 ≤ region_length n
 unit_fits n = let a = whole_unit n in let b = length_above n in omega (arith, a, b)

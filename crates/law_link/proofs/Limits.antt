@@ -24,8 +24,8 @@ use Rattle.def_desc.specs.Named.{device_names, shared_names, sealed_names}
 use Rattle.def_desc.specs.Named as rows
 use Rattle.def_desc.specs.Lawful.{IsLawful}
 use Rattle.def_link.specs.Linked.{BuiltCompartment, BuiltLibrary, library_code_size, sizes_of, compartment_parts, compartment_entries, library_parts, library_entries, shared_parts, sealed_parts, thread_parts, parts_of}
-use Rattle.def_link.specs.Links.{LinksTo}
-use Rattle.law_link.proofs.Walks.{joined_none, next_none}
+use Rattle.def_link.specs.Links.{RowsLinkTo}
+use Rattle.law_link.proofs.Walks.{next_none}
 use Rattle.law_link.proofs.Linkeds.{parts, GoodCompartment, GoodLibrary, compartments_good, libraries_good}
 use Rattle.law_link.proofs.Indexed.{shared_length, sealed_length}
 use Rattle.law_link.proofs.Lying.{Ends, ends, shared_sizes, sealed_sizes, stack_sizes, trusted_size}
@@ -34,6 +34,7 @@ use Rattle.law_link.proofs.Along.{Along, walk_along, along_both, along_new, alon
 use Rattle.law_link.proofs.Owners.{compartment_passes, library_passes}
 use Rattle.law_link.proofs.Makings.{Numbered, compartments_along, NumberedAfter, libraries_along, entries_most, entries_same}
 use Rattle.law_link.proofs.Lists.{device_title, devices_pass, shared_title, SharedGood, shared_good, shared_titles, shared_pass, sealed_title, SealedGood, sealed_good, sealed_titles, sealed_pass, thread_title, ThreadGood, threads_good, thread_titles, threads_pass}
+use Rattle.law_image.proofs.Passing.{joined_none}
 
 -- ---- names of owners
 
@@ -290,7 +291,7 @@ parts_good d cs ls law rows library_rows good_cs good_ls e =
     }
 
 -- names, numbers, lengths, exports, slots and texts keep the limits of the version
-pub limits_pass : (d : DescRow) (sources : List (List ℕ)) (p : PartsRow) → LinksTo d sources p → first (limit_checks (raw_of p)) ≡ None
+pub limits_pass : (d : DescRow) (sources : List (List ℕ)) (p : PartsRow) → RowsLinkTo d sources p → first (limit_checks (raw_of p)) ≡ None
 limits_pass d sources p h =
     let s = parts d sources p h.linked in
     subst (λ q. first (limit_checks (raw_of q)) ≡ None) (sym s.parts)

@@ -21,10 +21,12 @@ use Rattle.def_image.specs.Sound.{IsWithin}
 use Rattle.def_desc.specs.Rows.{SharedRow, SealedRow, ThreadRow, DescRow}
 use Rattle.def_desc.specs.Lawful.{IsLawfulShared, IsLawfulSealed, IsLawfulThread}
 use Rattle.def_link.specs.Linked.{shared_parts, sealed_parts, thread_parts}
-use Rattle.law_link.proofs.Walks.{joined_none, next_none, one_none}
+use Rattle.law_link.proofs.Walks.{next_none}
 use Rattle.law_link.proofs.Fields.{inside, zeros_are, name_is, name_back, name_passes, New}
-use Rattle.law_link.proofs.Lengths.{size_fits, bytes_kept, stack_kept}
+use Rattle.law_link.proofs.Lengths.{bytes_kept, stack_kept}
 use Rattle.law_link.proofs.Along.{walk_along, along_both, along_all, along_new, along_after}
+use Rattle.law_image.proofs.Passing.{joined_none, one_none}
+use Rattle.law_layout.proofs.Placing.{size_fits}
 
 -- ---- devices
 

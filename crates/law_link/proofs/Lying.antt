@@ -24,8 +24,10 @@ use Rattle.def_desc.specs.Lawful.{IsLawful, IsLawfulDevice, IsLawfulShared, IsLa
 use Rattle.def_link.specs.Owners.{compartment_unit, library_unit}
 use Rattle.def_link.specs.Linked.{BuiltCompartment, BuiltLibrary, library_code_size, compartment_sizes, area_size, sizes_of, base_at, compartment_parts, compartment_entries, library_parts, shared_parts, sealed_parts, thread_parts, parts_of}
 use Rattle.law_image.proofs.Members.{all_at}
-use Rattle.def_link.specs.Links.{LinksTo}
-use Rattle.law_link.proofs.Walks.{joined_none, next_none, one_none, walk_each, walk_joined}
+use Rattle.law_image.proofs.Passing.{joined_none, one_none}
+use Rattle.law_image.proofs.Limited.{threads_most}
+use Rattle.def_link.specs.Links.{RowsLinkTo}
+use Rattle.law_link.proofs.Walks.{next_none, walk_each, walk_joined}
 use Rattle.law_link.proofs.Linkeds.{Parts, parts, GoodCompartment, GoodLibrary, compartments_good, libraries_good}
 use Rattle.law_link.proofs.Builts.{unit_sound}
 use Rattle.law_link.proofs.Orders.{third_false, fourth_false, last_joined, left_after, last_base, Stands, stands, Between, grows, all_from, all_to, clear_after, clear_before, clear_joined, laid_so, stretch_passes}
@@ -151,13 +153,6 @@ ends d cs ls =
     }
 
 -- ---- the regions of the parts, stretch by stretch
-
-pub threads_most : (v : ℕ) → most_threads v ≤ 64
-threads_most v = by (nat_eq v 1)
-  where
-    by : (b : Bool) → cond (nat_le THREADS_TAKEN (cond b 16 64)) THREADS_TAKEN (cond b 16 64) ≤ 64
-    by true = omega arith
-    by false = omega arith
 
 -- the lists of regions, each between two addresses
 pub record Stretches (p : PartsRow) : Type 0 where
@@ -371,7 +366,7 @@ heap_inside d p s x =
     omega (arith, room, below, trusted, heap)
 
 -- RAM, devices, the heap and every region lie where those of an image may
-pub regions_pass : (d : DescRow) (sources : List (List ℕ)) (p : PartsRow) → LinksTo d sources p → first (region_checks p) ≡ None
+pub regions_pass : (d : DescRow) (sources : List (List ℕ)) (p : PartsRow) → RowsLinkTo d sources p → first (region_checks p) ≡ None
 unfolding parts_of
 regions_pass d sources p h =
     let s = parts d sources p h.linked in

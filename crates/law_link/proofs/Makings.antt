@@ -22,11 +22,12 @@ use Rattle.law_link.proofs.Linkeds.{GoodCompartment, GoodLibrary}
 use Rattle.law_link.proofs.Indexed.{numbered_length}
 use Rattle.law_link.proofs.Texts.{IsText}
 use Rattle.law_link.proofs.Builts.{UnitSound, unit_sound}
-use Rattle.law_link.proofs.Lengths.{size_fits, unit_fits, bytes_kept}
+use Rattle.law_link.proofs.Lengths.{unit_fits, bytes_kept}
 use Rattle.law_link.proofs.Along.{Along}
 use Rattle.law_link.proofs.Slots.{own_slots, library_slots_good, slot_count, library_slot_count}
 use Rattle.law_link.proofs.Gates.{Gates, compartment_gates_good, library_gates_good}
 use Rattle.law_link.proofs.Owners.{CodeGood, CompartmentGood, LibraryGood}
+use Rattle.law_layout.proofs.Placing.{size_fits}
 
 sum_end : {A : Type 0} (f : A → ℕ) (xs : List A) (y : A) → sum_of f (xs ++ y ∷ []) ≡ sum_of f xs + f y
 sum_end f [] y = omega arith

@@ -12,7 +12,7 @@ use Rattle.def_image.specs.Parts.{PartsRow}
 use Rattle.def_image.specs.Regions.{Holder, RegionRow, region, trusted_region}
 use Rattle.def_image.specs.Checks.{first, walked}
 use Rattle.def_image.specs.Lying.{meets_region, is_laid, is_laid_below, region_asked}
-use Rattle.law_link.proofs.Walks.{joined_none, one_none}
+use Rattle.law_image.proofs.Passing.{joined_none, one_none}
 
 -- ---- tests
 

@@ -13,12 +13,13 @@ use Rattle.def_image.specs.Profile.{outside}
 use Rattle.def_image.specs.Checks.{first, walked, check}
 use Rattle.def_image.specs.Limits.{name_checks, code_limits, own_slot_limits, slot_limits, export_limits, own_numbers, own_slots_limits, own_gates, dirty_padding, library_numbers, slots_limits, library_gates, exports_limits, compartment_limits_by, library_limits_by, Bounds, compartment_bounds, library_bounds, entry_name, are_zeros, switch_name}
 use Rattle.def_image.specs.Sound.{IsWithin}
-use Rattle.law_link.proofs.Walks.{joined_none, next_none, one_none}
+use Rattle.law_link.proofs.Walks.{next_none}
 use Rattle.law_link.proofs.Fields.{inside, zeros_are, name_passes}
 use Rattle.law_link.proofs.Along.{walk_along, along_both, along_all, along_new, along_more}
 use Rattle.law_link.proofs.Rows.{SlotGood, GateGood, slot_name_back, gate_name_back, first_slot_passes, own_slot_passes, slot_passes, gate_passes}
 use Rattle.law_link.proofs.Slots.{title, OwnSlots, LibrarySlots}
 use Rattle.law_link.proofs.Gates.{gate_title, Gates}
+use Rattle.law_image.proofs.Passing.{joined_none, one_none}
 
 -- ---- lists of slots and exports
 

@@ -10,7 +10,7 @@ use Rattle.def_desc.specs.Rows.{SharedRow, SealedRow, LimportRow, CompartmentRow
 use Rattle.def_link.specs.Slots.{slot, form_row, import_slot, quota_slot, key_slot, compartment_slots, library_slots, export_gate}
 use Rattle.def_desc.specs.declared.tables.Form.TheVariants as form
 use Rattle.def_link.specs.Linked.{BuiltCompartment, BuiltLibrary, compartment_slot_count, library_code_size, compartment_sizes, sizes_of, compartment_part, compartment_parts, compartment_entries, library_parts, library_entries, shared_parts, sealed_parts, thread_parts, parts_of}
-use Rattle.def_link.specs.Links.{LinksTo}
+use Rattle.def_link.specs.Links.{RowsLinkTo}
 use Rattle.law_link.proofs.Linkeds.{parts}
 use Rattle.law_link.proofs.Indexed.{numbered_length}
 use Rattle.law_link.proofs.Placings.{table_is, areas}
@@ -153,14 +153,14 @@ places_are d cs ls e =
     ∙ compartments_placed d 1 d.ram.base (l ++ (s ++ (x ++ (t ++ z)))) cs
     ∙ sym e.all
 
-pub places_placed : (d : DescRow) (sources : List (List ℕ)) (p : PartsRow) → LinksTo d sources p → places p ≡ placed d.ram.base (sizes d p)
+pub places_placed : (d : DescRow) (sources : List (List ℕ)) (p : PartsRow) → RowsLinkTo d sources p → places p ≡ placed d.ram.base (sizes d p)
 unfolding parts_in
 places_placed d sources p h =
     let s = parts d sources p h.linked in
     subst (λ (q : PartsRow). places q ≡ placed d.ram.base (sizes d q)) (sym s.parts)
     (places_are d s.cs s.ls (ends d s.cs s.ls) ∙ ap (placed d.ram.base) (sym (sizes_are d s.cs s.ls s.rows)))
 
-pub heap_placed : (d : DescRow) (sources : List (List ℕ)) (p : PartsRow) → LinksTo d sources p → p.heap ≡ last_end d.ram.base (sizes d p)
+pub heap_placed : (d : DescRow) (sources : List (List ℕ)) (p : PartsRow) → RowsLinkTo d sources p → p.heap ≡ last_end d.ram.base (sizes d p)
 unfolding parts_in parts_of
 heap_placed d sources p h =
     let s = parts d sources p h.linked in
@@ -193,21 +193,21 @@ unfolding library_parts
 library_slots_kept d entry regions [] = refl
 library_slots_kept d entry regions (x ∷ xs) = ap (λ l. library_slots d x.row ∷ l) (library_slots_kept d (entry + library_entries x) (drop 1 regions) xs)
 
-pub names_are : (d : DescRow) (sources : List (List ℕ)) (p : PartsRow) → LinksTo d sources p → map (λ (c : CompartmentPart). c.code.name) p.compartments ≡ map (λ (c : CompartmentRow). c.name) d.compartments
+pub names_are : (d : DescRow) (sources : List (List ℕ)) (p : PartsRow) → RowsLinkTo d sources p → map (λ (c : CompartmentPart). c.code.name) p.compartments ≡ map (λ (c : CompartmentRow). c.name) d.compartments
 unfolding parts_of
 names_are d sources p h =
     let s = parts d sources p h.linked in
     subst (λ (q : PartsRow). map (λ (c : CompartmentPart). c.code.name) q.compartments ≡ map (λ (c : CompartmentRow). c.name) d.compartments) (sym s.parts)
     (names_kept d 1 (placed d.ram.base (sizes_of d s.cs s.ls)) s.cs ∙ ap (map (λ (c : CompartmentRow). c.name)) s.rows)
 
-pub slots_are : (d : DescRow) (sources : List (List ℕ)) (p : PartsRow) → LinksTo d sources p → map (λ (c : CompartmentPart). c.code.slots) p.compartments ≡ map (compartment_slots d) d.compartments
+pub slots_are : (d : DescRow) (sources : List (List ℕ)) (p : PartsRow) → RowsLinkTo d sources p → map (λ (c : CompartmentPart). c.code.slots) p.compartments ≡ map (compartment_slots d) d.compartments
 unfolding parts_of
 slots_are d sources p h =
     let s = parts d sources p h.linked in
     subst (λ (q : PartsRow). map (λ (c : CompartmentPart). c.code.slots) q.compartments ≡ map (compartment_slots d) d.compartments) (sym s.parts)
     (slots_kept d 1 (placed d.ram.base (sizes_of d s.cs s.ls)) s.cs ∙ ap (map (compartment_slots d)) s.rows)
 
-pub library_names_are : (d : DescRow) (sources : List (List ℕ)) (p : PartsRow) → LinksTo d sources p → map (λ (c : CodePart). c.name) p.libraries ≡ map (λ (l : LibraryRow). l.name) d.libraries
+pub library_names_are : (d : DescRow) (sources : List (List ℕ)) (p : PartsRow) → RowsLinkTo d sources p → map (λ (c : CodePart). c.name) p.libraries ≡ map (λ (l : LibraryRow). l.name) d.libraries
 unfolding parts_of
 library_names_are d sources p h =
     let s = parts d sources p h.linked in
@@ -215,7 +215,7 @@ library_names_are d sources p h =
     subst (λ (q : PartsRow). map (λ (c : CodePart). c.name) q.libraries ≡ map (λ (l : LibraryRow). l.name) d.libraries) (sym s.parts)
     (library_names_kept d (1 + sum_of compartment_entries s.cs) (drop (3 * length s.cs) regions) s.ls ∙ ap (map (λ (l : LibraryRow). l.name)) s.library_rows)
 
-pub library_slots_are : (d : DescRow) (sources : List (List ℕ)) (p : PartsRow) → LinksTo d sources p → map (λ (c : CodePart). c.slots) p.libraries ≡ map (library_slots d) d.libraries
+pub library_slots_are : (d : DescRow) (sources : List (List ℕ)) (p : PartsRow) → RowsLinkTo d sources p → map (λ (c : CodePart). c.slots) p.libraries ≡ map (library_slots d) d.libraries
 unfolding parts_of
 library_slots_are d sources p h =
     let s = parts d sources p h.linked in

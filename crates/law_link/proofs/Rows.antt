@@ -17,7 +17,8 @@ use Rattle.def_image.specs.Profile.{outside}
 use Rattle.def_image.specs.Checks.{first, check}
 use Rattle.def_image.specs.Limits.{name_checks, are_zeros, byte_at, number_at, misnumbered, has_second, row_limits, Bounds, gate_limits, entry_name, key_name, is_unnamed_key, switch_name, is_misnamed, own_slot_limits, slot_limits, export_limits}
 use Rattle.law_image.proofs.Rows.{number_back, first_at, offset_at, stack_at, entry_at}
-use Rattle.law_link.proofs.Walks.{joined_none, next_none, one_none}
+use Rattle.law_image.proofs.Passing.{joined_none, one_none}
+use Rattle.law_link.proofs.Walks.{next_none}
 use Rattle.law_link.proofs.Fields.{name_is, name_back, name_passes}
 
 -- ---- rows of slots

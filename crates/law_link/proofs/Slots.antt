@@ -7,6 +7,7 @@ use Rattle.std.proofs.lemmas.List.{length-append, length-map, map-append}
 use Rattle.std.proofs.lemmas.Option.{slice_get_within}
 use Rattle.std.proofs.lemmas.Slice.Eq.{bytes_eq-Decides}
 use Rattle.std.proofs.lemmas.Bool.{le-ltb}
+use Rattle.std.proofs.lemmas.Simd.{map-map}
 use Rattle.law_lists.proofs.Alls.{all_joined, all_mapped, all_so}
 use Rattle.law_lists.proofs.Tests.{le_tells}
 use Rattle.ct_entry.specs.Listed.{DeviceRow}
@@ -172,10 +173,6 @@ rest_sized d law c h =
 unfoldable pub title : SlotRow → List ℕ
 title s = s.name
 
-pub map_twice : {A B C : Type 0} (g : B → C) (f : A → B) (xs : List A) → map g (map f xs) ≡ map (λ x. g (f x)) xs
-map_twice g f [] = refl
-map_twice g f (x ∷ xs) = ap (λ l. g (f x) ∷ l) (map_twice g f xs)
-
 -- the names of the slots after the first
 rest_names : (d : DescRow) (c : CompartmentRow) → map title (map (import_slot d) c.imports ++ map quota_slot c.quotas ++ map key_slot c.keys)
     ≡ map (λ (x : ImportRow). x.alias) c.imports ++ map (λ (q : QuotaRow). q.name) c.quotas ++ map own_key_name c.keys
@@ -185,7 +182,7 @@ rest_names d c =
     let b = map quota_slot c.quotas in
     let k = map key_slot c.keys in
     map-append title (a ++ b) k
-    ∙ ap₂ (λ x y. x ++ y) (map-append title a b ∙ ap₂ (λ x y. x ++ y) (map_twice title (import_slot d) c.imports) (map_twice title quota_slot c.quotas)) (map_twice title key_slot c.keys)
+    ∙ ap₂ (λ x y. x ++ y) (map-append title a b ∙ ap₂ (λ x y. x ++ y) (map-map title (import_slot d) c.imports) (map-map title quota_slot c.quotas)) (map-map title key_slot c.keys)
 
 good_slots : (slots : List SlotRow) → AllByRecursion SlotSized slots → AllByRecursion (λ n. is_name n ≡ true) (map title slots) → AllByRecursion SlotGood slots
 unfolding title
@@ -224,7 +221,7 @@ pub library_slots_good : (d : DescRow) → IsLawful d → (l : LibraryRow) → I
 unfolding title
 library_slots_good d law l h =
     let make = λ (x : LimportRow). slot x.alias (form_row d 0 form.Library x.library) in
-    let names : map title (library_slots d l) ≡ library_slot_names l = map_twice title make l.imports in
+    let names : map title (library_slots d l) ≡ library_slot_names l = map-map title make l.imports in
     record {
       each = good_slots (library_slots d l) (all_mapped SlotSized make l.imports (all_so (λ (x : LimportRow). IsLent d x.library) (λ x. SlotSized (make x)) l.imports (λ x k. limport_sized d law x k) h.import))
           (subst (AllByRecursion (λ n. is_name n ≡ true)) (sym names) h.slots.formed);

@@ -18,6 +18,8 @@ use Rattle.def_source.specs.Source.{Name, Statements, in_section, numbers_fit, r
 use Rattle.def_object.specs.declared.Place.{Place}
 use Rattle.def_object.specs.declared.Fault.{Fault}
 use Rattle.def_object.specs.Object.{Labels, size_at, offset, advanced, start, label_in, size_fault, reference_fault, statement_fault, on_line, lesser, is_least, fault_from, fault_in, number_word, is_short, upper_part, rest_part, padding, same_section, instructions_at, word_bytes, instruction_bytes, bytes_at, section_bytes, bytes_from, text_of, initial_of}
+use Rattle.ct_asm.proofs.Walks.{neither, no_number, either_none}
+use Rattle.law_assembly.proofs.Lengths.{at_place, after_section, filled, statement_length}
 
 Bytes : List ℕ → Type 0
 Bytes bs = AllByRecursion (λ b. b < 256) bs
@@ -49,16 +51,6 @@ statement_bytes labels slots at (part.Zero number) = zero_bytes number.magnitude
 statement_bytes labels slots at (part.Align number) = zero_bytes (padding number.magnitude at)
 statement_bytes labels slots at q = instructions_bytes (instructions_at labels slots at q)
 
-statement_length : (labels : Labels) (slots : List Name) (at : ℕ) (q : Part Name) → length (bytes_at labels slots at q) ≡ size_at q at
-statement_length labels slots at (part.Zero number) = length-replicate number.magnitude 0
-statement_length labels slots at (part.Align number) = length-replicate (padding number.magnitude at) 0
-statement_length labels slots at (part.LoadImmediate rd number) = by (is_short (number_word number))
-  where
-    by : (b : Bool) → length (instruction_bytes (cond b (instr.Addi rd 0 (number_word number) ∷ []) (instr.Lui rd (upper_part (number_word number)) ∷ instr.Addi rd rd (rest_part (number_word number)) ∷ []))) ≡ cond b 4 8
-    by true = refl
-    by false = refl
-statement_length labels slots at q = refl
-
 -- ---- bytes of a section
 
 section_is_bytes : (w : Section) (labels : Labels) (slots : List Name) (p : Place) (q : Part Name) → Bytes (section_bytes w labels slots p q)
@@ -75,24 +67,6 @@ section_all_bytes w labels slots p [] = tt
 section_all_bytes w labels slots p (s ∷ ss) =
     all_joined (λ b. b < 256) (section_bytes w labels slots p s.part) (bytes_from w labels slots (advanced p s.part) ss)
     (section_is_bytes w labels slots p s.part) (section_all_bytes w labels slots (advanced p s.part) ss)
-
--- a place, field by field
-at_place : Section → ℕ → ℕ → Place
-at_place s t i = record { section = s; text = t; initial = i }
-
-after_section : (s : Section) (t i : ℕ) (q : Part Name) → (advanced (at_place s t i) q).section ≡ section_after s (Some q)
-unfolding at_place
-after_section section.Text t i part.Text = refl
-after_section section.Text t i part.Data = refl
-after_section section.Text t i q = refl
-after_section section.Data t i part.Text = refl
-after_section section.Data t i part.Data = refl
-after_section section.Data t i q = refl
-
--- how much of a section stands before a place
-filled : Section → Place → ℕ
-filled section.Text p = p.text
-filled section.Data p = p.initial
 
 filled_on : (w s : Section) (t i : ℕ) (labels : Labels) (slots : List Name) (q : Part Name)
     → filled w (at_place s t i) + length (section_bytes w labels slots (at_place s t i) q) ≡ filled w (advanced (at_place s t i) q)
@@ -118,26 +92,6 @@ size_kept at q e = elim (lt_tells MOST_BYTES (at + size_at q at)) [
   | inr h ↦ h.1
 ]
 
-second_none : (a b : Option ℕ) → or_else a b ≡ None → b ≡ None
-second_none None b e = e
-second_none (Some n) b e = absurd (let no : Some n ≡ None = e in cc)
-
-line_none : (line : ℕ) (o : Option ℕ) → on_line line o ≡ None → o ≡ None
-line_none line None e = refl
-line_none line (Some n) e = absurd (let no : Some (fault_at n line) ≡ None = e in cc)
-  where
-    fault_at : ℕ → ℕ → Fault
-    fault_at n line = record { number = n; line = line }
-
-lesser_none : (a b : Option Fault) → lesser a b ≡ None → (a ≡ None) × (b ≡ None)
-lesser_none None b e = (refl, e)
-lesser_none (Some a) None e = absurd (let no : Some a ≡ None = e in cc)
-lesser_none (Some a) (Some b) e = by (is_least a b) e
-  where
-    by : (c : Bool) → cond c (Some a) (Some b) ≡ None → (Some a ≡ None) × (Some b ≡ None)
-    by true h = absurd (let no : Some a ≡ None = h in cc)
-    by false h = absurd (let no : Some b ≡ None = h in cc)
-
 -- after a statement that keeps the limit
 filled_kept : (w s : Section) (t i : ℕ) (q : Part Name) → filled w (at_place s t i) ≤ MOST_BYTES → size_fault (offset (at_place s t i)) q ≡ None → filled w (advanced (at_place s t i) q) ≤ MOST_BYTES
 unfolding filled at_place
@@ -159,8 +113,8 @@ section_few : (w : Section) (labels : Labels) (slots : List Name) (p : Place) (k
 unfolding at_place
 section_few w labels slots p k [] h e = rw (add-zero (filled w p)) h
 section_few w labels slots p k (s ∷ ss) h e =
-    let f = lesser_none (on_line s.line (statement_fault labels p k s.part)) (fault_from labels (advanced p s.part) (k + 1) ss) e in
-    let size = second_none (reference_fault labels k (offset p) s.part) (size_fault (offset p) s.part) (line_none s.line (statement_fault labels p k s.part) f.0) in
+    let f = neither (on_line s.line (statement_fault labels p k s.part)) (fault_from labels (advanced p s.part) (k + 1) ss) e in
+    let size = (either_none (reference_fault labels k (offset p) s.part) (size_fault (offset p) s.part) (no_number s.line (statement_fault labels p k s.part) f.0)).1 in
     let here = section_bytes w labels slots p s.part in
     let later = bytes_from w labels slots (advanced p s.part) ss in
     let on = filled_on w p.section p.text p.initial labels slots s.part in

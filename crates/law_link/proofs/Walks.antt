@@ -3,26 +3,13 @@ use Rattle.std.proofs.Common.{ℕ, zero, suc, ◌≡◌, ◌+◌, Bool, true, fa
 use Rattle.std.specs.List.{AllByRecursion}
 use Rattle.def_image.specs.declared.Check.{Check}
 use Rattle.def_image.specs.Checks.{first, walked, check}
-use Rattle.law_image.proofs.Passing.{left_none, right_none}
+use Rattle.law_image.proofs.Passing.{left_none, right_none, joined_none}
 
 -- ---- checks
-
-pub joined_none : (xs ys : List Check) → first xs ≡ None → first ys ≡ None → first (xs ++ ys) ≡ None
-unfolding first
-joined_none [] ys a b = b
-joined_none (x ∷ xs) ys a b = by x.fails a (λ h. joined_none xs ys h b)
-  where
-    by : (c : Bool) → cond c (Some x.place) (first xs) ≡ None → (first xs ≡ None → first (xs ++ ys) ≡ None) → cond c (Some x.place) (first (xs ++ ys)) ≡ None
-    by true h rest = absurd (let clash : Some x.place ≡ None = h in cc)
-    by false h rest = rest h
 
 pub next_none : (x : Check) (xs : List Check) → x.fails ≡ false → first xs ≡ None → first (x ∷ xs) ≡ None
 unfolding first
 next_none x xs a b = ap (λ c. cond c (Some x.place) (first xs)) a ∙ b
-
-pub one_none : (place : ℕ) (fails : Bool) → fails ≡ false → first (check place fails ∷ []) ≡ None
-unfolding first
-one_none place fails a = ap (λ c. cond c (Some place) None) a
 
 -- each check passes
 pub none_fails : (cs : List Check) → AllByRecursion (λ (c : Check). c.fails ≡ false) cs → first cs ≡ None
@@ -80,9 +67,3 @@ walk_joined asked size at earlier (x ∷ xs) ys a b =
     (λ place. subst (λ l. first (walked asked size place l ys) ≡ None) (sym (append_assoc earlier (x ∷ []) xs)) (b place)))
 
 -- ---- lists
-
--- an element of a list is there where the list goes on
-pub still_there : {A : Type 0} (xs ys : List A) (i : ℕ) (x : A) → slice_get xs i ≡ Some x → slice_get (xs ++ ys) i ≡ Some x
-still_there [] ys i x is = absurd (let no : None ≡ Some x = is in cc)
-still_there (z ∷ zs) ys zero x is = is
-still_there (z ∷ zs) ys (suc i) x is = still_there zs ys i x is

@@ -26,15 +26,16 @@ use Rattle.def_image.specs.Limits.{compartment_bounds, library_bounds}
 use Rattle.def_image.specs.Accepted.{IsFaultless, IsImage, FaultAt}
 use Rattle.law_image.proofs.Backs.{one_reading}
 use Rattle.law_image.proofs.Faults.{no_fault}
+use Rattle.law_image.proofs.Limited.{threads_most}
 use Rattle.def_desc.specs.Rows.{ThreadRow, DescRow}
 use Rattle.def_desc.specs.Lawful.{IsLawful, IsLawfulDevice, IsLawfulThread}
 use Rattle.def_link.specs.Linked.{sizes_of, thread_parts, parts_of}
-use Rattle.def_link.specs.Links.{LinksTo}
+use Rattle.def_link.specs.Links.{RowsLinkTo}
 use Rattle.law_link.proofs.Linkeds.{Parts, parts, compartments_good, libraries_good}
 use Rattle.law_link.proofs.Granted.{rights_pass}
 use Rattle.law_link.proofs.Indexed.{indexes_pass}
 use Rattle.law_link.proofs.Orders.{all_to}
-use Rattle.law_link.proofs.Lying.{ends, Stretches, stretches, orders, threads_most, heap_inside, regions_pass}
+use Rattle.law_link.proofs.Lying.{ends, Stretches, stretches, orders, heap_inside, regions_pass}
 use Rattle.law_link.proofs.Fields.{name_is, name_is_field, padded}
 use Rattle.law_link.proofs.Along.{along_each}
 use Rattle.law_link.proofs.Rows.{SlotGood}
@@ -285,7 +286,7 @@ bounded d p law s =
       enters = threads_enter d law (drop (3 * length s.cs + length s.ls + length d.shared + length d.sealed) all) d.threads law.thread;
     }
 
-pub spellable_parts : (d : DescRow) (sources : List (List ℕ)) (p : PartsRow) → LinksTo d sources p → IsSpellable p
+pub spellable_parts : (d : DescRow) (sources : List (List ℕ)) (p : PartsRow) → RowsLinkTo d sources p → IsSpellable p
 spellable_parts d sources p h =
     let s = parts d sources p h.linked in
     let law = h.lawful in
@@ -295,14 +296,14 @@ spellable_parts d sources p h =
     let q = parts_of d s.cs s.ls (placed d.ram.base (sizes_of d s.cs s.ls)) (last_end d.ram.base (sizes_of d s.cs s.ls)) in
     subst IsSpellable (sym s.parts) (spellable q (parts_good d s.cs s.ls law s.rows s.library_rows cs ls e) (stretches d s.cs s.ls law cs ls e) (bounded d p law s))
 
-version_taken : (d : DescRow) (sources : List (List ℕ)) (p : PartsRow) → LinksTo d sources p → is_in_range 1 last_version p.version ≡ true
+version_taken : (d : DescRow) (sources : List (List ℕ)) (p : PartsRow) → RowsLinkTo d sources p → is_in_range 1 last_version p.version ≡ true
 unfolding parts_of
 version_taken d sources p h =
     let s = parts d sources p h.linked in
     let v = h.lawful.version in
     subst (λ (q : PartsRow). is_in_range 1 last_version q.version ≡ true) (sym s.parts) (ap₂ (λ a b. a && b) (le-leb 1 d.version v.0) (le-leb d.version last_version v.1))
 
-pub faultless : (d : DescRow) (sources : List (List ℕ)) (p : PartsRow) → LinksTo d sources p → IsFaultless p
+pub faultless : (d : DescRow) (sources : List (List ℕ)) (p : PartsRow) → RowsLinkTo d sources p → IsFaultless p
 faultless d sources p h = record {
   spellable = spellable_parts d sources p h;
   version = version_taken d sources p h;
@@ -314,11 +315,11 @@ faultless d sources p h = record {
 
 -- ---- what is written
 
-pub written : (d : DescRow) (sources : List (List ℕ)) (p : PartsRow) → LinksTo d sources p → IsImage (image_bytes p) p
+pub written : (d : DescRow) (sources : List (List ℕ)) (p : PartsRow) → RowsLinkTo d sources p → IsImage (image_bytes p) p
 written d sources p h = (faultless d sources p h, refl)
 
-pub alone : (d : DescRow) (sources : List (List ℕ)) (p q : PartsRow) → LinksTo d sources p → IsImage (image_bytes p) q → q ≡ p
+pub alone : (d : DescRow) (sources : List (List ℕ)) (p q : PartsRow) → RowsLinkTo d sources p → IsImage (image_bytes p) q → q ≡ p
 alone d sources p q h i = one_reading q p i.0.spellable (spellable_parts d sources p h) (sym i.1)
 
-pub no_fault_written : (d : DescRow) (sources : List (List ℕ)) (p : PartsRow) (number place : ℕ) → LinksTo d sources p → FaultAt (image_bytes p) number place → ⊥
+pub no_fault_written : (d : DescRow) (sources : List (List ℕ)) (p : PartsRow) (number place : ℕ) → RowsLinkTo d sources p → FaultAt (image_bytes p) number place → ⊥
 no_fault_written d sources p number place h f = no_fault (image_bytes p) p number place (written d sources p h) f

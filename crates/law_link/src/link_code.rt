@@ -4,7 +4,7 @@
 ghost use Rattle.std.specs.Prelude.{◌≡◌, List, ℕ, Some, slice_get};
 ghost use Rattle.def_desc.specs.Rows.{CompartmentRow, LibraryRow, DescRow};
 ghost use Rattle.def_image.specs.Parts.{CodeRow as CodePart, CompartmentRow as CompartmentPart, PartsRow};
-ghost use Rattle.def_link.specs.Links.{LinksTo};
+ghost use Rattle.def_link.specs.Links.{RowsLinkTo};
 ghost use Rattle.def_link.specs.Code.{CompartmentCode, LibraryCode};
 
 /// Compartment i and library i of what is linked have the text, the initial bytes and the places of
@@ -12,13 +12,13 @@ ghost use Rattle.def_link.specs.Code.{CompartmentCode, LibraryCode};
 pub fn code_is_built()
     ensures compartments { (d : DescRow) (sources : List (List ℕ)) (p : PartsRow) (i : ℕ)
         (row : CompartmentRow) (c : CompartmentPart)
-        → LinksTo d sources p
+        → RowsLinkTo d sources p
         → slice_get d.compartments i ≡ Some row
         → slice_get p.compartments i ≡ Some c
         → CompartmentCode d sources i row c }
     ensures libraries { (d : DescRow) (sources : List (List ℕ)) (p : PartsRow) (i : ℕ)
         (row : LibraryRow) (c : CodePart)
-        → LinksTo d sources p
+        → RowsLinkTo d sources p
         → slice_get d.libraries i ≡ Some row
         → slice_get p.libraries i ≡ Some c
         → LibraryCode d sources i row c }

@@ -6,22 +6,22 @@ ghost use Rattle.def_desc.specs.Rows.{DescRow};
 ghost use Rattle.def_image.specs.Accepted.{IsFaultless, IsImage, FaultAt};
 ghost use Rattle.def_image.specs.Parts.{PartsRow};
 ghost use Rattle.def_image.specs.Spelling.{image_bytes};
-ghost use Rattle.def_link.specs.Links.{LinksTo};
+ghost use Rattle.def_link.specs.Links.{RowsLinkTo};
 
 /// What lawful rows and their sources are linked to is faultless: it has a spelling, a version that
 /// is taken, and no check of limits, regions, indexes or rights fails.
 pub fn linked_is_faultless()
     ensures { (d : DescRow) (sources : List (List ℕ)) (p : PartsRow)
-        → LinksTo d sources p → IsFaultless p }
+        → RowsLinkTo d sources p → IsFaultless p }
 {}
 
 /// What lawful rows and their sources are linked to is accepted when it is written: the bytes are
 /// the image of these parts and of no others, and they have no fault.
 pub fn written_is_accepted()
     ensures image { (d : DescRow) (sources : List (List ℕ)) (p : PartsRow)
-        → LinksTo d sources p → IsImage (image_bytes p) p }
+        → RowsLinkTo d sources p → IsImage (image_bytes p) p }
     ensures alone { (d : DescRow) (sources : List (List ℕ)) (p q : PartsRow)
-        → LinksTo d sources p → IsImage (image_bytes p) q → q ≡ p }
+        → RowsLinkTo d sources p → IsImage (image_bytes p) q → q ≡ p }
     ensures faultless { (d : DescRow) (sources : List (List ℕ)) (p : PartsRow) (number place : ℕ)
-        → LinksTo d sources p → FaultAt (image_bytes p) number place → ⊥ }
+        → RowsLinkTo d sources p → FaultAt (image_bytes p) number place → ⊥ }
 {}

@@ -7,7 +7,7 @@ mod samples;
 ghost use Rattle.std.specs.Prelude.{[], ◌∷◌};
 ghost use Rattle.def_image.specs.Parts.{PartsRow};
 ghost use Rattle.law_image_samples.specs.Tiny.{tiny};
-ghost use Rattle.def_link.specs.Links.{LinksTo};
+ghost use Rattle.def_link.specs.Links.{RowsLinkTo};
 ghost use Rattle.law_link_samples.specs.Samples.{tiny_rows, filed, tiny_source, board_rows, board_sources};
 
 pub use samples::{board_is_linked, link_faults, tiny_is_linked};
@@ -15,7 +15,7 @@ pub use samples::{board_is_linked, link_faults, tiny_is_linked};
 /// The smallest sample is lawful and is linked to the parts of its image, by its words and by their
 /// source; and so is the sample with two compartments, a library and two threads, to some parts.
 pub fn samples_link()
-    ensures words { LinksTo tiny_rows [] tiny }
-    ensures source { LinksTo filed (tiny_source ∷ []) tiny }
-    ensures board { (p : PartsRow) × LinksTo board_rows board_sources p }
+    ensures words { RowsLinkTo tiny_rows [] tiny }
+    ensures source { RowsLinkTo filed (tiny_source ∷ []) tiny }
+    ensures board { (p : PartsRow) × RowsLinkTo board_rows board_sources p }
 {}

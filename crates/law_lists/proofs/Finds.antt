@@ -1,11 +1,13 @@
 -- The first element that passes a test.
-use Rattle.std.proofs.Common.{refl, ◌≤◌, ◌≡◌, ℕ, zero, suc, ◌<◌, List, [], ◌∷◌, Bool, true, false, Some, None, inl, inr, ap, sym, ◌∙◌, arith, length, ◌-◌, nat_lt, take, drop}
+use Rattle.std.proofs.Common.{refl, ◌≤◌, ◌≡◌, ℕ, zero, suc, ◌<◌, List, [], ◌∷◌, Bool, true, false, Some, None, inl, inr, ap, sym, ◌∙◌, arith, length, ◌-◌, take, drop}
 use Rattle.std.proofs.Math.ListN.{get_or}
 use Rattle.std.specs.List.{find, filter, position}
+use Rattle.std.proofs.lemmas.Bool.{lt-ltb, le-ltb}
 use Rattle.std.proofs.lemmas.List.Folds.{find_at}
+use Rattle.std.proofs.lemmas.List.Quantifiers.{position-Some}
 use Rattle.std.proofs.lemmas.List.Sums.{position_or_len_is}
 use Rattle.std.proofs.lemmas.Option.{slice_get-get_or, slice_get_past}
-use Rattle.law_lists.proofs.Tests.{bool_tells, lt_tells}
+use Rattle.law_lists.proofs.Tests.{bool_tells}
 
 -- an element is the first that passes
 pub record IsFirst {A : Type 0} (p : A → Bool) (xs : List A) (x : A) : Type 0 where
@@ -59,12 +61,6 @@ none_passes p (x ∷ xs) none (suc k) d inside =
 
 -- ---- places
 
-ltb_true : (a b : ℕ) → a < b → nat_lt a b ≡ true
-ltb_true a b lt = elim (lt_tells a b) [ inl yes_here ↦ yes_here.0 | inr no_here ↦ absurd (omega (arith, no_here.1, lt)) ]
-
-ltb_self : (a : ℕ) → nat_lt a a ≡ false
-ltb_self a = elim (lt_tells a a) [ inl yes_here ↦ absurd (omega (arith, yes_here.1)) | inr no_here ↦ no_here.0 ]
-
 less_none : (n : ℕ) → n - 0 ≡ n
 less_none n = omega arith
 
@@ -73,11 +69,16 @@ less_both m n = omega arith
 
 pub position_is : {A : Type 0} (p : A → Bool) (xs : List A) (i : ℕ) (d : A) → i < length xs → p (get_or xs i d) ≡ true → ((k : ℕ) → k < i → p (get_or xs k d) ≡ false) → position p xs ≡ Some i
 position_is p xs i d inside passes before =
-    rw (position_or_len_is p xs i d (omega (arith, inside)) before (λ _. passes), ltb_true i (length xs) inside) refl
+    rw (position_or_len_is p xs i d (omega (arith, inside)) before (λ _. passes), lt-ltb i (length xs) inside) refl
 
 pub position_none : {A : Type 0} (p : A → Bool) (xs : List A) (d : A) → ((k : ℕ) → k < length xs → p (get_or xs k d) ≡ false) → position p xs ≡ None
 position_none p xs d none =
-    rw (position_or_len_is p xs (length xs) d (omega arith) none (λ lt. absurd (omega (arith, lt))), ltb_self (length xs)) refl
+    rw (position_or_len_is p xs (length xs) d (omega arith) none (λ lt. absurd (omega (arith, lt))), le-ltb (length xs) (length xs) (omega arith)) refl
+
+-- what was found is one of them
+pub position_inside : {A : Type 0} (p : A → Bool) (xs : List A) (k : ℕ) → position p xs ≡ Some k → k < length xs
+position_inside p [] k found = absurd (let no : None ≡ Some k = found in cc)
+position_inside p (x ∷ xs) k found = (position-Some p (x ∷ xs) k x found).0
 
 -- the elements that pass stand together: those from one place up to another
 pub filter_window : {A : Type 0} (p : A → Bool) (xs : List A) (low high : ℕ) → low ≤ high → high ≤ length xs

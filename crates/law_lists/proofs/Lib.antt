@@ -4,3 +4,4 @@ pub mod Tests
 pub mod Leasts
 pub mod Finds
 pub mod Alls
+pub mod Places

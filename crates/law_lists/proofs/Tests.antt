@@ -1,6 +1,7 @@
--- Tests that tell: what a Bool test says of numbers, and a test by cases.
-use Rattle.std.proofs.Common.{◌≡◌, ℕ, zero, suc, not, ◌||◌, ◌<◌, ◌≤◌, Bool, true, false, ◌&&◌, cond, nat_lt, nat_le, nat_eq, ◌⊎◌, inl, inr, refl}
+-- Tests that tell: what a Bool test says of numbers, options and texts, and a test by cases.
+use Rattle.std.proofs.Common.{◌≡◌, ℕ, zero, suc, not, List, Option, Some, None, is_none, is_some, unwrap_or, bytes_eq, ◌||◌, ◌<◌, ◌≤◌, Bool, true, false, ◌&&◌, cond, nat_lt, nat_le, nat_eq, ◌⊎◌, inl, inr, refl}
 use Rattle.std.proofs.lemmas.Bool.{ltb-true, ltb-false, leb-true, leb-false, eqb-true, eqb-false, cases_Bool, and_parts}
+use Rattle.std.proofs.lemmas.Slice.Eq.{bytes_eq-Decides}
 
 pub bool_tells : (b : Bool) → (b ≡ true) ⊎ (b ≡ false)
 bool_tells b = cases_Bool b
@@ -14,11 +15,28 @@ le_tells a b = elim (cases_Bool (nat_le a b)) [ inl e ↦ inl (e, leb-true a b e
 pub eq_tells : (a b : ℕ) → ((nat_eq a b ≡ true) × (a ≡ b)) ⊎ ((nat_eq a b ≡ false) × (a ≡ b → ⊥))
 eq_tells a b = elim (cases_Bool (nat_eq a b)) [ inl e ↦ inl (e, eqb-true a b e) | inr e ↦ inr (e, eqb-false a b e) ]
 
+pub none_is : {A : Type 0} (o : Option A) → is_none o ≡ true → o ≡ None
+none_is None e = refl
+none_is (Some x) e = absurd (let clash : false ≡ true = e in cc)
+
+pub some_is : {A : Type 0} (o : Option A) (d : A) → is_some o ≡ true → o ≡ Some (unwrap_or o d)
+some_is None d e = absurd (let clash : false ≡ true = e in cc)
+some_is (Some x) d e = refl
+
+pub same_bytes : (a b : List ℕ) → bytes_eq a b ≡ true → a ≡ b
+same_bytes a b e = (bytes_eq-Decides a b).0 e
+
+pub own_bytes : (a : List ℕ) → bytes_eq a a ≡ true
+own_bytes a = (bytes_eq-Decides a a).1 refl
+
 pub both_left : (x y : Bool) → (x && y) ≡ true → x ≡ true
 both_left x y h = (and_parts x y h).0
 
 pub both_right : (x y : Bool) → (x && y) ≡ true → y ≡ true
 both_right x y h = (and_parts x y h).1
+
+pub all_three : (x y z : Bool) → x ≡ true → y ≡ true → z ≡ true → (x && y && z) ≡ true
+all_three x y z a b c = rw (a, b, c) refl
 
 -- a property of a choice, by its two cases
 pub chosen : {A : Type 0} (P : A → Type 0) (b : Bool) (x y : A) → (b ≡ true → P x) → (b ≡ false → P y) → P (cond b x y)

@@ -30,7 +30,7 @@ paint_each : (P Q : Object → Type 0) (rows : List Object) → ((r : Object) �
 paint_each P Q [] f h = tt
 paint_each P Q (r ∷ rs) f h = (f r h.0, paint_each P Q rs f h.1)
 
-paint_apart : (rows : List Object) → AllApart rows → AllApart (painted rows)
+pub paint_apart : (rows : List Object) → AllApart rows → AllApart (painted rows)
 paint_apart [] h = tt
 paint_apart (r ∷ rs) h = (paint_each (Apart r) (Apart (paint r)) rs (λ q a. a) h.0, paint_apart rs h.1)
 

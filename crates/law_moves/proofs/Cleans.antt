@@ -10,12 +10,12 @@ use Rattle.def_machine.specs.Memory.{filtered}
 use Rattle.def_machine.specs.Frames.{switched, Given, argument, entered, answer, left_by}
 use Rattle.law_moves.proofs.Pushes.{argument_case, passed_case}
 
-abbrev EachAt : (ℕ → Cap → Type 0) → List Cap → Type 0
+abbrev pub EachAt : (ℕ → Cap → Type 0) → List Cap → Type 0
 EachAt P [] = Unit {0}
 EachAt P (x ∷ xs) = P zero x × EachAt (λ n. P (suc n)) xs
 
 -- what holds of each place of a list, by its number
-all_at : (P : ℕ → Cap → Type 0) (xs : List Cap) (z : Cap) → ((n : ℕ) → P n z) → EachAt P xs → (n : ℕ) → P n (get_or xs n z)
+pub all_at : (P : ℕ → Cap → Type 0) (xs : List Cap) (z : Cap) → ((n : ℕ) → P n z) → EachAt P xs → (n : ℕ) → P n (get_or xs n z)
 all_at P [] z none h n = none n
 all_at P (x ∷ xs) z none h zero = h.0
 all_at P (x ∷ xs) z none h (suc n) = all_at (λ m. P (suc m)) xs z (λ m. none (suc m)) h.1 n

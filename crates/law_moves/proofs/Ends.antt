@@ -2,6 +2,7 @@
 use Rattle.std.proofs.Common.{ℕ, zero, suc, ◌≡◌, ◌+◌, ◌-◌, ◌*◌, ◌≤◌, ◌<◌, inl, inr, ◌&&◌, ◌||◌, Bool, true, false, cond, nat_le, nat_lt, take, slice_index_or, length, List, [], ◌∷◌, Option, Some, None, refl, sym, ap, ◌∙◌, subst, arith}
 use Rattle.std.proofs.Math.ListN.{get_or}
 use Rattle.std.proofs.lemmas.List.{get_or_past}
+use Rattle.std.proofs.lemmas.Bool.{or_parts}
 use Rattle.def_profile.specs.Areas.{frame_after}
 use Rattle.law_lists.proofs.Tests.{bool_tells, both_left, both_right, chosen, le_tells, lt_tells}
 use Rattle.def_words.specs.declared.Cap.{Cap}
@@ -120,14 +121,14 @@ thread_keeps i s front t w = record {
 
 -- ---- marks
 
-unmarked_cap : (i : Image) (rows : List Object) (x : ℕ) (gs : List Granule) (k : ℕ) → (get_or (marks_cleared rows x gs) k nothing).cap ≡ (get_or gs k nothing).cap
-unmarked_cap i rows x [] k = refl
-unmarked_cap i rows x (g ∷ gs) zero = refl
-unmarked_cap i rows x (g ∷ gs) (suc k) = unmarked_cap i rows (x + 8) gs k
+pub unmarked_cap : (rows : List Object) (x : ℕ) (gs : List Granule) (k : ℕ) → (get_or (marks_cleared rows x gs) k nothing).cap ≡ (get_or gs k nothing).cap
+unmarked_cap rows x [] k = refl
+unmarked_cap rows x (g ∷ gs) zero = refl
+unmarked_cap rows x (g ∷ gs) (suc k) = unmarked_cap rows (x + 8) gs k
 
-unmarked_length : (i : Image) (rows : List Object) (x : ℕ) (gs : List Granule) → length (marks_cleared rows x gs) ≡ length gs
-unmarked_length i rows x [] = refl
-unmarked_length i rows x (g ∷ gs) = ap (λ n. suc n) (unmarked_length i rows (x + 8) gs)
+pub unmarked_length : (rows : List Object) (x : ℕ) (gs : List Granule) → length (marks_cleared rows x gs) ≡ length gs
+unmarked_length rows x [] = refl
+unmarked_length rows x (g ∷ gs) = ap (λ n. suc n) (unmarked_length rows (x + 8) gs)
 
 no_mark : (b : Bool) → false ≡ cond b false false
 no_mark true = refl
@@ -139,10 +140,6 @@ unmarked_mark i rows x (g ∷ gs) zero = let e : x + 8 * zero ≡ x = omega arit
 unmarked_mark i rows x (g ∷ gs) (suc k) =
     let e : x + 8 * suc k ≡ x + 8 + 8 * k = omega arith in
     unmarked_mark i rows (x + 8) gs k ∙ ap (λ n. cond (is_painted_at rows n) false (get_or gs k nothing).mark) (sym e)
-
-or_left : (a b : Bool) → (a || b) ≡ false → (a ≡ false) × (b ≡ false)
-or_left true b h = absurd (let clash : true ≡ false = h in cc)
-or_left false b h = (refl, h)
 
 in_chunk_tells : (r : Object) (x : ℕ) → InChunk r x → (nat_le r.base (x + 8) && nat_lt x (r.base + r.length)) ≡ true
 in_chunk_tells r x h = elim (le_tells r.base (x + 8)) [
@@ -156,12 +153,12 @@ not_painted [] x none h = h
 not_painted (r ∷ rs) x none (inl m) = inl (
   elim (bool_tells r.painted) [
     | inl is ↦ absurd (let both : (r.painted && nat_le r.base (x + 8) && nat_lt x (r.base + r.length)) ≡ true = rw is (in_chunk_tells r x m.1) in
-        let clash : true ≡ false = sym both ∙ (or_left (r.painted && nat_le r.base (x + 8) && nat_lt x (r.base + r.length)) (is_painted_at rs x) none).0 in cc)
+        let clash : true ≡ false = sym both ∙ (or_parts (r.painted && nat_le r.base (x + 8) && nat_lt x (r.base + r.length)) (is_painted_at rs x) none).0 in cc)
     | inr not ↦ not
   ],
   m,
 )
-not_painted (r ∷ rs) x none (inr h) = inr (not_painted rs x (or_left (r.painted && nat_le r.base (x + 8) && nat_lt x (r.base + r.length)) (is_painted_at rs x) none).1 h)
+not_painted (r ∷ rs) x none (inr h) = inr (not_painted rs x (or_parts (r.painted && nat_le r.base (x + 8) && nat_lt x (r.base + r.length)) (is_painted_at rs x) none).1 h)
 
 painted_there : (rows : List Object) (x : ℕ) → is_painted_at rows x ≡ true → Any (λ r. (r.painted ≡ true) × InChunk r x) rows
 painted_there [] x h = absurd (let clash : false ≡ true = h in cc)
@@ -212,8 +209,8 @@ marks_left i s k h =
 
 over_fades : (i : Image) (s : State) (front : ℕ) → Passed i s front → StateFades i s (sweep_over i s)
 over_fades i s front w = record {
-  caps = λ k. subst (λ c. Fades i s.objects (unpainted s.objects) (granule s k).cap c) (sym (unmarked_cap i s.objects i.ram s.granules k)) (stays i s (granule s k).cap (granule_stays i s front k w));
-  fixed = λ k is same. unmarked_cap i s.objects i.ram s.granules k;
+  caps = λ k. subst (λ c. Fades i s.objects (unpainted s.objects) (granule s k).cap c) (sym (unmarked_cap s.objects i.ram s.granules k)) (stays i s (granule s k).cap (granule_stays i s front k w));
+  fixed = λ k is same. unmarked_cap s.objects i.ram s.granules k;
   domains = λ k tagged d. (
     (λ there. left_any (LiveAt i (address_of i k) d) s.objects (each_any (ObjectFits i s.next) (LiveAt i (address_of i k) d) (λ r. (r.painted ≡ false) × LiveAt i (address_of i k) d r) s.objects (λ r f m. (f.unpainted m.0, m)) w.held.fits there)),
     (λ there. any_map (λ r. (r.painted ≡ false) × LiveAt i (address_of i k) d r) (LiveAt i (address_of i k) d) s.objects (λ r m. m.1) (any_left (LiveAt i (address_of i k) d) s.objects there)),
@@ -225,7 +222,7 @@ over_fades i s front w = record {
   fits = left_each (ObjectFits i s.next) s.objects w.held.fits;
   marks = λ k. marks_left i s k w.held;
   limits = λ q. rw (left_charges q s.objects (each_map (ObjectFits i s.next) (λ r. r.live ≡ true → r.painted ≡ false) s.objects (λ r f. f.unpainted) w.held.fits)) (w.held.limits q);
-  size = unmarked_length i s.objects i.ram s.granules;
+  size = unmarked_length s.objects i.ram s.granules;
 }
 
 over_confined : (i : Image) (s : State) (front : ℕ) → Passed i s front → Confined i (sweep_over i s)
@@ -248,7 +245,7 @@ over_swept i s = record {
 }
 
 over_bounded : (i : Image) (s : State) → Bounded i s → Bounded i (sweep_over i s)
-over_bounded i s b = record { deep = b.deep; few = b.few; many = b.many; areas = b.areas; fits = omega (arith, unmarked_length i s.objects i.ram s.granules, b.fits) }
+over_bounded i s b = record { deep = b.deep; few = b.few; many = b.many; areas = b.areas; fits = omega (arith, unmarked_length s.objects i.ram s.granules, b.fits) }
 
 pub record Held (i : Image) (s : State) : Type 0 where
   pub held : Confined i s

@@ -1,25 +1,13 @@
 -- A place that was found gives an object that may be put beside the others.
-use Rattle.std.proofs.Common.{false, ℕ, zero, suc, ◌≡◌, ◌+◌, ◌*◌, ◌/◌, ◌%◌, ◌^◌, ◌≤◌, List, [], ◌∷◌, true, refl, sym, ap, ◌∙◌, subst, arith}
-use Rattle.std.proofs.Math.Nat.{mul_assoc, mul-mod_left}
-use Rattle.std.proofs.lemmas.Nat.{pow-add}
-use Rattle.def_words.specs.LeastBounds.{ceil_units, exponent_for}
+use Rattle.std.proofs.Common.{false, ℕ, zero, suc, ◌≡◌, ◌+◌, ◌*◌, ◌/◌, ◌%◌, ◌^◌, ◌≤◌, List, [], ◌∷◌, true, refl, ◌∙◌, arith}
+use Rattle.def_words.specs.LeastBounds.{exponent_for}
 use Rattle.def_machine.specs.Image.{Image, root}
 use Rattle.def_machine.specs.State.{State, Object}
 use Rattle.def_machine.specs.Objects.{Each, ApartFrom, charges}
 use Rattle.def_machine.specs.Heap.{Fits, length_for, charge_for, new_object}
 use Rattle.def_confined.specs.Confined.{Confined, Apart, ObjectFits}
 use Rattle.def_confined.specs.Changes.{NewObject}
-
--- rounding keeps multiples of eight
-rounded_eights : (n e : ℕ) → n % 8 ≡ 0 → ceil_units n e * 2 ^ e % 8 ≡ 0
-rounded_eights n zero even = omega (arith, even)
-rounded_eights n (suc zero) even = omega (arith, even)
-rounded_eights n (suc (suc zero)) even = omega (arith, even)
-rounded_eights n (suc (suc (suc e))) even =
-    let sum : suc (suc (suc e)) ≡ e + 3 = omega arith in
-    let power : 2 ^ (suc (suc (suc e))) ≡ 2 ^ e * 8 = ap (λ k. 2 ^ k) sum ∙ pow-add 2 e 3 in
-    let P : ℕ → Type 0 = λ k. ceil_units n (suc (suc (suc e))) * k % 8 ≡ 0 in
-    subst P (sym power) (ap (λ k. k % 8) (sym (mul_assoc (ceil_units n (suc (suc (suc e)))) (2 ^ e) 8)) ∙ mul-mod_left (ceil_units n (suc (suc (suc e))) * 2 ^ e) 8)
+use Rattle.law_words.proofs.Leasts.{rounded_eights}
 
 length_eights : (size : ℕ) → length_for size % 8 ≡ 0
 length_eights size = rounded_eights ((size + 7) / 8 * 8) (exponent_for 0 ((size + 7) / 8 * 8)) (omega arith)

@@ -8,17 +8,15 @@ use Rattle.def_reach.specs.Roots.{Origin, TrustedPart, Listing, is_quota, is_sta
 use Rattle.def_reach.specs.Sharing.{Reaches}
 use Rattle.def_machine.specs.Image.{Image, root}
 use Rattle.def_machine.specs.State.{Frame, Object}
-use Rattle.def_confined.specs.Capabilities.{Kept, stack_cap}
+use Rattle.def_confined.specs.Capabilities.{Kept}
 use Rattle.def_confined.specs.Places.{Placed, OwnStack, HasLive}
 use Rattle.def_confined.specs.Made.{IsOwn, IsReturnSentry, IsStackUpTo}
 use Rattle.law_reach.proofs.Joins.{joined_is, reaches_own}
 use Rattle.law_moves.proofs.Places.{within_head, no_heap_of}
+use Rattle.law_moves.proofs.Authorities.{no_stack_of}
 
 pub no_live_of : (i : Image) (objects : List Object) (c : Cap) (o : Origin) → (root i c.shadow.root).origin ≡ o → is_quota o ≡ false → HasLive i objects c
 no_live_of i objects c o is none = λ tagged heap some. absurd (let clash : true ≡ false = sym heap ∙ no_heap_of i c o is none in cc)
-
-no_stack_at : (i : Image) (c : Cap) (o : Origin) → (root i c.shadow.root).origin ≡ o → is_stack o ≡ false → stack_cap i c ≡ true → ⊥
-no_stack_at i c o is none stack = let clash : true ≡ false = sym stack ∙ ap is_stack is ∙ none in cc
 
 own_by : (G : Type 0) (i : Image) (b : ℕ) (c : Cap) → IsOwn i b c → ((o : Origin) → (root i c.shadow.root).origin ≡ o → is_quota o ≡ false → is_stack o ≡ false → G) → G
 own_by G i b c h f = elim h.kind [ inl e ↦ f (Listing kind.Code) e refl refl | inr e ↦ f (Listing kind.Globals) e refl refl ]
@@ -30,7 +28,7 @@ own_placed i objects t b fs c h = record {
   owner = λ owned d e.
       let P : Owner → Type 0 = λ o. Reaches i.entries o d in
       subst P (sym h.owner) (reaches_own i.entries b d (joined_is i.entries b d (sym e)));
-  own = λ stack. absurd (own_by ⊥ i b c h (λ o is q s. no_stack_at i c o is s stack));
+  own = λ stack. absurd (own_by ⊥ i b c h (λ o is q s. no_stack_of i c o is s stack));
   source = λ four. absurd (omega (arith, four, h.unsealed));
 }
 
@@ -54,7 +52,7 @@ sentry_placed i objects D S c h = record {
   rooted = h.rooted;
   object = λ heap. absurd (let clash : true ≡ false = sym heap ∙ no_heap_of i c TrustedPart h.kind refl in cc);
   owner = λ owned. absurd (let clash : true ≡ false = sym owned ∙ ap is_owned h.kind in cc);
-  own = λ stack. absurd (no_stack_at i c TrustedPart h.kind refl stack);
+  own = λ stack. absurd (no_stack_of i c TrustedPart h.kind refl stack);
   source = λ four. absurd (omega (arith, four, h.sealed));
 }
 

@@ -1,5 +1,5 @@
 -- Jumps of the running thread.
-use Rattle.std.proofs.Common.{ℕ, ◌≡◌, ◌<◌, ◌⊎◌, inl, inr, true, false, List, [], ◌∷◌, refl, sym, ap, ◌∙◌, subst}
+use Rattle.std.proofs.Common.{ℕ, ◌≡◌, ◌<◌, inl, inr, true, false, List, [], ◌∷◌, refl, sym, ap, ◌∙◌, subst}
 use Rattle.law_lists.proofs.Tests.{bool_tells}
 use Rattle.def_words.specs.declared.Cap.{Cap}
 use Rattle.def_words.specs.declared.Posture.{Posture}
@@ -10,7 +10,7 @@ use Rattle.def_words.specs.Seals.{cap_seal, posture_through}
 use Rattle.def_reach.specs.Roots.{is_native, is_owned}
 use Rattle.def_reach.specs.Sharing.{Reaches}
 use Rattle.def_machine.specs.Image.{Image, root, made_cap}
-use Rattle.def_machine.specs.State.{State, Thread, Frame, Object, thread, register}
+use Rattle.def_machine.specs.State.{State, Thread, Frame, Object, thread}
 use Rattle.def_machine.specs.Threads.{Clockwork, changed, jumped}
 use Rattle.def_confined.specs.Capabilities.{Rooted, IsReturnType, Kept, heap_cap}
 use Rattle.def_confined.specs.Places.{InFrames, HasLive}

@@ -104,7 +104,7 @@ derive_exact high base length set address from low fits small tagged =
     let Q : ℕ → Type 0 = λ n. (rounded_of base n).exact ≡ true in
     subst Q ends (subst P at says.1)
 
-not_boot : IsBootType 0 → ⊥
+pub not_boot : IsBootType 0 → ⊥
 not_boot (inl e) = let clash : 0 ≡ 1 = e in omega (arith, clash)
 not_boot (inr (inl e)) = let clash : 0 ≡ 2 = e in omega (arith, clash)
 not_boot (inr (inr (inl e))) = let clash : 0 ≡ 3 = e in omega (arith, clash)

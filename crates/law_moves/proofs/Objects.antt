@@ -63,7 +63,7 @@ allocate_keeps i s t n r c parts k a = record {
 
 -- ---- a free
 
-each_unit : (rs : List Object) → Each (λ q. Unit {0}) rs
+pub each_unit : (rs : List Object) → Each (λ q. Unit {0}) rs
 each_unit [] = tt
 each_unit (x ∷ xs) = (tt, each_unit xs)
 

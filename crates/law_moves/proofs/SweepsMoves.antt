@@ -1,19 +1,20 @@
 -- A change of one thread and of granules, where the objects of the heap and the front stay: what stands beside
 -- *Confined* stays too.
-use Rattle.std.proofs.Common.{ℕ, ◌≡◌, ◌+◌, ◌-◌, ◌*◌, ◌≤◌, ◌<◌, inl, inr, true, false, List, [], ◌∷◌, length, Option, Some, None, refl, sym, ap, ◌∙◌, subst, arith, slice_set}
+use Rattle.std.proofs.Common.{ℕ, ◌≡◌, ◌+◌, ◌-◌, ◌*◌, ◌≤◌, inl, inr, List, length, Option, Some, None, refl, sym, ap, ◌∙◌, subst, arith, slice_set}
 use Rattle.std.proofs.lemmas.Bool.{cases_eq}
-use Rattle.std.proofs.lemmas.List.{length-set}
-use Rattle.law_lists.proofs.Sets.{after_set, after_set_at, after_set_split}
+use Rattle.std.proofs.lemmas.List.{length-map, length-set}
+use Rattle.law_lists.proofs.Sets.{after_set, after_set_at}
 use Rattle.def_words.specs.declared.Cap.{Cap}
 use Rattle.def_memory.specs.declared.Granule.{Granule}
 use Rattle.def_memory.specs.Granules.{granule_at, nothing}
 use Rattle.def_machine.specs.Image.{Image, area_of, frames_most}
 use Rattle.def_machine.specs.State.{State, Thread, Frame, thread, register, granule, nobody}
-use Rattle.def_machine.specs.Threads.{Clockwork, changed}
+use Rattle.def_machine.specs.Memory.{filtered}
+use Rattle.def_machine.specs.Threads.{Clockwork, changed, picked}
 use Rattle.def_confined.specs.Confined.{Confined}
 use Rattle.def_confined.specs.Holding.{EndFits}
 use Rattle.def_confined.specs.Keeps.{Beside}
-use Rattle.def_confined.specs.Swept.{HasUnpainted, IsPassed, FramesSwept, Swept, Bounded}
+use Rattle.def_confined.specs.Swept.{HasUnpainted, IsPassed, FramesSwept, Swept}
 use Rattle.law_moves.proofs.Others.{Sweeps, changed_swept}
 use Rattle.law_moves.proofs.Slices.{live_unpainted}
 
@@ -57,6 +58,19 @@ running_left i s t new runs same few ends h = record {
   deep = subst (λ (fs : List Frame). length fs ≤ frames_most i t) (sym same) (h.bounded.deep t);
   few = few;
   ends = ends;
+}
+
+-- a thread that is picked where none ran
+pub picked_left : (i : Image) (s : State) (t : ℕ) → s.running ≡ None → Beside i s → ThreadLeft i s t (picked i s (thread s t)) (Some t)
+picked_left i s t idle h = record {
+  sweeps = λ w. record {
+    frames = w.frames t;
+    registers = λ stops. absurd (stops refl);
+    others = λ u other stops is. let clash : None ≡ Some u = sym idle ∙ is in cc;
+  };
+  deep = h.bounded.deep t;
+  few = omega (arith, h.bounded.few t, length-map (thread s t).registers (filtered i s));
+  ends = λ e. record { over = e.over; none = e.none };
 }
 
 pub moved_beside : (i : Image) (s : State) (t : ℕ) (gs : List Granule) (new : Thread) (run : Option ℕ) (w : Clockwork) → RamLeft i s gs → ThreadLeft i s t new run → Beside i s → Beside i (moved s t gs new run w)

@@ -21,7 +21,7 @@ use Rattle.def_words.specs.Jumped.{opened}
 use Rattle.def_words.specs.Capability.{with_seal_field}
 
 -- no source, no object
-opened_no_heap : (i : Image) (p : Cap) → p.shadow.source ≡ 0 → heap_cap i p ≡ false
+pub opened_no_heap : (i : Image) (p : Cap) → p.shadow.source ≡ 0 → heap_cap i p ≡ false
 opened_no_heap i p none = ap (λ n. is_quota (root i p.shadow.root).origin && not (nat_eq n 0)) none ∙ and_false (is_quota (root i p.shadow.root).origin)
   where
     and_false : (b : Bool) → (b && false) ≡ false

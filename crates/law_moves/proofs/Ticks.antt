@@ -27,7 +27,7 @@ pub record Restatused (s : State) (ts : List Thread) : Type 0 where
 after : (P : Thread → Type 0) (s : State) (ts : List Thread) (t : ℕ) → Restatused s ts → ((x : Status) → P (with_status (thread s t) x)) → P (get_or ts t nobody)
 after P s ts t r h = let one = r.each t in subst P (sym one.1) (h one.0)
 
-same_frames : (i : Image) (objects : List Object) (fs : List Frame) → FramesFade i objects objects fs fs
+pub same_frames : (i : Image) (objects : List Object) (fs : List Frame) → FramesFade i objects objects fs fs
 same_frames i objects [] = tt
 same_frames i objects (f ∷ fs) = (
   record {

@@ -1,6 +1,5 @@
 -- Turns of threads.
-use Rattle.std.proofs.Common.{ℕ, zero, suc, ◌≡◌, true, false, List, [], ◌∷◌, map, Option, Some, refl}
-use Rattle.std.proofs.Math.ListN.{get_or}
+use Rattle.std.proofs.Common.{ℕ, ◌≡◌, true, false, Option, Some, refl}
 use Rattle.def_words.specs.declared.Cap.{Cap}
 use Rattle.def_memory.specs.Granules.{plain}
 use Rattle.def_machine.specs.Image.{Image}

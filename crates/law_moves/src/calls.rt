@@ -48,7 +48,8 @@ pub fn clean_calls()
         → (root i f.export).passes ≡ false → (n : ℕ)
         → (register (back_from i s old f fs) n).tag ≡ true
         → IsSaved i s f n (register (back_from i s old f fs) n) }
-    ensures value { (i : Image) (s : State) (old : Thread) (value : ℕ) (f : Frame) (fs : List Frame) (n : ℕ)
+    ensures value { (i : Image) (s : State) (old : Thread) (value : ℕ) (f : Frame) (fs : List Frame)
+        (n : ℕ)
         → (register (valued_from i s old value f fs) n).tag ≡ true
         → IsSaved i s f n (register (valued_from i s old value f fs) n) }
     ensures unwind { (i : Image) (s : State) (old : Thread) (f : Frame) (fs : List Frame) (n : ℕ)

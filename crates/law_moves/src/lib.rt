@@ -4,7 +4,7 @@
 #![tactic(auto)]
 
 mod calls;
-mod clocks;
+mod clockwork;
 mod heap;
 mod jumps;
 mod licensed;
@@ -28,7 +28,7 @@ ghost use Rattle.def_confined.specs.Partitioned.{Partitioned};
 ghost use Rattle.def_confined.specs.Premises.{Allocates, HasRoom, Turns};
 
 pub use calls::{call_confined, clean_calls, ends_confined};
-pub use clocks::turns_confined;
+pub use clockwork::turns_confined;
 pub use heap::{heap_moves, objects_there};
 pub use jumps::{code_jumps, jump_move, postures_fit, targets_land};
 pub use licensed::{deeds_licensed, off_spans_licensed, uses_reach};

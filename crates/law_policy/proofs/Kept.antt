@@ -1,17 +1,13 @@
 -- What entries are where none of them breaks a rule.
-use Rattle.std.proofs.Common.{◌≡◌, ℕ, zero, suc, ◌+◌, ◌≤◌, ◌==◌, ◌++◌, ◌&&◌, nat_lt, not, List, [], ◌∷◌, Bool, true, false, Some, None, inl, inr, refl, ap, sym, ◌∙◌, subst, slice_get, arith, length, if◌then◌else◌}
-use Rattle.std.proofs.lemmas.Bool.{ltb-false}
-use Rattle.law_lists.proofs.Tests.{eq_tells}
+use Rattle.std.proofs.Common.{◌≡◌, ℕ, zero, suc, ◌+◌, ◌≤◌, ◌++◌, ◌&&◌, nat_lt, not, List, [], ◌∷◌, Bool, true, false, Some, None, refl, ap, subst, slice_get, arith, length, if◌then◌else◌}
+use Rattle.std.proofs.lemmas.Bool.{ltb-false, not-false, eq-eqb}
 use Rattle.ct_entry.specs.declared.rows.Entry.{Entry}
-use Rattle.ct_entry.specs.declared.rows.Gate.{Gate}
-use Rattle.ct_entry.specs.declared.rows.Kind.{Kind}
 use Rattle.ct_entry.specs.declared.rows.Kind.TheVariants as kind
 use Rattle.ct_entry.specs.declared.rows.Owner.{Owner}
 use Rattle.ct_entry.specs.Kinds.{is_quota}
 use Rattle.ct_entry.specs.Listed.{Listed}
 use Rattle.def_reach.specs.Roots.{gate_for, turns_interrupts_off}
 use Rattle.def_reach.specs.Reach.{same_owner}
-use Rattle.def_policy.specs.declared.Subject.{Subject}
 use Rattle.def_policy.specs.declared.Subject.TheVariants.{Call, Data, Device, Disabled, Quota, Service, Shared, Total}
 use Rattle.def_policy.specs.Breaking.{KeepsRule, breaking, breaking_from, breaks, counted, is_listed}
 use Rattle.def_policy.specs.Rulings.{Ruling}
@@ -45,39 +41,32 @@ module _ (e : Listed) (r : Ruling) where
   unfolding breaking
   unbroken k x keeps there = unbroken_from 1 0 e.rows k x keeps.entries there (suc k) (omega arith)
 
-same_number : (n : ℕ) → (n == n) ≡ true
-same_number n = elim (eq_tells n n) [ inl same ↦ same.0 | inr other ↦ absurd (other.1 refl) ]
-
-listed_by : (b : Bool) → not b ≡ false → b ≡ true
-listed_by true h = refl
-listed_by false h = absurd (let bad : true ≡ false = h in cc)
-
 -- ---- rules that name who may hold an import
 
 module _ (e : Listed) (r : Ruling) (n : ℕ) where
   device_kept : (number : ℕ) (x : Entry) → r.subject ≡ Device n → Unbroken e r number x → x.kind ≡ kind.Device → x.of ≡ n → is_listed r.owners x.owner ≡ true
   device_kept number x is u kind_is of_is =
       let no_break = u.is in
-      let told : not (is_listed r.owners x.owner) ≡ false = rw (is, kind_is, of_is, same_number n) at no_break in
-      listed_by (is_listed r.owners x.owner) told
+      let told : not (is_listed r.owners x.owner) ≡ false = rw (is, kind_is, of_is, eq-eqb n n refl) at no_break in
+      not-false (is_listed r.owners x.owner) told
 
   shared_kept : (number : ℕ) (x : Entry) → r.subject ≡ Shared n → Unbroken e r number x → x.kind ≡ kind.Shared → x.of ≡ n → is_listed r.owners x.owner ≡ true
   shared_kept number x is u kind_is of_is =
       let no_break = u.is in
-      let told : not (is_listed r.owners x.owner) ≡ false = rw (is, kind_is, of_is, same_number n) at no_break in
-      listed_by (is_listed r.owners x.owner) told
+      let told : not (is_listed r.owners x.owner) ≡ false = rw (is, kind_is, of_is, eq-eqb n n refl) at no_break in
+      not-false (is_listed r.owners x.owner) told
 
   service_kept : (number : ℕ) (x : Entry) → r.subject ≡ Service n → Unbroken e r number x → x.kind ≡ kind.Service → x.of ≡ n → is_listed r.owners x.owner ≡ true
   service_kept number x is u kind_is of_is =
       let no_break = u.is in
-      let told : not (is_listed r.owners x.owner) ≡ false = rw (is, kind_is, of_is, same_number n) at no_break in
-      listed_by (is_listed r.owners x.owner) told
+      let told : not (is_listed r.owners x.owner) ≡ false = rw (is, kind_is, of_is, eq-eqb n n refl) at no_break in
+      not-false (is_listed r.owners x.owner) told
 
   call_kept : (number : ℕ) (x : Entry) → r.subject ≡ Call n → Unbroken e r number x → x.kind ≡ kind.Call → x.of ≡ n → is_listed r.owners x.owner ≡ true
   call_kept number x is u kind_is of_is =
       let no_break = u.is in
-      let told : not (is_listed r.owners x.owner) ≡ false = rw (is, kind_is, of_is, same_number n) at no_break in
-      listed_by (is_listed r.owners x.owner) told
+      let told : not (is_listed r.owners x.owner) ≡ false = rw (is, kind_is, of_is, eq-eqb n n refl) at no_break in
+      not-false (is_listed r.owners x.owner) told
 
   pub device_held : r.subject ≡ Device n → KeepsRule e r → AreListed e r kind.Device n
   device_held is keeps k x there kind_is of_is = device_kept (suc k) x is (unbroken e r k x keeps there) kind_is of_is
@@ -98,7 +87,7 @@ disabled_kept : (e : Listed) (r : Ruling) (number : ℕ) (x : Entry) → r.subje
 disabled_kept e r number x is u kind_is off =
     let no_break = u.is in
     let told : not (is_listed r.owners x.owner) ≡ false = rw (is, kind_is, off) at no_break in
-    listed_by (is_listed r.owners x.owner) told
+    not-false (is_listed r.owners x.owner) told
 
 pub disabled_held : (e : Listed) (r : Ruling) → r.subject ≡ Disabled → KeepsRule e r → AreDisabledListed e r
 disabled_held e r is keeps k x there kind_is off = disabled_kept e r (suc k) x is (unbroken e r k x keeps there) kind_is off
@@ -106,7 +95,7 @@ disabled_held e r is keeps k x there kind_is off = disabled_kept e r (suc k) x i
 data_kept : (e : Listed) (r : Ruling) (n : ℕ) (x : Entry) → r.subject ≡ Data n → Unbroken e r n x → x.kind ≡ kind.Export → (gate_for e.gates n).capabilities ≡ false
 data_kept e r n x is u kind_is =
     let no_break = u.is in
-    let told : (gate_for e.gates n).capabilities ≡ false = rw (is, kind_is, same_number n) at no_break in
+    let told : (gate_for e.gates n).capabilities ≡ false = rw (is, kind_is, eq-eqb n n refl) at no_break in
     told
 
 pub data_held : (e : Listed) (r : Ruling) (n : ℕ) → r.subject ≡ Data n → KeepsRule e r → PassesData e n

@@ -14,7 +14,7 @@ use Rattle.ct_policy.proofs.Accounts.{ended_long, fault_is, goes_on, no_words_th
 use Rattle.ct_policy.proofs.Firsts.{endless, first_is, no_front, other_end, place_of}
 use Rattle.ct_policy.proofs.Lines as lined
 use Rattle.ct_policy.proofs.Lines.{Within, line_is, no_end_left, no_word}
-use Rattle.def_policy.specs.Denied.{TellsDenial}
+use Rattle.def_policy.specs.Denied.{ReadsOrHasFault}
 
 -- ---- the first word
 
@@ -71,12 +71,12 @@ line_there (suc n) text left words small w = elim (first_there left) [
 -- ---- all lines
 
 module _ (p : PartsRow) (text : List ℕ) where
-  refused : (left : List ℕ) (rulings : List Ruling) (number : ℕ) → IsPolicyFault p text number (length rulings + 1) → TellsDenial p text
+  refused : (left : List ℕ) (rulings : List Ruling) (number : ℕ) → IsPolicyFault p text number (length rulings + 1) → ReadsOrHasFault p text
   refused left rulings number is = inr (record { number = number; line = length rulings + 1; fault = is })
 
   module _ (left : List ℕ) (rulings : List Ruling) (some : 0 < length left) (g : Going p text rulings left)
-      (next : (rest : List ℕ) (new : List Ruling) → length rest < length left → Going p text new rest → TellsDenial p text) where
-    by_meant : (words : List (List ℕ)) (rest : List ℕ) (r : Rule) → IsLine left words rest → form_of words ≡ Some r → (x : Option Ruling) → meant p r ≡ x → TellsDenial p text
+      (next : (rest : List ℕ) (new : List Ruling) → length rest < length left → Going p text new rest → ReadsOrHasFault p text) where
+    by_meant : (words : List (List ℕ)) (rest : List ℕ) (r : Rule) → IsLine left words rest → form_of words ≡ Some r → (x : Option Ruling) → meant p r ≡ x → ReadsOrHasFault p text
     by_meant words rest r l found None none =
         refused left rulings 2 (fault_is p text left rulings (At 2 (length rulings + 1)) g
         (refuse_name p (length rulings) left words rest r (At 2 (length rulings + 1)) l found none refl))
@@ -84,23 +84,23 @@ module _ (p : PartsRow) (text : List ℕ) where
         next rest (rulings ++ x ∷ []) (omega (arith, ap length l.text_is, ended_long words rest))
         (goes_on p text left rest rulings (rulings ++ x ∷ []) g (takes p rulings (rulings ++ x ∷ []) left words rest r x l found means refl))
 
-    by_form : (words : List (List ℕ)) (rest : List ℕ) → IsLine left words rest → (r : Option Rule) → form_of words ≡ r → TellsDenial p text
+    by_form : (words : List (List ℕ)) (rest : List ℕ) → IsLine left words rest → (r : Option Rule) → form_of words ≡ r → ReadsOrHasFault p text
     by_form words rest l None none =
         refused left rulings 1 (fault_is p text left rulings (At 1 (length rulings + 1)) g
         (refuse_form p (length rulings) left words rest (At 1 (length rulings + 1)) some l none refl))
     by_form words rest l (Some r) found = by_meant words rest r l found (meant p r) refl
 
-    by_line : Line left ⊎ NoWords left → TellsDenial p text
+    by_line : Line left ⊎ NoWords left → ReadsOrHasFault p text
     by_line (inl l) = by_form l.words l.rest l.is (form_of l.words) refl
     by_line (inr none) =
         refused left rulings 1 (fault_is p text left rulings (At 1 (length rulings + 1)) g (refl, inl (refl, no_words_there left some none)))
 
-  all_there : (n : ℕ) (left : List ℕ) (rulings : List Ruling) → length left ≤ n → Going p text rulings left → TellsDenial p text
+  all_there : (n : ℕ) (left : List ℕ) (rulings : List Ruling) → length left ≤ n → Going p text rulings left → ReadsOrHasFault p text
   all_there n [] rulings small g = inl (record { rulings = rulings; reads = reads p text [] rulings g (omega arith) })
   all_there zero (c ∷ cs) rulings small g = absurd (omega (arith, small))
   all_there (suc n) (c ∷ cs) rulings small g =
       by_line (c ∷ cs) rulings (omega arith) g (λ rest new less going. all_there n rest new (omega (arith, small, less)) going)
       (line_there (length (c ∷ cs)) (c ∷ cs) (c ∷ cs) [] (omega arith) (lined.begins (c ∷ cs)))
 
-pub policy_or_fault : (p : PartsRow) (text : List ℕ) → TellsDenial p text
+pub policy_or_fault : (p : PartsRow) (text : List ℕ) → ReadsOrHasFault p text
 policy_or_fault p text = all_there p text (length text) text [] (omega arith) (starts p text)

@@ -15,12 +15,12 @@ ghost use Rattle.def_policy.specs.Denials.{AllDenied};
 ghost use Rattle.def_policy.specs.Rulings.{Ruling};
 ghost use Rattle.def_policy.specs.Texts.{IsPolicyFault, ReadsAsPolicy};
 ghost use Rattle.def_policy.specs.declared.Subject.TheVariants.{Call, Data, Device, Disabled, Quota, Service, Shared, Total};
-ghost use Rattle.def_policy.specs.Denied.{AreDisabledListed, AreListed, HasDenials, TellsDenial, PassesData, limits_counted};
+ghost use Rattle.def_policy.specs.Denied.{AreDisabledListed, AreListed, HasDenials, ReadsOrHasFault, PassesData, limits_counted};
 
 /// Any text is a policy of an image, or has a fault; never both. It says the same rules each time, and
 /// has one fault.
 pub fn texts_say_one_thing()
-    ensures told { (p : PartsRow) (text : List ℕ) → TellsDenial p text }
+    ensures told { (p : PartsRow) (text : List ℕ) → ReadsOrHasFault p text }
     ensures never_both { (p : PartsRow) (text : List ℕ) (number line : ℕ) (rulings : List Ruling)
         → IsPolicyFault p text number line → ReadsAsPolicy p text rulings → ⊥ }
     ensures rules { (p : PartsRow) (text : List ℕ) (a b : List Ruling)

@@ -2,6 +2,7 @@
 use Rattle.std.proofs.Common.{◌≡◌, ℕ, zero, suc, ◌+◌, ◌-◌, ◌^◌, ◌<◌, ◌≤◌, ◌⊎◌, min, Bool, true, false, List, [], ◌∷◌, ◌++◌, Option, Some, None, Result, Ok, Err, length, take, drop, slice_get, refl, sym, ap, ◌∙◌, subst, inl, inr, arith, length-take}
 use Rattle.std.proofs.lemmas.List.{map-append, take_all}
 use Rattle.std.proofs.lemmas.Option.{slice_get_cases, slice_get_within}
+use Rattle.law_lists.proofs.Places.{still_there}
 use Rattle.ct_entry.specs.declared.rows.Owner.{Owner}
 use Rattle.def_port.specs.Bytes.{FaultsRose}
 use Rattle.def_port.specs.Told.{Told, File}
@@ -62,11 +63,6 @@ drop_own : {A : Type 0} (xs ys : List A) (j k : ℕ) → j ≡ length xs + k →
 drop_own [] ys j k is = ap (λ n. take n ys) (let same : j ≡ k = omega (arith, is) in same)
 drop_own (x ∷ xs) ys zero k is = absurd (omega (arith, is))
 drop_own (x ∷ xs) ys (suc j) k is = drop_own xs ys j k (omega (arith, is))
-
-get_own : {A : Type 0} (xs ys : List A) (j : ℕ) (x : A) → slice_get xs j ≡ Some x → slice_get (xs ++ ys) j ≡ Some x
-get_own [] ys j x is = absurd (let clash : None ≡ Some x = is in cc)
-get_own (z ∷ zs) ys zero x is = is
-get_own (z ∷ zs) ys (suc j) x is = get_own zs ys j x is
 
 get_later : {A : Type 0} (xs ys : List A) (j k : ℕ) → j ≡ length xs + k → slice_get (xs ++ ys) j ≡ slice_get ys k
 get_later [] ys j k is = ap (slice_get ys) (let same : j ≡ k = omega (arith, is) in same)
@@ -312,7 +308,7 @@ module _ (e : CallRecord) (c : Command) (bytes : List ℕ) (sources : List (List
   next_file j name few h =
       let here = at_file j (Asks name) few h in
       elim (slice_get_cases (source_names l.description) j).1 [
-        | inl x ↦ get_own (source_names l.description) names j name (source_asks _ _ (slice_get (source_names l.description) j) x.0 name x.2 here)
+        | inl x ↦ still_there (source_names l.description) names j name (source_asks _ _ (slice_get (source_names l.description) j) x.0 name x.2 here)
         | inr none ↦
             let is : j ≡ length sources + (j - length sources) = past j none.0 in
             let later : j ≡ length (source_names l.description) + (j - length sources) = (let size = l.whole in omega (arith, size, is)) in

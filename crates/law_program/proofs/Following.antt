@@ -28,7 +28,7 @@ use Rattle.law_desc.proofs.Lawfuls.{bytes_lawful, value_lawful}
 use Rattle.def_reach.specs.There.{LeadsOrNot}
 use Rattle.law_paths.proofs.There.{there}
 use Rattle.ct_policy.proofs.Untrusted.{untrusted}
-use Rattle.def_policy.specs.Denied.{TellsDenial}
+use Rattle.def_policy.specs.Denied.{ReadsOrHasFault}
 use Rattle.law_policy.proofs.Denials.{denials_there, few}
 use Rattle.law_policy.proofs.There.{policy_or_fault}
 use Rattle.def_program.specs.Following.{IsContent, AreContents, HasTurn}
@@ -67,7 +67,7 @@ names_found p f None (Some l) None = (Ends status.Name name_line, refl)
 abbrev HasPolicy : List ℕ → PartsRow → List (List ℕ) → Type 0
 HasPolicy policy p files = (turn : Turn) × OfPolicy policy p files turn
 
-by_text : (policy : List ℕ) (p : PartsRow) (bytes : List ℕ) (more : List (List ℕ)) → IsFaultless p → TellsDenial p bytes → HasPolicy policy p (bytes ∷ more)
+by_text : (policy : List ℕ) (p : PartsRow) (bytes : List ℕ) (more : List (List ℕ)) → IsFaultless p → ReadsOrHasFault p bytes → HasPolicy policy p (bytes ∷ more)
 by_text policy p bytes more f (inl r) =
     let lines = denials_there p f 1 r.rulings (untrusted p bytes r.rulings r.reads) in
     (verdict lines.text, inr (record { rulings = r.rulings; reads = r.reads; text = lines.text; denied = lines.is; due = refl }))

@@ -3,20 +3,12 @@ use Rattle.std.proofs.Common.{ℕ, suc, ◌≡◌, ◌+◌, List, [], ◌∷◌,
 use Rattle.std.specs.List.{flat_map}
 use Rattle.std.proofs.lemmas.List.{length-append, length-map}
 use Rattle.ct_entry.specs.declared.rows.Entry.{Entry}
-use Rattle.ct_entry.specs.declared.rows.Owner.{Owner}
 use Rattle.ct_entry.specs.declared.rows.Owner.TheVariants.{Compartment, Library}
-use Rattle.def_profile.specs.declared.layout.TheConstants.{SLOT_SIZE, TABLE_HEAD, TABLE_ROW}
-use Rattle.def_image.specs.Parts.{SlotRow, GateRow, CodeRow, CompartmentRow, ThreadRow, PartsRow}
+use Rattle.def_profile.specs.declared.layout.TheConstants.{TABLE_HEAD}
+use Rattle.def_image.specs.Parts.{GateRow, CodeRow, CompartmentRow, ThreadRow, PartsRow}
 use Rattle.def_boot.specs.Entries.{slot_rows, export_rows, library_export_row, compartment_rows, library_rows, stack_row, rows_from, entry_rows}
 use Rattle.def_report.specs.Labels.{Label, owner_label, slot_label, export_label, slots_and_exports, compartment_labels, library_labels, labels_of}
-
-slots_count : (p : PartsRow) (o : Owner) (at : ℕ) (ss : List SlotRow) → length (slot_rows p o at ss) ≡ length ss
-slots_count p o at [] = refl
-slots_count p o at (s ∷ ss) = ap suc (slots_count p o (at + SLOT_SIZE) ss)
-
-exports_count : (b at : ℕ) (xs : List GateRow) → length (export_rows b at xs) ≡ length xs
-exports_count b at [] = refl
-exports_count b at (x ∷ xs) = ap suc (exports_count b (at + TABLE_ROW) xs)
+use Rattle.law_boot.proofs.Standing.{slots_count, exports_count}
 
 code_count : (p : PartsRow) (c : CodeRow) → length (slots_and_exports p c) ≡ length c.slots + length c.exports
 code_count p c =

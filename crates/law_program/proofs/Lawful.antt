@@ -1,7 +1,7 @@
 -- Each event of a run may come when it comes.
-use Rattle.std.proofs.Common.{◌≡◌, ℕ, zero, suc, ◌+◌, ◌-◌, ◌%◌, ◌&&◌, ◌==◌, ◌<◌, ◌≤◌, nat_lt, length, map, Bool, true, false, List, [], ◌∷◌, ◌++◌, Option, Some, None, refl, sym, ap, ◌∙◌, subst, arith}
+use Rattle.std.proofs.Common.{◌≡◌, ℕ, zero, suc, ◌+◌, ◌-◌, ◌%◌, ◌&&◌, ◌==◌, ◌<◌, ◌≤◌, nat_lt, length, Bool, true, false, List, [], ◌∷◌, ◌++◌, Option, Some, None, refl, sym, ap, ◌∙◌, subst, arith}
 use Rattle.std.specs.List.{All}
-use Rattle.std.proofs.lemmas.Bool.{lt-ltb}
+use Rattle.std.proofs.lemmas.Bool.{lt-ltb, and_from}
 use Rattle.ct_entry.specs.declared.acts.End.{End}
 use Rattle.def_profile.specs.declared.limits.TheConstants.{MOST_STEPS}
 use Rattle.def_machine.specs.State.{State}
@@ -18,7 +18,7 @@ use Rattle.def_program.specs.Scripts.{IsPlayable}
 use Rattle.def_script.specs.Coming.{left_from}
 use Rattle.law_script.proofs.Coming.{come_once, no_more, all_given}
 use Rattle.def_events.specs.Kinds.{Kinds, kinds, all_more, IsUncounted}
-use Rattle.law_routines.proofs.Counted.{event_kinds, run_kinds}
+use Rattle.law_routines.proofs.Counted.{event_kinds, run_kinds, inputs_more}
 use Rattle.law_routines.proofs.Devices.{event_keeps, run_keeps}
 use Rattle.law_program.proofs.Telling.{due_by, round_by, run_input, events_at_end, events_on}
 
@@ -55,9 +55,6 @@ due_lawful b s false n es room rest =
     let steps : second.counts.steps ≡ s.counts.steps = ap (λ (k : Kinds). k.steps) swept in
     (one_may s.counts.sweeps n room.sweeps, (may_as second.counts.steps s.counts.steps n steps room.steps, rest))
 
-both_true : (a c : Bool) → a ≡ true → c ≡ true → (a && c) ≡ true
-both_true a c here there = ap (λ x. x && c) here ∙ there
-
 -- a byte leaves room for the rest of the round
 steps_left : (b : Platform) (s : State) (g : Given) (n : ℕ) → HasSteps s n → HasSteps (happens b s (input_of g)).0 n
 steps_left b s g n room =
@@ -76,7 +73,7 @@ named_on b s g gs h = subst (λ n. All (λ (x : Given). x.device < n) gs) (sym (
 input_lawful : (b : Platform) (s : State) (g : Given) (es : List Event) → nat_lt s.counts.inputs MOST_STEPS ≡ true → nat_lt g.device (length s.devices) ≡ true
     → AreLawful b (happens b s (input_of g)).0 es → AreLawful b s (input_of g ∷ es)
 unfolding AreLawful
-input_lawful b s g es room there later = (both_true (nat_lt s.counts.inputs MOST_STEPS) (nat_lt g.device (length s.devices)) room there, later)
+input_lawful b s g es room there later = (and_from (nat_lt s.counts.inputs MOST_STEPS) (nat_lt g.device (length s.devices)) room there, later)
 
 round_lawful : (b : Platform) (s : State) (gs : List Given) (due : Bool) (n : ℕ) (es : List Event)
     → HasSteps s (suc n) → s.counts.inputs + length gs ≤ MOST_STEPS → AreNamed s gs
@@ -92,14 +89,8 @@ round_lawful b s (g ∷ gs) due n es room inputs named rest =
 
 -- ---- what is left after a round
 
-inputs_more : (gs : List Given) (es : List Event) (k : Kinds) → all_more (map input_of gs ++ es) k ≡ all_more es (record k { inputs = k.inputs + length gs })
-inputs_more [] es k = ap (λ n. all_more es (record k { inputs = n })) (let same : k.inputs ≡ k.inputs + 0 = omega arith in same)
-inputs_more (g ∷ gs) es k =
-    inputs_more gs es (record k { inputs = k.inputs + 1 })
-    ∙ ap (λ n. all_more es (record k { inputs = n })) (let same : k.inputs + 1 + length gs ≡ k.inputs + suc (length gs) = omega arith in same)
-
 after_round : (b : Platform) (s : State) (gs : List Given) (due : Bool) → kinds (run b s (round_by gs due)).counts ≡ all_more (due_by due) (record (kinds s.counts) { inputs = s.counts.inputs + length gs })
-after_round b s gs due = run_kinds b s (round_by gs due) ∙ inputs_more gs (due_by due) (kinds s.counts)
+after_round b s gs due = run_kinds b s (round_by gs due) ∙ inputs_more input_of (λ g k. refl) gs (due_by due) (kinds s.counts)
 
 -- so many rounds more may come, and the script's bytes from this step on
 record HasRoom (s : State) (script : List Due) (k n : ℕ) : Type 0 where

@@ -18,6 +18,7 @@ use Rattle.def_program.specs.Turns.{Turn, Asks, Ends, OfParts, OfRun, OfRows, Of
 use Rattle.law_desc.proofs.Judging.{not_both, same_rows}
 use Rattle.law_desc.proofs.Lawfuls.{bytes_lawful}
 use Rattle.law_link.proofs.Whole.{faultless}
+use Rattle.law_program.proofs.Written.{no_fault_is_done}
 
 -- as many files as the rows name
 abbrev pub own : DescRow → List (List ℕ) → List (List ℕ)
@@ -30,14 +31,6 @@ pub record IsTold (c : Command) (bytes : List ℕ) (sources : List (List ℕ)) (
   pub lawful : WellFormed bytes rows
   pub linked : linked rows (own rows sources) ≡ Ok parts
   pub due : OfParts c parts (drop (length (source_names rows)) sources) (Ends status.Done text)
-
-no_fault_is_done : (e : LinkFault) → link_status e ≡ status.Done → ⊥
-no_fault_is_done (fault.Asm owner number line) h = absurd (let clash : status.Assembly ≡ status.Done = h in cc)
-no_fault_is_done (fault.Export owner item) h = absurd (let clash : status.Link ≡ status.Done = h in cc)
-no_fault_is_done (fault.NoRoom needed has) h = absurd (let clash : status.Link ≡ status.Done = h in cc)
-no_fault_is_done (fault.Import owner line) h = absurd (let clash : status.Link ≡ status.Done = h in cc)
-no_fault_is_done (fault.Initial owner) h = absurd (let clash : status.Link ≡ status.Done = h in cc)
-no_fault_is_done fault.NoMemory h = absurd (let clash : status.NoMemory ≡ status.Done = h in cc)
 
 module _ (c : Command) (bytes : List ℕ) (sources : List (List ℕ)) (text : List ℕ) (d : DescRow)
     (w : WellFormed bytes d) where

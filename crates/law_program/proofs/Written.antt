@@ -20,7 +20,7 @@ use Rattle.def_step.specs.Events.{happenings_of}
 use Rattle.def_step.specs.declared.Event.{Event}
 use Rattle.def_program.specs.Answers.{AllRead, Answers, Whole, contents}
 use Rattle.def_program.specs.Calls.{CallRecord}
-use Rattle.def_program.specs.Commands.{Command, Audit, Image, Run, RunImage, Why, Upgrade, Check, Demo, form_of}
+use Rattle.def_program.specs.Commands.{Command, Audit, Image, Run, RunImage, Why, Upgrade, Check, Demo}
 use Rattle.def_program.specs.Licences.{LinksTo, NumberStandsFor, StandFor}
 use Rattle.def_program.specs.Lines.{description_line, image_line, link_status, link_text, script_line}
 use Rattle.def_program.specs.Runs.{demo_text, events_until, last_line, run_lines, run_text, summary_after}
@@ -38,6 +38,7 @@ use Rattle.law_accepted.proofs.Running.{licensed}
 use Rattle.law_program.proofs.Licences.{stands_faultless}
 use Rattle.law_program.proofs.Safe.{safe}
 use Rattle.law_program.proofs.Telling.{run_is_told, text_of}
+use Rattle.law_program.proofs.Ending.{same_command}
 
 -- ---- what a run's text is of
 
@@ -58,7 +59,7 @@ done text = Ends status.Done text
 same_text : (a b : List ℕ) → done a ≡ done b → a ≡ b
 same_text a b is = cc
 
-no_fault_is_done : (e : LinkFault) → link_status e ≡ status.Done → ⊥
+pub no_fault_is_done : (e : LinkFault) → link_status e ≡ status.Done → ⊥
 no_fault_is_done (fault.Asm owner number line) h = absurd (let clash : status.Assembly ≡ status.Done = h in cc)
 no_fault_is_done (fault.Export owner item) h = absurd (let clash : status.Link ≡ status.Done = h in cc)
 no_fault_is_done (fault.NoRoom needed has) h = absurd (let clash : status.Link ≡ status.Done = h in cc)
@@ -216,9 +217,6 @@ writes_of e (Check name policy) w same = tt
 writes_of e (Demo number) w same =
     let due : Follows (Demo number) (contents w.cause.reads) (done w.text) = subst (λ k. Follows k (contents w.cause.reads) (done w.text)) same w.cause.due in
     of_number e number w.text (contents w.cause.reads) (linked (description_of (firmware number)) (generated.sources number)) refl due w.written
-
-same_command : (e : CallRecord) (a b : Command) → form_of e.words ≡ Some a → form_of e.words ≡ Some b → a ≡ b
-same_command e a b p q = let same : Some a ≡ Some b = sym p ∙ q in cc
 
 pub run_written : (e : CallRecord) (s : Status) → Answers e s → IsRunWritten e s
 run_written e s a = λ c form is.

@@ -5,15 +5,15 @@
 #![tactic(auto)]
 
 mod answers;
-mod beside;
 mod choices;
 mod commands;
 mod demo;
 mod dialogue;
-mod dialogue_laws;
+mod images_alike;
 mod limits;
 mod machine;
 mod members;
+mod next_turn;
 mod reports;
 mod rights;
 mod samples;
@@ -26,14 +26,13 @@ pub use answers::{
     answers_no_fault, completes, constant_counts_rise_not, demo_completes, misuse_is_usage,
     told_files_decide,
 };
-pub use beside::{stored_images_run_alike, upgraded_images_run_alike};
 pub use choices::{choices_of_descriptions, services_by_name};
 pub use commands::{
     commands_are_licensed, commands_are_safe, runs_are_lawful, runs_are_told, written_runs_are_safe,
 };
 pub use demo::numbers_of_demo;
 pub use dialogue::{image_then_run, upgrade_then_run};
-pub use dialogue_laws::a_turn_follows;
+pub use images_alike::{stored_images_run_alike, upgraded_images_run_alike};
 pub use limits::{
     limits_of_files, limits_of_lists, limits_of_numbers, limits_of_ram, limits_of_versions,
 };
@@ -45,6 +44,7 @@ pub use members::{
     members_of_compartments, members_of_firmware, members_of_libraries, members_of_objects,
     order_of_lists,
 };
+pub use next_turn::a_turn_follows;
 pub use reports::{labels_fit_rows, upgrade_reports_alike};
 pub use rights::{rights_by_letters, rights_of_kinds, words_of_roots};
 pub use samples::samples_are_told;

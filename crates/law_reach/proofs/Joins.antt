@@ -3,7 +3,7 @@ use Rattle.std.proofs.Common.{◌≡◌, ℕ, List, [], ◌∷◌, ◌++◌, ref
 use Rattle.ct_entry.specs.declared.rows.Owner.{Owner}
 use Rattle.ct_entry.specs.declared.rows.Owner.TheVariants.{Trusted, Compartment, Library, Thread}
 use Rattle.ct_entry.specs.Listed.{Listed}
-use Rattle.def_reach.specs.Sharing.{Edge, IsEdgeList, Joined, Imports, IsLibrary, Reaches}
+use Rattle.def_reach.specs.Sharing.{Brings, Edge, IsEdgeList, Joined, Imports, IsLibrary, Reaches}
 use Rattle.def_reach.specs.Laws.{IsReflexive, IsSymmetric, IsTransitive, ReachesComponents}
 
 pub edge_back : (e : Listed) (a b : ℕ) → Edge e a b → Edge e b a
@@ -40,6 +40,11 @@ no_imports e a [] c h = h
 no_imports e a (x ∷ xs) c h =
     let last : x ≡ Compartment c = no_imports e x xs c h.1 in
     let lib : IsLibrary (Compartment c) = subst IsLibrary last h.0.is_library in absurd lib
+
+-- imports go on from where they led
+pub imports_on : (e : Listed) (a : Owner) (xs : List Owner) (o p : Owner) → Imports e a xs o → Brings e o p → Imports e a (xs ++ p ∷ []) p
+imports_on e a [] o p h brings = (subst (λ x. Brings e x p) (sym h) brings, refl)
+imports_on e a (x ∷ xs) o p h brings = (h.0, imports_on e x xs o p h.1 brings)
 
 pub same_compartment : (a b : ℕ) → Compartment a ≡ Compartment b → a ≡ b
 same_compartment a b h = cc

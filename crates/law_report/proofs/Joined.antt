@@ -5,10 +5,11 @@ use Rattle.std.proofs.lemmas.Bool.{cases_Bool, both_ways}
 use Rattle.ct_entry.specs.declared.rows.Entry.{Entry}
 use Rattle.ct_entry.specs.declared.rows.Owner.TheVariants.{Compartment}
 use Rattle.ct_entry.specs.Listed.{Listed}
-use Rattle.def_reach.specs.Route.{Neighbours, Step}
+use Rattle.def_reach.specs.Route.{Neighbours}
 use Rattle.ct_graph.specs.Links.{link_of, links_of, own, goes, calls as link_calls, holds as link_holds, shares as link_shares}
 use Rattle.ct_graph.proofs.Owners.{any_own}
 use Rattle.ct_graph.proofs.Steps.{step_found, step_made}
+use Rattle.ct_graph.proofs.Graphs.{neighbours_of}
 use Rattle.def_report.specs.Edges.{is_of, carries, calls, holds, share, are_joined}
 
 any_same : {A : Type 0} (p q : A → Bool) (xs : List A) → ((x : A) → p x ≡ q x) → list_any p xs ≡ list_any q xs
@@ -36,10 +37,6 @@ joined_goes e a b =
     ap (λ t. not (nat_eq a b) && (t || (calls e b a || share e a b))) (calls_same e a b)
     ∙ ap (λ t. not (nat_eq a b) && (here || (t || share e a b))) (calls_same e b a)
     ∙ ap (λ t. not (nat_eq a b) && (here || (there || t))) (share_same e a b)
-
-neighbours_of : (e : Listed) (a b : ℕ) → Step e (Compartment a) (Compartment b) → Neighbours e (Compartment a) (Compartment b)
-neighbours_of e a b (inl brings) = absurd brings.is_library
-neighbours_of e a b (inr n) = n
 
 -- where the report's test of two compartments is true, an edge of the sharing graph joins them
 pub joined_found : (e : Listed) (a b : ℕ) → are_joined e a b ≡ true → Neighbours e (Compartment a) (Compartment b)

@@ -1,5 +1,5 @@
 -- An event counts as one of its kind, and so does each of a list.
-use Rattle.std.proofs.Common.{◌≡◌, ℕ, ◌+◌, ◌&&◌, not, nat_le, List, map, [], ◌∷◌, Option, Some, None, Result, Ok, Err, refl, ap, ◌∙◌}
+use Rattle.std.proofs.Common.{◌≡◌, ℕ, ◌+◌, ◌&&◌, not, nat_le, List, map, [], ◌∷◌, Option, Some, None, Result, Ok, Err, refl, ap, ◌∙◌, ◌++◌, length, suc, arith}
 use Rattle.ct_entry.specs.declared.acts.Act.{Act}
 use Rattle.ct_entry.specs.declared.acts.Act.TheVariants.{Call, Load, Store, Allocate, Free, Trap}
 use Rattle.ct_entry.specs.declared.acts.Deed.{Deed}
@@ -18,7 +18,7 @@ use Rattle.def_machine.specs.Platform.{Platform}
 use Rattle.def_step.specs.Events.{happens, stepped, continued, with_deed, with_act, scheduled, picked_as, picked_from, preempted, preempted_from, one_more_step, interrupted, run}
 use Rattle.law_lists.proofs.Tests.{chosen}
 use Rattle.law_routines.proofs.Stepping.{Steps, IfDone, carried, executed_left}
-use Rattle.def_events.specs.Kinds.{kinds, one_more, all_more}
+use Rattle.def_events.specs.Kinds.{Kinds, kinds, one_more, all_more}
 
 -- ---- one instruction counts nothing
 
@@ -127,3 +127,12 @@ pub run_kinds : (b : Platform) (s : State) (es : List Event) → kinds (run b s 
 unfolding run
 run_kinds b s [] = refl
 run_kinds b s (e ∷ es) = run_kinds b (happens b s e).0 es ∙ ap (λ k. all_more es k) (event_kinds b s e)
+
+-- bytes count as inputs alone
+pub inputs_more : {G : Type 0} (input : G → Event) → ((g : G) (k : Kinds) → one_more (input g) k ≡ record k { inputs = k.inputs + 1 })
+    → (gs : List G) (es : List Event) (k : Kinds) → all_more (map input gs ++ es) k ≡ all_more es (record k { inputs = k.inputs + length gs })
+inputs_more input one [] es k = ap (λ n. all_more es (record k { inputs = n })) (let same : k.inputs ≡ k.inputs + 0 = omega arith in same)
+inputs_more input one (g ∷ gs) es k =
+    ap (λ next. all_more (map input gs ++ es) next) (one g k)
+    ∙ inputs_more input one gs es (record k { inputs = k.inputs + 1 })
+    ∙ ap (λ n. all_more es (record k { inputs = n })) (let same : k.inputs + 1 + length gs ≡ k.inputs + suc (length gs) = omega arith in same)

@@ -9,7 +9,7 @@ use Rattle.def_words.specs.Capability.{IsSettled, integer, untagged, word_sealed
 use Rattle.def_memory.specs.declared.Granule.{Granule}
 use Rattle.def_memory.specs.Granules.{plain, nothing, granule_at}
 use Rattle.def_memory.specs.Ranges.{zeroed_from}
-use Rattle.law_granules.proofs.Lists.{zeroed_at}
+use Rattle.law_granules.proofs.Lists.{zeroed_at, plain_settled}
 use Rattle.def_instr.specs.declared.Instr.{Instr}
 use Rattle.def_sched.specs.declared.Status.{Status}
 use Rattle.def_sched.specs.Picks.{pick}
@@ -49,7 +49,7 @@ use Rattle.law_words.proofs.Away.{address_settles, opens_settles, derives_settle
 use Rattle.law_lists.proofs.Maps.{at_map}
 use Rattle.law_moves.proofs.Slices.{granule_at_slice, register_at_slice, thread_sliced}
 use Rattle.def_confined.specs.Settled.{FrameSettled, ThreadSettled, Settled}
-use Rattle.law_routines.proofs.Values.{plain_settled, filtered_settled, result_settled, IfFlows, flow_settled, IfAccesses, accessed_settled}
+use Rattle.law_routines.proofs.Values.{filtered_settled, result_settled, IfFlows, flow_settled, IfAccesses, accessed_settled}
 
 -- ---- changes of a state
 

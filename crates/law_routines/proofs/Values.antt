@@ -22,6 +22,7 @@ use Rattle.def_machine.specs.Image.{Image}
 use Rattle.def_machine.specs.State.{State}
 use Rattle.def_machine.specs.Memory.{is_marked_in, filtered, filtered_in}
 use Rattle.law_routines.proofs.Accesses.{by_access}
+use Rattle.law_granules.proofs.Lists.{plain_settled}
 use Rattle.def_step.specs.declared.Access.{Access}
 use Rattle.def_step.specs.Checks.{first_failed}
 use Rattle.def_step.specs.Devices.{bank_value}
@@ -29,9 +30,6 @@ use Rattle.def_step.specs.Jumps.{Flowed, jumped_to, passed_over, branched, regis
 use Rattle.def_step.specs.Accesses.{MemoryAndDevices, Accessed, ram_value, ram_stored, device_value, widened, accessed, unless, access_result, access_of, access_checks, access_address}
 
 -- ---- single values
-
-pub plain_settled : (n : ℕ) → IsSettled (plain n)
-plain_settled n e = refl
 
 filtered_in_settled : (ram : ℕ) (gs : List Granule) (c : Cap) → IsSettled c → IsSettled (filtered_in ram gs c)
 filtered_in_settled ram gs c h = chosen IsSettled (c.tag && is_marked_in ram gs (cap_base c)) (untagged c) c (λ is e. refl) (λ not. h)

@@ -1,7 +1,6 @@
-//! What events count: each counts as one of its kind, and none makes devices more or fewer. Functions with
-//! empty bodies whose contracts are the laws.
+//! What events count: each counts as one of its kind.
 
-ghost use Rattle.std.specs.Prelude.{◌≡◌, List, length};
+ghost use Rattle.std.specs.Prelude.{◌≡◌, List};
 ghost use Rattle.def_machine.specs.State.{State};
 ghost use Rattle.def_step.specs.declared.Event.{Event};
 ghost use Rattle.def_machine.specs.Platform.{Platform};
@@ -15,12 +14,4 @@ pub fn events_are_counted()
         → kinds (happens b s e).0.counts ≡ one_more e (kinds s.counts) }
     ensures all { (b : Platform) (s : State) (es : List Event)
         → kinds (run b s es).counts ≡ all_more es (kinds s.counts) }
-{}
-
-/// There are as many devices after an event as before, and after the events of a list.
-pub fn devices_stay_as_many()
-    ensures one { (b : Platform) (s : State) (e : Event)
-        → length (happens b s e).0.devices ≡ length s.devices }
-    ensures all { (b : Platform) (s : State) (es : List Event)
-        → length (run b s es).devices ≡ length s.devices }
 {}

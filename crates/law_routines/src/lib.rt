@@ -1,10 +1,9 @@
-//! Laws of native routines as they are written: that the place of an allocation is the least lawful one, what each of
-//! them leaves and counts, what is settled after it, and what the heap, the sweep and the switch come to in small
+//! Laws of native routines as they are written: that the place of an allocation is the least lawful one, what events
+//! count, what is settled after each of them, and what the heap, the sweep and the switch come to in small
 //! cases, computed from the definitions.
 #![tactic(auto)]
 
 mod counts;
-mod rows;
 mod settled;
 
 ghost use Rattle.std.specs.Prelude.{◌≡◌, ◌<◌, ℕ, List, [], ◌∷◌, Option, Some, None, true, false};
@@ -18,9 +17,8 @@ ghost use Rattle.def_step.specs.Routines.{code};
 ghost use Rattle.def_step.specs.Switch.{new_top, room_of};
 ghost use Rattle.law_routines.specs.Samples.{board_heap, small_heap, sliced, before, holding, object, freed_object, painted_object};
 
-pub use counts::{devices_stay_as_many, events_are_counted};
-pub use rows::rows_few;
-pub use settled::{events_settle, runs_settle};
+pub use counts::events_are_counted;
+pub use settled::events_settle;
 
 /// The place that an allocation takes is the least lawful one, and where it takes none there is none.
 pub fn places_found()

@@ -8,15 +8,11 @@ ghost use Rattle.def_step.specs.Events.{happens, run};
 ghost use Rattle.def_confined.specs.Facts.{MadeSettled};
 ghost use Rattle.def_confined.specs.Settled.{Settled};
 
-/// What is untagged in RAM, in registers, in program counters and in frames is settled after an event, where it was
-/// before and where what boot makes for the image's entries is.
+/// What is untagged in RAM, in registers, in program counters and in frames is settled after an event, and after the
+/// events of a list, where it was before and where what boot makes for the image's entries is.
 pub fn events_settle()
-    ensures { (b : Platform) (s : State) (e : Event)
+    ensures one { (b : Platform) (s : State) (e : Event)
         → MadeSettled b.image → Settled s → Settled (happens b s e).0 }
-{}
-
-/// So after any list of events.
-pub fn runs_settle()
-    ensures { (b : Platform) (s : State) (es : List Event)
+    ensures all { (b : Platform) (s : State) (es : List Event)
         → MadeSettled b.image → Settled s → Settled (run b s es) }
 {}

@@ -39,5 +39,6 @@ pub fn scripts_fit()
     ensures few { (devices : List DeviceRow) (text : List ℕ) (script : List Due)
         → ReadsAsScript devices text script → length script ≤ length text }
     ensures named { (devices : List DeviceRow) (text : List ℕ) (script : List Due)
-        → ReadsAsScript devices text script → All (λ (d : Due). d.given.device < length devices) script }
+        → ReadsAsScript devices text script
+        → All (λ (d : Due). d.given.device < length devices) script }
 {}

@@ -1,6 +1,6 @@
 -- What is hidden is zero at boot: the threads' areas and the heap.
-use Rattle.std.proofs.Common.{ℕ, ◌≡◌, ◌+◌, ◌-◌, ◌*◌, ◌≤◌, ◌<◌, ◌==◌, ◌&&◌, ◌||◌, ◌⊎◌, Bool, true, false, nat_le, nat_lt, inl, inr, [], Option, Some, None, refl, ap, ◌∙◌, arith, if◌then◌else◌}
-use Rattle.std.proofs.lemmas.Bool.{leb-true, ltb-true, and_parts}
+use Rattle.std.proofs.Common.{ℕ, ◌≡◌, ◌+◌, ◌-◌, ◌*◌, ◌≤◌, ◌<◌, ◌==◌, ◌&&◌, ◌||◌, ◌⊎◌, Bool, true, nat_le, nat_lt, inl, inr, [], Option, Some, None, refl, ap, ◌∙◌, arith, if◌then◌else◌}
+use Rattle.std.proofs.lemmas.Bool.{leb-true, ltb-true, and_parts, or_cases}
 use Rattle.law_lists.proofs.Tests.{lt_tells, eq_tells}
 use Rattle.def_profile.specs.declared.layout.TheConstants.{TRUSTED_HEAD}
 use Rattle.def_memory.specs.declared.Granule.{Granule}
@@ -23,14 +23,10 @@ use Rattle.law_started.proofs.Shutting.{Ends, ends_in, first_region}
 abbrev HiddenAt : PartsRow → ℕ → Type 0
 HiddenAt p x = ((p.trusted + TRUSTED_HEAD ≤ x) × (x < Ends p)) ⊎ (p.heap ≤ x)
 
-or_tells : (a b : Bool) → (a || b) ≡ true → (a ≡ true) ⊎ (b ≡ true)
-or_tells true b h = inl refl
-or_tells false b h = inr h
-
 module _ (p : PartsRow) (s : Sound p) where
   hidden_at : (k : ℕ) → is_hidden (image_of p) [] k ≡ true → HiddenAt p (address_of (image_of p) k)
   unfolding image_of
-  hidden_at k h = elim (or_tells (nat_le (p.trusted + TRUSTED_HEAD) (p.ram + 8 * k) && nat_lt (p.ram + 8 * k) (Ends p)) (nat_le p.heap (p.ram + 8 * k) && nat_lt (p.ram + 8 * k) (p.ram + p.size) && true) h) [
+  hidden_at k h = elim (or_cases (nat_le (p.trusted + TRUSTED_HEAD) (p.ram + 8 * k) && nat_lt (p.ram + 8 * k) (Ends p)) (nat_le p.heap (p.ram + 8 * k) && nat_lt (p.ram + 8 * k) (p.ram + p.size) && true) h) [
     | inl area ↦ (let ends = and_parts (nat_le (p.trusted + TRUSTED_HEAD) (p.ram + 8 * k)) (nat_lt (p.ram + 8 * k) (Ends p)) area in inl (leb-true (p.trusted + TRUSTED_HEAD) (p.ram + 8 * k) ends.0, ltb-true (p.ram + 8 * k) (Ends p) ends.1))
     | inr heap ↦
         let first = and_parts (nat_le p.heap (p.ram + 8 * k) && nat_lt (p.ram + 8 * k) (p.ram + p.size)) true heap in

@@ -1,8 +1,9 @@
 -- Which granules and which registers are tagged at boot.
-use Rattle.std.proofs.Common.{ap₂, ℕ, zero, suc, ◌≡◌, ◌+◌, ◌-◌, ◌*◌, ◌/◌, ◌%◌, ◌≤◌, ◌<◌, ◌⊎◌, ◌↔◌, inl, inr, Bool, true, false, cond, nat_lt, nat_eq, [], ◌∷◌, length, Option, Some, None, unwrap_or, slice_get, slice_index_or, refl, sym, ap, ◌∙◌, arith}
+use Rattle.std.proofs.Common.{ap₂, ℕ, zero, suc, ◌≡◌, ◌+◌, ◌-◌, ◌*◌, ◌/◌, ◌%◌, ◌≤◌, ◌<◌, ◌⊎◌, ◌↔◌, inl, inr, Bool, true, false, cond, nat_lt, nat_eq, [], ◌∷◌, length, Option, Some, None, slice_get, slice_index_or, refl, sym, ap, ◌∙◌, arith}
 use Rattle.std.proofs.lemmas.Option.{slice_get_within}
 use Rattle.std.proofs.lemmas.Bool.{ltb-true, eqb-true}
 use Rattle.law_lists.proofs.Tests.{lt_tells}
+use Rattle.law_lists.proofs.Places.{present}
 use Rattle.ct_entry.specs.declared.rows.Gate.{Gate}
 use Rattle.ct_entry.specs.declared.rows.Kind.TheVariants as kind
 use Rattle.ct_entry.specs.declared.rows.Owner.TheVariants.{Trusted, Compartment, Library, Thread}
@@ -17,7 +18,7 @@ use Rattle.def_machine.specs.Image.{address_of, booted, code_entry, made_cap, ro
 use Rattle.def_machine.specs.State.{granule, thread, register}
 use Rattle.def_machine.specs.State as st
 use Rattle.def_image.specs.Parts.{CodeRow, CompartmentRow, ThreadRow, PartsRow}
-use Rattle.def_image.specs.Members.{compartment, library, no_compartment, no_code, code_number, gate_address, globals_number, library_number, text_base}
+use Rattle.def_image.specs.Members.{compartment, library, code_number, gate_address, globals_number, library_number, text_base}
 use Rattle.def_image.specs.Regions.{Holder, CodeOf, TableOf, GlobalsOf, SharedOf, SealedOf, StackOf, TrustedPart, RegionRow}
 use Rattle.def_image.specs.Sound.{Sound}
 use Rattle.def_boot.specs.Contents.{boot_cap, code_content, content, content_at, gate_word, granules_in, region_at, table_content, word_from_bytes}
@@ -27,7 +28,6 @@ use Rattle.def_boot.specs.Entries.{export_row}
 use Rattle.def_boot.specs.Gates.{entries_of, gate}
 use Rattle.def_boot.specs.Places.{IsSlot, IsTableHead, HoldsTag}
 use Rattle.def_boot.specs.Rows.{HasCompartment, HasRow}
-use Rattle.law_boot.proofs.Blocks.{present}
 use Rattle.law_boot.proofs.Standing.{compartment_of}
 use Rattle.def_boot.specs.Held.{IsOf}
 use Rattle.law_boot.proofs.Lists.{held}
@@ -44,6 +44,7 @@ use Rattle.law_started.proofs.Granules.{same_granule, past_none}
 use Rattle.law_started.proofs.Threads.{of_thread}
 use Rattle.law_started.proofs.Entries.{granule_holds}
 use Rattle.law_started.proofs.Starting.{thread_starts}
+use Rattle.law_image.proofs.Sounds.{compartment_is, library_is}
 
 -- ---- what a region holds
 
@@ -76,18 +77,12 @@ trusted_there x base low tagged =
     let none : x - base ≡ 0 = eqb-true (x - base) 0 (first_there (nat_eq (x - base) 0) return_sentry (plain 0) tagged refl) in
     omega (arith, low, none)
 
-own_code : (p : PartsRow) (b : ℕ) (c : CompartmentRow) → slice_get p.compartments b ≡ Some c → compartment p b ≡ c
-own_code p b c is = ap (λ o. unwrap_or o no_compartment) is
-
-own_library : (p : PartsRow) (l : ℕ) (c : CodeRow) → slice_get p.libraries l ≡ Some c → library p l ≡ c
-own_library p l c is = ap (λ o. unwrap_or o no_code) is
-
 holder_tags : (p : PartsRow) (r : RegionRow) (h : Holder) (x : ℕ) → IsOf p r h → r.base ≤ x → (x - r.base) % 8 ≡ 0 → (content p h (x - r.base)).tag ≡ true → HoldsTag p x
 holder_tags p r (CodeOf (Compartment b)) x is low unit tagged =
-    let same : compartment p b ≡ is.0 = own_code p b is.0 is.1 in
+    let same : compartment p b ≡ is.0 = compartment_is p b is.0 is.1 in
     inl (b, is.0, is.1, inl (slot_there p (code_number p b + 2) is.0.code x r.base is.2.base_is low unit (ap (λ (c : CompartmentRow). (code_content p (code_number p b + 2) c.code (x - r.base)).tag) (sym same) ∙ tagged)))
 holder_tags p r (CodeOf (Library l)) x is low unit tagged =
-    let same : library p l ≡ is.0 = own_library p l is.0 is.1 in
+    let same : library p l ≡ is.0 = library_is p l is.0 is.1 in
     inr (inl (l, is.0, is.1, slot_there p (library_number p l + 1) is.0 x r.base is.2.base_is low unit (ap (λ (c : CodeRow). (code_content p (library_number p l + 1) c (x - r.base)).tag) (sym same) ∙ tagged)))
 holder_tags p r (CodeOf Trusted) x is low unit tagged = no_way tagged
 holder_tags p r (CodeOf (Thread t)) x is low unit tagged = no_way tagged
@@ -204,7 +199,7 @@ module _ (p : PartsRow) (s : Sound p) where
     unfolding image_of entries_of
     code_is =
         let enters = (s.thread t x there).enters in
-        let own : compartment p x.compartment ≡ enters.0 = own_code p x.compartment enters.0 enters.2 in
+        let own : compartment p x.compartment ≡ enters.0 = compartment_is p x.compartment enters.0 enters.2 in
         let base : text_base (compartment p x.compartment).code ≡ text_base enters.0.code = ap (λ (c : CompartmentRow). text_base c.code) own in
         let offset : offset_of (entered p x) ≡ enters.1.row.offset = ap offset_of (ap (λ (c : CompartmentRow). slice_get c.code.exports x.export) own ∙ enters.3) in
         let code = ap (λ (g : Gate). g.code) row_has.gate_is in

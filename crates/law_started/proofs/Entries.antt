@@ -5,7 +5,7 @@ use Rattle.def_words.specs.declared.Cap.{Cap}
 use Rattle.def_memory.specs.declared.Granule.{Granule}
 use Rattle.def_reach.specs.Roots.{Root, root_of, is_root}
 use Rattle.def_machine.specs.Image.{made_cap, address_of}
-use Rattle.def_machine.specs.State.{granule, thread, register}
+use Rattle.def_machine.specs.State.{granule, register}
 use Rattle.def_machine.specs.State as st
 use Rattle.def_confined.specs.Facts.{HasCapability}
 use Rattle.def_image.specs.Parts.{PartsRow}

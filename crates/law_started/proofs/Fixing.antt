@@ -2,6 +2,7 @@
 use Rattle.std.proofs.Common.{List, ℕ, ◌≡◌, ◌+◌, ◌-◌, ◌*◌, ◌/◌, ◌%◌, ◌<◌, inl, inr, Bool, true, false, cond, nat_eq, nat_lt, length, Option, Some, None, unwrap_or, slice_get, refl, sym, ap, ◌∙◌, subst, arith}
 use Rattle.std.proofs.lemmas.Bool.{ltb-true}
 use Rattle.law_lists.proofs.Tests.{lt_tells}
+use Rattle.law_lists.proofs.Places.{present}
 use Rattle.ct_entry.specs.declared.rows.Entry.{Entry}
 use Rattle.ct_entry.specs.declared.rows.Owner.{Owner}
 use Rattle.ct_entry.specs.declared.rows.Owner.TheVariants.{Trusted, Compartment, Library, Thread}
@@ -29,7 +30,6 @@ use Rattle.def_boot.specs.Contents.{boot_cap, code_content, content, content_at,
 use Rattle.def_boot.specs.Boot.{image_of}
 use Rattle.def_boot.specs.Fixed.{HolderDomain, RegionDomain, FixedDomain, FixedPlaced}
 use Rattle.law_reach.proofs.Joins.{reaches_own, joined_is}
-use Rattle.law_boot.proofs.Blocks.{present}
 use Rattle.def_boot.specs.Held.{IsOf}
 use Rattle.law_boot.proofs.Lists.{held}
 use Rattle.law_boot.proofs.Found.{back}

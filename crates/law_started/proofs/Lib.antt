@@ -6,8 +6,8 @@ pub mod Shutting
 pub mod Settling
 pub mod Blanking
 pub mod Tokening
-mod Grants
-mod Starting
+pub mod Grants
+pub mod Starting
 mod Deriving
 mod Entries
 mod BootPlacesTags

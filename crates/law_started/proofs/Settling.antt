@@ -17,8 +17,8 @@ use Rattle.def_boot.specs.Contents.{word_from_bytes, gate_word, code_content, ow
 use Rattle.def_boot.specs.Boot.{first_thread, first_threads, entry_address, boot_state}
 use Rattle.law_words.proofs.Away.{address_settles}
 use Rattle.law_boot.proofs.Settling.{made_settled, sentry_settled}
-use Rattle.law_routines.proofs.Values.{plain_settled}
 use Rattle.law_routines.proofs.Events.{nobody_settled, sixteen}
+use Rattle.law_granules.proofs.Lists.{plain_settled}
 
 -- ---- what stands in RAM
 

@@ -24,10 +24,11 @@ use Rattle.def_boot.specs.Rows.{EntryIs, is_nothing, is_trusted, is_code, is_glo
 use Rattle.law_boot.proofs.Listing.{entry_of}
 use Rattle.law_boot.proofs.Regions.{Among, code_there, globals_there, library_there, sealed_there, shared_there, stack_there, table_there}
 use Rattle.law_boot.proofs.Lying.{trusted_there}
-use Rattle.law_boot.proofs.Making.{length_above, device_base_is}
+use Rattle.law_boot.proofs.Making.{device_base_is}
 use Rattle.law_boot.proofs.Sets.{no_way}
 use Rattle.law_boot.proofs.Clauses.{told_at, away_of}
 use Rattle.law_started.proofs.Whole.{areas_are, areas_fit}
+use Rattle.law_layout.proofs.Placing.{size_fits}
 
 -- ---- apart from the areas
 
@@ -51,7 +52,7 @@ module _ (p : PartsRow) (s : Sound p) where
   first_region = refl
 
   pub ends_in : Ends p ≤ p.trusted + regions.trusted_length p
-  ends_in = let long = length_above (trusted_size p.threads) in let same = areas_are p.threads in omega (arith, long, same)
+  ends_in = let long = size_fits (trusted_size p.threads) in let same = areas_are p.threads in omega (arith, long, same)
 
   not_both : (h : Holder) (place base size x : ℕ) → (i : ℕ) → IsRegion p i (region h place base size) → is_trusted_holder h ≡ false → base ≤ x → x < base + size → p.trusted ≤ x → x < Ends p → ⊥
   not_both h place base size x i is other low high from to =
@@ -101,7 +102,7 @@ module _ (p : PartsRow) (s : Sound p) where
       let same : compartment p r.first ≡ names.0 = ap (λ z. unwrap_or z no_compartment) names.2 in
       let from = ap (λ (c : CompartmentRow). c.table) same in
       let few = slice_get_within names.0.code.exports r.second names.1 names.3 in
-      let long = length_above (table_size names.0.code) in
+      let long = size_fits (table_size names.0.code) in
       in_region _ (TableOf r.first) _ _ (table_there p r.first names.0 names.2) refl (omega (arith, from)) (omega (arith, from, few, long))
   slot_clear o at r slot.Library h base size a other low high names =
       let same : library p r.first ≡ names.0 = ap (λ z. unwrap_or z no_code) names.2 in
@@ -130,7 +131,7 @@ module _ (p : PartsRow) (s : Sound p) where
       (slot_clear (Compartment b) _ x.row x.row.kind (CodeOf (Compartment b)) _ _ (code_there p b c h.there) refl (omega arith) (omega (arith, few, size)) (fits.slot j x is).fits.names)
   in_case n (is_export b c j x h is number) =
       let few = slice_get_within c.code.exports j x is in
-      let long = length_above (table_size c.code) in
+      let long = size_fits (table_size c.code) in
       at n _ _ number (h.export j x is).root_is (in_region _ (TableOf b) _ _ (table_there p b c h.there) refl (omega arith) (omega (arith, few, long)))
   in_case n (is_library l c h number) = at n _ _ number h.code.root_is (in_region _ (CodeOf (Library l)) _ _ (library_there p l c h.there) refl (omega arith) (omega arith))
   in_case n (is_library_slot l c j x h is number) =

@@ -1,5 +1,5 @@
 -- The places of a booted state: what each holds.
-use Rattle.std.proofs.Common.{ℕ, zero, suc, ◌≡◌, ◌+◌, ◌^◌, ◌<◌, ◌≤◌, true, List, [], ◌∷◌, Some, unwrap_or, slice_get, slice_index_or, refl, sym, ap, ◌∙◌, subst, arith}
+use Rattle.std.proofs.Common.{ℕ, zero, suc, ◌≡◌, ◌+◌, ◌^◌, ◌<◌, ◌≤◌, true, List, [], ◌∷◌, Some, unwrap_or, slice_get, slice_index_or, refl, sym, ap, ◌∙◌, subst, arith, length}
 use Rattle.def_words.specs.declared.Cap.{Cap}
 use Rattle.def_words.specs.declared.Bounds.{Bounds}
 use Rattle.def_words.specs.declared.Shadow.{Shadow}
@@ -7,6 +7,7 @@ use Rattle.def_memory.specs.Granules.{plain}
 use Rattle.def_machine.specs.Image.{made_cap, booted}
 use Rattle.def_machine.specs.State.{nobody, thread, register}
 use Rattle.def_machine.specs.Objects.{Each}
+use Rattle.def_machine.specs.Rows.{RowsFit}
 use Rattle.def_image.specs.Parts.{CompartmentRow, ThreadRow, PartsRow}
 use Rattle.def_image.specs.Members.{compartment, no_compartment, text_base, code_number, globals_number, stack_number}
 use Rattle.def_image.specs.Sound.{Sound}
@@ -28,8 +29,17 @@ use Rattle.law_started.proofs.Grants.{sentry_is, listed_by, made_grant, made_lis
 pub frames_bare : (p : PartsRow) (t : ℕ) → Each IsBareFrame (thread (boot_state p) t).frames
 frames_bare p t = of_thread p (λ th. Each IsBareFrame th.frames) t (λ x there. (record { c1 = refl; c2 = refl; c3 = refl; c8 = refl; c9 = refl }, tt)) tt
 
+-- a thread for each row, and no key and no token
+pub threads_count : (p : PartsRow) (n : ℕ) (xs : List ThreadRow) → length (first_threads p n xs) ≡ length xs
+threads_count p n [] = refl
+threads_count p n (x ∷ xs) = ap (λ k. suc k) (threads_count p (n + 1) xs)
+
+pub no_rows : (p : PartsRow) → RowsFit (boot_state p).objects (boot_state p).tokens
+unfolding boot_state
+no_rows p = record { differ = tt; live = tt }
+
 -- the thread of a row
-rows_start : (p : PartsRow) (from : ℕ) (xs : List ThreadRow) (t : ℕ) (x : ThreadRow) → slice_get xs t ≡ Some x → slice_index_or (first_threads p from xs) t nobody ≡ first_thread p (from + t) x
+pub rows_start : (p : PartsRow) (from : ℕ) (xs : List ThreadRow) (t : ℕ) (x : ThreadRow) → slice_get xs t ≡ Some x → slice_index_or (first_threads p from xs) t nobody ≡ first_thread p (from + t) x
 rows_start p from [] t x is = cc
 rows_start p from (y ∷ ys) zero x is =
     let row : y ≡ x = cc in

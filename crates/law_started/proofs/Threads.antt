@@ -11,7 +11,7 @@ use Rattle.def_reach.specs.Roots.{Root, TrustedPart, Listing, root_of, gate_for,
 use Rattle.def_reach.specs.Sharing.{Reaches}
 use Rattle.def_machine.specs.Image.{root, made_cap, stack_entry}
 use Rattle.def_machine.specs.State as st
-use Rattle.def_machine.specs.State.{Frame, nobody, thread, register, interrupts_on}
+use Rattle.def_machine.specs.State.{Frame, nobody, thread, interrupts_on}
 use Rattle.def_machine.specs.Objects.{Each}
 use Rattle.def_confined.specs.Capabilities.{Kept}
 use Rattle.def_confined.specs.Places.{InFrames, OwnStack}

@@ -21,9 +21,9 @@ use Rattle.def_boot.specs.Boot.{image_of, boot_state, first_threads, first_frame
 use Rattle.law_moves.proofs.Puts.{plain_kept}
 use Rattle.law_boot.proofs.Sets.{no_way}
 use Rattle.law_boot.proofs.Lying.{trusted_there}
-use Rattle.law_boot.proofs.Making.{length_above}
 use Rattle.law_started.proofs.Threads.{of_thread, pcc_in, pcc_runs, register_in, register_kept, frame_holds, posture_fits, saved_kept}
 use Rattle.law_started.proofs.Granules.{in_region, same_granule, unmarked, kept_there, granules_end}
+use Rattle.law_layout.proofs.Placing.{size_fits}
 
 -- ---- each thread has one frame and sixteen registers
 
@@ -79,7 +79,7 @@ module _ (p : PartsRow) (s : Sound p) where
 
   pub areas_fit : p.trusted + TRUSTED_HEAD + areas_size (map (λ (x : ThreadRow). x.frames) p.threads) ≤ p.ram + p.size
   areas_fit =
-      let long = length_above (trusted_size p.threads) in
+      let long = size_fits (trusted_size p.threads) in
       let after = s.heap.after in
       let inside = s.heap.inside in
       let same = areas_are p.threads in

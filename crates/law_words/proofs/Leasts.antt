@@ -1,7 +1,7 @@
 -- The least exponent: that the search finds it, that it is one, and what its rounding keeps.
-use Rattle.std.proofs.Common.{ℕ, zero, suc, ◌+◌, ◌-◌, ◌*◌, ◌/◌, ◌%◌, ◌^◌, ◌<◌, ◌≤◌, ◌≡◌, ◌⊎◌, refl, ap, sym, ◌∙◌, inl, inr, lit<, arith}
+use Rattle.std.proofs.Common.{ℕ, zero, suc, ◌+◌, ◌-◌, ◌*◌, ◌/◌, ◌%◌, ◌^◌, ◌<◌, ◌≤◌, ◌≡◌, ◌⊎◌, refl, ap, sym, ◌∙◌, inl, inr, lit<, subst, arith}
 use Rattle.std.proofs.lemmas.Nat.{pow_pos, pow-add, le-div, div_below, mul-le, div-add-mod', mod_below}
-use Rattle.std.proofs.Math.Nat.{div-mul-le_self, pow-le-pow_right}
+use Rattle.std.proofs.Math.Nat.{div-mul-le_self, pow-le-pow_right, mul_assoc, mul-mod_left}
 use Rattle.def_profile.specs.declared.bounds.TheConstants.{LAST_EXPONENT, WIDEST_EXPONENT, MOST_UNITS}
 use Rattle.law_lists.proofs.Tests.{le_tells}
 use Rattle.def_words.specs.LeastBounds.{floor_units, ceil_units, units, first_from, exponent_for, IsLeastExponent, alignment_of, align_mask_of}
@@ -77,6 +77,17 @@ whole e n le = let same : n - e + e ≡ n = omega (arith, le) in sym (pow-add 2 
 
 pub finer : (e f k : ℕ) → e ≤ f → k * 2 ^ f ≡ (k * 2 ^ (f - e)) * 2 ^ e
 finer e f k le = let split : 2 ^ (f - e) * 2 ^ e ≡ 2 ^ f = whole e f le in rw (← split) (omega arith)
+
+-- rounding keeps multiples of eight
+pub rounded_eights : (n e : ℕ) → n % 8 ≡ 0 → ceil_units n e * 2 ^ e % 8 ≡ 0
+rounded_eights n zero even = omega (arith, even)
+rounded_eights n (suc zero) even = omega (arith, even)
+rounded_eights n (suc (suc zero)) even = omega (arith, even)
+rounded_eights n (suc (suc (suc e))) even =
+    let sum : suc (suc (suc e)) ≡ e + 3 = omega arith in
+    let power : 2 ^ (suc (suc (suc e))) ≡ 2 ^ e * 8 = ap (λ k. 2 ^ k) sum ∙ pow-add 2 e 3 in
+    let P : ℕ → Type 0 = λ k. ceil_units n (suc (suc (suc e))) * k % 8 ≡ 0 in
+    subst P (sym power) (ap (λ k. k % 8) (sym (mul_assoc (ceil_units n (suc (suc (suc e)))) (2 ^ e) 8)) ∙ mul-mod_left (ceil_units n (suc (suc (suc e))) * 2 ^ e) 8)
 
 -- what the least exponent of a range gives
 pub record Good (base top e : ℕ) : Type 0 where

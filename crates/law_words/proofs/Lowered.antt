@@ -1,10 +1,11 @@
 -- Bounds at the addresses from their base up to the one that they were decoded at.
 use Rattle.std.proofs.Common.{ℕ, ◌+◌, ◌-◌, ◌*◌, ◌/◌, ◌%◌, ◌^◌, ◌<◌, ◌≤◌, ◌≡◌, ◌⊎◌, ◌==◌, ◌&&◌, true, refl, sym, ap, ◌∙◌, inl, inr, arith, subst}
 use Rattle.std.proofs.Common.{lit<}
+use Rattle.std.proofs.lemmas.Bool.{eq-eqb}
 use Rattle.std.proofs.lemmas.Nat.{pow_pos, mul-le, mod-mul-add, le-div}
 use Rattle.std.proofs.Math.Nat.{pow-le-pow_right, div-mul-le_self}
 use Rattle.def_profile.specs.declared.bounds.TheConstants.{LAST_EXPONENT, WIDEST_EXPONENT}
-use Rattle.law_lists.proofs.Tests.{lt_tells, eq_tells}
+use Rattle.law_lists.proofs.Tests.{lt_tells}
 use Rattle.def_words.specs.declared.Bounds.{Bounds}
 use Rattle.def_words.specs.declared.Cap.{Cap}
 use Rattle.def_words.specs.Authority.{one_if_less, corner_of, middle, base_of, top_of, bounds_of, exponent_of, base_field, top_field, cap_address, cap_base, cap_bounds, cap_high, cap_top, word_of}
@@ -14,13 +15,13 @@ use Rattle.law_words.proofs.Back.{at_most_one, exponent_kinds}
 use Rattle.law_words.proofs.Fields.{corner_sum, unit_low}
 use Rattle.law_words.proofs.Words.{address_small, bounds_is, word_whole}
 
-abbrev base_at : ℕ → ℕ → ℕ → ℕ
+abbrev pub base_at : ℕ → ℕ → ℕ → ℕ
 base_at e B a = corner_of a e B 0 (one_if_less (middle a e) B) % 2 ^ 32
 
-abbrev top_at : ℕ → ℕ → ℕ → ℕ → ℕ
+abbrev pub top_at : ℕ → ℕ → ℕ → ℕ → ℕ
 top_at e B T a = corner_of a e T (one_if_less T B) (one_if_less (middle a e) B) % 2 ^ 33
 
-abbrev Same : ℕ → ℕ → ℕ → ℕ → ℕ → Type 0
+abbrev pub Same : ℕ → ℕ → ℕ → ℕ → ℕ → Type 0
 Same e B T a x = (base_at e B x ≡ base_at e B a) × (top_at e B T x ≡ top_at e B T a)
 
 -- a block's number, as a corner takes it, is that of both addresses
@@ -101,13 +102,13 @@ usual e B T a x small a_small hb from to = elim (lt_tells (a / 2 ^ e % 512) B) [
 ]
 
 -- the widest bounds are the same at each address
-wide_base : (B a down : ℕ) → B < 512 → down ≤ 1 → corner_of a WIDEST_EXPONENT B 0 down % 2 ^ 32 ≡ B % 256 * 2 ^ 24
+pub wide_base : (B a down : ℕ) → B < 512 → down ≤ 1 → corner_of a WIDEST_EXPONENT B 0 down % 2 ^ 32 ≡ B % 256 * 2 ^ 24
 wide_base B a down hb hd = omega (arith, hb, hd)
 
-wide_top : (T a up down : ℕ) → T < 512 → up ≤ 1 → down ≤ 1 → corner_of a WIDEST_EXPONENT T up down % 2 ^ 33 ≡ T * 2 ^ 24
+pub wide_top : (T a up down : ℕ) → T < 512 → up ≤ 1 → down ≤ 1 → corner_of a WIDEST_EXPONENT T up down % 2 ^ 33 ≡ T * 2 ^ 24
 wide_top T a up down ht hu hd = omega (arith, ht, hu, hd)
 
-widest : (B T a x : ℕ) → B < 512 → T < 512 → Same WIDEST_EXPONENT B T a x
+pub widest : (B T a x : ℕ) → B < 512 → T < 512 → Same WIDEST_EXPONENT B T a x
 widest B T a x hb ht = (
   wide_base B x (one_if_less (middle x 24) B) hb (at_most_one (middle x 24) B) ∙ sym (wide_base B a (one_if_less (middle a 24) B) hb (at_most_one (middle a 24) B)),
   wide_top T x (one_if_less T B) (one_if_less (middle x 24) B) ht (at_most_one T B) (at_most_one (middle x 24) B)
@@ -125,7 +126,7 @@ lower high a x a_small from to = by_fields (exponent_of high) (base_field high) 
 
 -- ---- of a capability
 
-own_bounds : (c : Cap) → cap_bounds c ≡ bounds_of (cap_high c) (cap_address c)
+pub own_bounds : (c : Cap) → cap_bounds c ≡ bounds_of (cap_high c) (cap_address c)
 own_bounds c = bounds_is c (cap_high c) (cap_address c) (address_small c) (word_whole c)
 
 bounds_stay : (c d : Cap) (x : ℕ) → cap_base c ≤ x → x ≤ cap_address c → d.word ≡ word_of (cap_high c) x → cap_bounds d ≡ cap_bounds c
@@ -139,15 +140,13 @@ bounds_stay c d x from to is =
     ∙ ap (λ n. record { exponent = (bounds_of (cap_high c) x).exponent; base = base_of (cap_high c) (cap_address c); top = n }) same.1
     ∙ sym own
 
-equal_to_itself : (n : ℕ) → (n == n) ≡ true
-equal_to_itself n = elim (eq_tells n n) [ inl t ↦ t.0 | inr t ↦ absurd (t.1 refl) ]
-
-representable : (c d : Cap) → cap_bounds d ≡ cap_bounds c → ((cap_base d == cap_base c) && (cap_top d == cap_top c)) ≡ true
+pub representable : (c d : Cap) → cap_bounds d ≡ cap_bounds c → ((cap_base d == cap_base c) && (cap_top d == cap_top c)) ≡ true
 representable c d same =
     ap (λ (b : Bounds). (b.base == cap_base c) && (b.top == cap_top c)) same
-    ∙ ap (λ b. b && (cap_top c == cap_top c)) (equal_to_itself (cap_base c))
-    ∙ equal_to_itself (cap_top c)
+    ∙ ap (λ b. b && (cap_top c == cap_top c)) (eq-eqb (cap_base c) (cap_base c) refl)
+    ∙ eq-eqb (cap_top c) (cap_top c) refl
 
+-- a tagged, unsealed capability whose address is lowered, no further than to its base, keeps its tag, wherever its top is
 pub lowered : (c : Cap) (x : ℕ) → c.tag ≡ true → cap_seal c ≡ 0 → cap_base c ≤ x → x ≤ cap_address c → (with_address c x).tag ≡ true
 unfolding with_address
 lowered c x tagged unsealed from to =

@@ -1,6 +1,6 @@
 -- What `derive` makes of a root, and that operations leave no shadow on untagged results.
 use Rattle.std.proofs.Common.{ℕ, ◌+◌, ◌*◌, ◌/◌, ◌%◌, ◌^◌, ◌<◌, ◌≤◌, ◌≡◌, ◌==◌, Bool, true, ◌&&◌, nat_le, refl, ap, sym, ◌∙◌, inl, inr, arith, bit_and, eq-eqb}
-use Rattle.std.proofs.lemmas.Bool.{eqb-true, le-leb, and_parts}
+use Rattle.std.proofs.lemmas.Bool.{and_from, eqb-true, le-leb, and_parts}
 use Rattle.def_profile.specs.declared.bounds.TheConstants.{WIDEST_EXPONENT}
 use Rattle.def_words.specs.declared.Cap.{Cap}
 use Rattle.def_words.specs.declared.Shadow.{Shadow}
@@ -11,7 +11,7 @@ use Rattle.def_words.specs.Seals.{cap_seal, seal_type, is_unsealed}
 use Rattle.def_words.specs.Capability.{cap_of, IsSettled, with_fields, with_permission_bits, with_address, is_representable, word_at, with_exact_bounds, word_bounded, is_range_inside, end_at, masked, word_with_set, word_sealed}
 use Rattle.def_words.specs.Derive.{derive, root_cap, sealed_as}
 use Rattle.def_words.specs.Narrows.{IsMade}
-use Rattle.def_words.specs.Facts.{IsRoot, KindFits, DerivesExactly}
+use Rattle.def_words.specs.Facts.{IsRoot, KindFits, MayDerive}
 use Rattle.law_words.proofs.Fields.{base_by, top_by, base_back, top_back}
 use Rattle.law_words.proofs.Back.{gives}
 use Rattle.law_words.proofs.Words.{address_small, bounds_is, perms_is, high_is, address_is, perm_low}
@@ -46,29 +46,26 @@ root_bounds_top c high a r small is = ap (λ b. b.top) (bounds_is c high a small
 
 -- ---- when the tag stays
 
-both : (x y : Bool) → x ≡ true → y ≡ true → (x && y) ≡ true
-both x y ex ey = rw (ex, ey) refl
-
 address_keeps : (c : Cap) (a : ℕ) → c.tag ≡ true → cap_seal c ≡ 0
     → cap_base (record c { word = word_at c a }) ≡ cap_base c → cap_top (record c { word = word_at c a }) ≡ cap_top c → (with_address c a).tag ≡ true
 unfolding with_address
 address_keeps c a tagged unsealed low high =
-    both (c.tag && is_unsealed c) (is_representable c a) (both c.tag (is_unsealed c) tagged (eq-eqb (cap_seal c) 0 unsealed))
-    (both (cap_base (record c { word = word_at c a }) == cap_base c) (cap_top (record c { word = word_at c a }) == cap_top c)
+    and_from (c.tag && is_unsealed c) (is_representable c a) (and_from c.tag (is_unsealed c) tagged (eq-eqb (cap_seal c) 0 unsealed))
+    (and_from (cap_base (record c { word = word_at c a }) == cap_base c) (cap_top (record c { word = word_at c a }) == cap_top c)
     (eq-eqb (cap_base (record c { word = word_at c a })) (cap_base c) low) (eq-eqb (cap_top (record c { word = word_at c a })) (cap_top c) high))
 
 exact_keeps : (c : Cap) (n : ℕ) → c.tag ≡ true → cap_seal c ≡ 0 → cap_base c ≤ cap_address c → cap_address c + n ≤ cap_top c
     → (rounded_of (cap_address c) (end_at (cap_address c) n)).exact ≡ true → (with_exact_bounds c n).tag ≡ true
 unfolding with_exact_bounds
 exact_keeps c n tagged unsealed low high exact =
-    both (c.tag && is_unsealed c && is_range_inside c (cap_address c) (cap_address c + n)) (rounded_of (cap_address c) (end_at (cap_address c) n)).exact
-    (both (c.tag && is_unsealed c) (is_range_inside c (cap_address c) (cap_address c + n)) (both c.tag (is_unsealed c) tagged (eq-eqb (cap_seal c) 0 unsealed))
-    (both (nat_le (cap_base c) (cap_address c)) (nat_le (cap_address c + n) (cap_top c)) (le-leb (cap_base c) (cap_address c) low) (le-leb (cap_address c + n) (cap_top c) high)))
+    and_from (c.tag && is_unsealed c && is_range_inside c (cap_address c) (cap_address c + n)) (rounded_of (cap_address c) (end_at (cap_address c) n)).exact
+    (and_from (c.tag && is_unsealed c) (is_range_inside c (cap_address c) (cap_address c + n)) (and_from c.tag (is_unsealed c) tagged (eq-eqb (cap_seal c) 0 unsealed))
+    (and_from (nat_le (cap_base c) (cap_address c)) (nat_le (cap_address c + n) (cap_top c)) (le-leb (cap_base c) (cap_address c) low) (le-leb (cap_address c + n) (cap_top c) high)))
     exact
 
 masked_keeps : (c : Cap) (set : ℕ) → c.tag ≡ true → cap_seal c ≡ 0 → (masked c set).tag ≡ true
 unfolding masked
-masked_keeps c set tagged unsealed = both c.tag (is_unsealed c) tagged (eq-eqb (cap_seal c) 0 unsealed)
+masked_keeps c set tagged unsealed = and_from c.tag (is_unsealed c) tagged (eq-eqb (cap_seal c) 0 unsealed)
 
 -- ---- derive
 
@@ -213,7 +210,7 @@ sealed_made c low high set at kind from s fits = elim fits [
       ))
 ]
 
-pub derive_makes : (high base length set address kind : ℕ) (from : Shadow) → DerivesExactly high base length set address kind
+pub derive_makes : (high base length set address kind : ℕ) (from : Shadow) → MayDerive high base length set address kind
     → IsMade base (base + length) (normal_set (bit_and (unpacked (permission_bits high)) set)) address kind (derive high base length set address kind from)
     × ((derive high base length set address kind from).shadow ≡ from)
 unfolding derive

@@ -67,7 +67,7 @@ same_high_exponent : (c d : Cap) → cap_high d ≡ cap_high c → (cap_bounds d
 unfolding cap_bounds
 same_high_exponent c d e = ap (λ h. (bounds_of h 0).exponent) e
 
-bounds_word : (c d : Cap) → c.word ≡ d.word → cap_bounds c ≡ cap_bounds d
+pub bounds_word : (c d : Cap) → c.word ≡ d.word → cap_bounds c ≡ cap_bounds d
 unfolding cap_bounds
 bounds_word c d e = ap (λ w. bounds_of (w / 2 ^ 32) (w % 2 ^ 32)) e
 

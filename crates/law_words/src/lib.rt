@@ -3,13 +3,11 @@
 //! the machine.
 #![tactic(auto)]
 
-mod lowering;
 mod operations;
 mod rounding;
 mod rows;
 mod sets;
 
-pub use lowering::lowered_stays;
 pub use operations::{
     address_keeps_bounds, derivation_makes, jumps_open_and_link, loads_attenuate,
     operations_narrow, results_settle, seals_need_keys, tags_stay_away,

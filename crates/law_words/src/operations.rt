@@ -11,7 +11,7 @@ ghost use Rattle.def_words.specs.Jumped.{linked, opened};
 ghost use Rattle.def_words.specs.Loaded.{attenuated};
 ghost use Rattle.def_words.specs.Narrows.{IsLink, IsMade, IsOpened, Narrows, Unsealed};
 ghost use Rattle.def_words.specs.Permissions.{execute, has, memory_capability, normal_set, unpacked};
-ghost use Rattle.def_words.specs.Facts.{DerivesExactly, IsLoaded, IsSealing, IsUnsealing};
+ghost use Rattle.def_words.specs.Facts.{MayDerive, IsLoaded, IsSealing, IsUnsealing};
 
 /// A tagged result's authority, rights and shadow are within its first operand's, and it is in order
 /// where that is.
@@ -95,10 +95,10 @@ pub fn jumps_open_and_link()
 /// Derivation from a root makes exactly the capability that it is asked for, with the shadow given.
 pub fn derivation_makes()
     ensures made { (high base length set address kind : ℕ) (from : Shadow)
-        → DerivesExactly high base length set address kind
+        → MayDerive high base length set address kind
         → IsMade base (base + length) (normal_set (bit_and (unpacked (permission_bits high)) set))
         address kind (derive high base length set address kind from) }
     ensures shadows { (high base length set address kind : ℕ) (from : Shadow)
-        → DerivesExactly high base length set address kind
+        → MayDerive high base length set address kind
         → (derive high base length set address kind from).shadow ≡ from }
 {}

@@ -44,13 +44,15 @@ pub fn bounds_are_blocks()
         + one_if_less (middle a (exponent_of high)) (base_field high) * 2 ^
         (exponent_of high + 9))
         % 2 ^ 32
-        ≡ (a / 2 ^ (exponent_of high + 9) * 2 ^ (exponent_of high + 9) + base_field high * 2 ^ exponent_of high) % 2 ^ 32 }
+        ≡ (a / 2 ^ (exponent_of high + 9) * 2 ^ (exponent_of high + 9)
+        + base_field high * 2 ^ exponent_of high) % 2 ^ 32 }
     ensures top { (high a : ℕ)
         → (top_of high a
         + one_if_less (middle a (exponent_of high)) (base_field high) * 2 ^
         (exponent_of high + 9))
         % 2 ^ 33
-        ≡ ((a / 2 ^ (exponent_of high + 9) + one_if_less (top_field high) (base_field high)) * 2 ^ (exponent_of high + 9)
+        ≡ ((a / 2 ^ (exponent_of high + 9) + one_if_less (top_field high) (base_field high))
+        * 2 ^ (exponent_of high + 9)
         + top_field high * 2 ^ exponent_of high) % 2 ^ 33 }
     ensures base_small { (high a : ℕ) → base_of high a < 2 ^ 32 }
     ensures top_small { (high a : ℕ) → top_of high a < 2 ^ 33 }

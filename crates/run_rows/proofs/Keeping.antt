@@ -2,7 +2,7 @@
 use Rattle.std.proofs.Common.{ℕ, ◌≡◌, ◌+◌, ◌-◌, ◌*◌, ◌/◌, ◌≤◌, ◌<◌, inl, inr, ◌&&◌, true, false, nat_le, List, Option, Some, None, is_some, unwrap_or, Result, Ok, Err, MatchResult, OnErr, length, refl, sym, ap, ◌∙◌, arith, subst}
 use Rattle.std.proofs.lemmas.List.{get_or_past}
 use Rattle.law_lists.proofs.Sets.{after_set_at}
-use Rattle.law_lists.proofs.Tests.{le_tells, lt_tells, both_left}
+use Rattle.law_lists.proofs.Tests.{le_tells, lt_tells, both_left, some_is}
 use Rattle.def_words.specs.declared.Cap.{Cap}
 use Rattle.def_words.specs.Authority.{cap_base}
 use Rattle.def_memory.specs.declared.Granule.{Granule}
@@ -44,10 +44,6 @@ clean_on (Some front) rs qs gs hs tags same clean = λ k behind tagged.
 idle_clean : (front : Option ℕ) (rs : List Object) (gs : List Granule) → is_some front ≡ false → PassedClean front rs gs
 idle_clean None rs gs none = tt
 idle_clean (Some front) rs gs none = absurd (let clash : true ≡ false = none in cc)
-
-running_is : (front : Option ℕ) → is_some front ≡ true → front ≡ Some (unwrap_or front 0)
-running_is None some = absurd (let clash : false ≡ true = some in cc)
-running_is (Some front) some = refl
 
 idle_start : (front : Option ℕ) → is_some front ≡ false → unwrap_or front 0 ≡ 0
 idle_start None none = refl
@@ -258,7 +254,7 @@ after_slice s hs front high is some front_is most sliced clean =
         let long = sliced.size in
         let stay = same_marks ram s.granules hs (sliced_marks ram low high s.granules hs sliced) in
         let all : Each (λ r. Held ram hs r) (rows s) = all_held_on ram s.granules hs (rows s) stay is.held in
-        let before : PassedClean (Some low) (rows s) s.granules = subst (λ f. PassedClean f (rows s) s.granules) (running_is s.front some) is.clean in
+        let before : PassedClean (Some low) (rows s) s.granules = subst (λ f. PassedClean f (rows s) s.granules) (some_is s.front 0 some) is.clean in
         let passed : PassedClean (Some high) (rows s) hs = λ k behind tagged. elim (le_tells low (8 * k)) [
           | inl a ↦ unmarked_unpainted ram hs (rows s) (cap_base (granule_at hs k).cap) all (clean k (a.1, behind) tagged)
           | inr a ↦

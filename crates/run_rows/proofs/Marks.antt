@@ -1,6 +1,7 @@
 -- What was freed is marked until it leaves.
 use Rattle.std.proofs.Common.{ℕ, ◌≡◌, ◌+◌, ◌-◌, ◌*◌, ◌/◌, ◌%◌, ◌≤◌, ◌<◌, inl, inr, ◌&&◌, ◌||◌, Bool, true, false, not, cond, nat_eq, nat_le, nat_lt, List, [], ◌∷◌, Some, find, refl, sym, ap, ◌∙◌, arith, subst}
-use Rattle.law_lists.proofs.Tests.{bool_tells, eq_tells, le_tells, lt_tells, both_left, both_right, chosen}
+use Rattle.std.proofs.lemmas.Bool.{eqb-true, eq-eqb}
+use Rattle.law_lists.proofs.Tests.{bool_tells, le_tells, lt_tells, both_left, both_right, chosen}
 use Rattle.def_memory.specs.declared.Granule.{Granule}
 use Rattle.def_memory.specs.Granules.{granule_at}
 use Rattle.def_machine.specs.State.{Object}
@@ -58,12 +59,6 @@ unmarked_unpainted ram gs rs x h none = elim (bool_tells (is_painted_at rs x)) [
 abbrev pub MarksNew : Range → List Granule → ℕ → ℕ → Type 0
 MarksNew r hs base top = base % 8 ≡ 0 → r.base + 8 ≤ base → (x : ℕ) → base ≤ x + 8 → x < top → is_marked_in r.ram hs x ≡ true
 
-eq_is : (a b : ℕ) → nat_eq a b ≡ true → a ≡ b
-eq_is a b e = elim (eq_tells a b) [ inl t ↦ t.1 | inr t ↦ absurd (let clash : true ≡ false = sym e ∙ t.0 in cc) ]
-
-eq_same : (a : ℕ) → nat_eq a a ≡ true
-eq_same a = elim (eq_tells a a) [ inl t ↦ t.0 | inr t ↦ absurd (t.1 refl) ]
-
 -- what tests of bounds say
 record Bounds (base top : ℕ) (r : Object) : Type 0 where
   pub base_is : r.base ≡ base
@@ -74,7 +69,7 @@ bounds quota base top r e =
     let first : (r.live && nat_eq r.quota quota && nat_eq r.base base) ≡ true = both_left (r.live && nat_eq r.quota quota && nat_eq r.base base) (nat_eq (r.base + r.length) top) e in
     let second : nat_eq (r.base + r.length) top ≡ true = both_right (r.live && nat_eq r.quota quota && nat_eq r.base base) (nat_eq (r.base + r.length) top) e in
     let third : nat_eq r.base base ≡ true = both_right (r.live && nat_eq r.quota quota) (nat_eq r.base base) first in
-    record { base_is = eq_is r.base base third; top_is = eq_is (r.base + r.length) top second }
+    record { base_is = eqb-true r.base base third; top_is = eqb-true (r.base + r.length) top second }
 
 -- the first of them is freed
 first_freed : (r : Range) (gs hs : List Granule) (base top : ℕ) (q : Object) (qs : List Object) → Bounds base top q → MarksStay r.ram gs hs → MarksNew r hs base top → Distinct (q ∷ qs) → Each (λ p. StandsIn r p) (q ∷ qs)
@@ -89,7 +84,7 @@ first_freed r gs hs base top q qs b stay new distinct stands h =
       freed = λ paint. refl;
     } in
     let tail : Each (λ p. Held r.ram hs p) (quarantine q.number qs) = rw (quarantine_others q.number qs distinct.0) (all_held_on r.ram gs hs qs stay h.1) in
-    (chosen (λ p. Held r.ram hs p) (nat_eq q.number q.number) (record q { live = false }) q (λ e. here) (λ e. absurd (let clash : true ≡ false = sym (eq_same q.number) ∙ e in cc)), tail)
+    (chosen (λ p. Held r.ram hs p) (nat_eq q.number q.number) (record q { live = false }) q (λ e. here) (λ e. absurd (let clash : true ≡ false = sym (eq-eqb q.number q.number refl) ∙ e in cc)), tail)
 
 -- by any test that tells these bounds
 freed_by : (r : Range) (gs hs : List Granule) (base top : ℕ) (test : Object → Bool) (o : Object) (rs : List Object) → ((q : Object) → test q ≡ true → Bounds base top q) → MarksStay r.ram gs hs → MarksNew r hs base top → Distinct rs → Each (λ q. StandsIn r q) rs
@@ -105,7 +100,7 @@ freed_by r gs hs base top test o (q ∷ qs) tells stay new distinct stands is h 
       let found : find test qs ≡ Some o = rw t at is in
       let other : o.number ≡ q.number → ⊥ = each_found (λ p. p.number ≡ q.number → ⊥) test o qs found distinct.0 in
       let rest = freed_by r gs hs base top test o qs tells stay new distinct.1 stands.1 found h.1 in
-      (chosen (λ p. Held r.ram hs p) (nat_eq q.number o.number) (record q { live = false }) q (λ e. absurd (other (sym (eq_is q.number o.number e)))) (λ e. held_on r.ram gs hs q stay h.0), rest)
+      (chosen (λ p. Held r.ram hs p) (nat_eq q.number o.number) (record q { live = false }) q (λ e. absurd (other (sym (eqb-true q.number o.number e)))) (λ e. held_on r.ram gs hs q stay h.0), rest)
 ]
 
 pub freed_held : (r : Range) (gs hs : List Granule) (quota base top : ℕ) (o : Object) (rs : List Object) → MarksStay r.ram gs hs → MarksNew r hs base top → Distinct rs → Each (λ q. StandsIn r q) rs

@@ -1,12 +1,10 @@
 -- Gates in order by neighbours, and exports that stand together between two places.
 use Rattle.std.proofs.Common.{ℕ, zero, suc, ◌≡◌, ◌+◌, ◌-◌, ◌≤◌, ◌<◌, ◌⊎◌, inl, inr, nat_lt, true, false, List, [], ◌∷◌, length, refl, sym, ap, ◌∙◌, arith, subst}
-use Rattle.std.specs.Prelude.{replicate}
 use Rattle.std.proofs.Math.ListN.{get_or}
 use Rattle.law_lists.proofs.Tests.{lt_tells}
 use Rattle.ct_entry.specs.Listed.{Listed}
 use Rattle.ct_entry.specs.declared.rows.Entry.{Entry}
 use Rattle.ct_entry.specs.declared.rows.Gate.{Gate}
-use Rattle.def_memory.specs.Granules.{plain, nothing, cap_in}
 use Rattle.def_reach.specs.Roots.{no_gate}
 use Rattle.ct_switch.specs.Exports.{AreSorted, AreTogether, HeadLies, IsCallable, row_at, is_export_of, table_in, callee_of}
 
@@ -116,8 +114,3 @@ callable_so e ram size n index home table rows some is home_is rows_is inside ex
 }
 
 -- ---- memory that reads as zero
-
-pub blank_held : (n k : ℕ) → cap_in (replicate n nothing) k ≡ plain 0
-blank_held zero k = refl
-blank_held (suc n) zero = refl
-blank_held (suc n) (suc k) = blank_held n k

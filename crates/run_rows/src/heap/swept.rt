@@ -35,9 +35,23 @@ impl Model for Swept {
 
     ghost Value = { SweptRow };
 
-    ghost view = { λ s. record { heap = s.heap; granules = s.mem; front = s.front; low = s.low; quotas = s.quotas; made = s.made } };
+    ghost view = { λ s. record {
+      heap = s.heap;
+      granules = s.mem;
+      front = s.front;
+      low = s.low;
+      quotas = s.quotas;
+      made = s.made;
+    } };
 
-    ghost invariant = { λ s. IsSwept (record { heap = s.heap; granules = s.mem; front = s.front; low = s.low; quotas = s.quotas; made = s.made }) };
+    ghost invariant = { λ s. IsSwept (record {
+      heap = s.heap;
+      granules = s.mem;
+      front = s.front;
+      low = s.low;
+      quotas = s.quotas;
+      made = s.made;
+    }) };
 }
 
 /// What a slice came to: no sweep runs, it has an offset to go on from, or RAM's end was reached.

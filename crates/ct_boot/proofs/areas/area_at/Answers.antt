@@ -1,6 +1,6 @@
 use Rattle.std.proofs.Common.{◌≤◌, ◌∙◌, ap, subst, sym}
+use Rattle.law_lists.proofs.Places.{present}
 use Rattle.def_profile.specs.declared.limits.TheConstants.{MOST_FRAMES}
-use Rattle.law_boot.proofs.Blocks.{present}
 use Rattle.ct_boot.specs.Launching.{area_from}
 use Rattle.ct_boot.proofs.Standing.{row_is}
 use Rattle.ct_boot.proofs.areas.area_at.Goals as goal

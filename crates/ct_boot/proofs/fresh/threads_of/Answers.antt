@@ -1,5 +1,5 @@
 use Rattle.std.proofs.Common.{◌≡◌, ◌+◌, ◌<◌, ◌∙◌, length, ap, sym, subst, arith}
-use Rattle.law_boot.proofs.Blocks.{present}
+use Rattle.law_lists.proofs.Places.{present}
 use Rattle.ct_boot.proofs.Firsts.{start_count}
 use Rattle.ct_boot.proofs.Standing.{IsSoFar, next_fits, one_more, told_at, fresh_is}
 use Rattle.ct_boot.proofs.Placing.{ends_small}

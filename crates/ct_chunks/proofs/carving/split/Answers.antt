@@ -1,4 +1,4 @@
-use Rattle.std.proofs.Common.{◌+◌, ◌-◌, ◌*◌, ◌^◌, arith, length}
+use Rattle.std.proofs.Common.{◌+◌, ◌-◌, ◌*◌, ◌^◌, arith}
 use Rattle.def_chunks.specs.Tiles.{chunks}
 use Rattle.law_chunks.proofs.Carves.{split_done}
 use Rattle.ct_chunks.proofs.Cuts.{sized, split_keeps, split_heads}

@@ -1,4 +1,4 @@
-use Rattle.std.proofs.Common.{ℕ, ◌≡◌, ◌+◌, ◌-◌, ◌*◌, ◌/◌, ◌%◌, ◌<◌, ◌≤◌, length, arith, ap, sym, refl, ◌∙◌}
+use Rattle.std.proofs.Common.{ℕ, ◌≡◌, ◌+◌, ◌-◌, ◌*◌, ◌/◌, ◌%◌, ◌<◌, ◌≤◌, length, arith, ap, refl, ◌∙◌}
 use Rattle.def_chunks.specs.declared.rows.Gap.{Gap}
 use Rattle.ct_chunks.specs.Multiples.{up}
 use Rattle.ct_chunks.proofs.Walks.{known, comes, says, starts, found, goes_on, ended}

@@ -1,9 +1,10 @@
 use Rattle.std.proofs.Common.{◌≡◌, ◌+◌, ◌≤◌, ◌∙◌, length, sym, ap, map, drop, arith}
 use Rattle.std.specs.Prelude.{codes}
+use Rattle.std.proofs.lemmas.List.{drop_all}
 use Rattle.serde_json.specs.View.{view}
 use Rattle.def_texts.specs.Names.{with_name, with_names}
 use Rattle.def_desc.specs.Members.{text_or}
-use Rattle.ct_desc.proofs.Owners.{none_left, one_name}
+use Rattle.ct_desc.proofs.Owners.{one_name}
 use Rattle.ct_desc.proofs.references.add_names.Goals as goal
 
 pub loop-value-preserved : goal.loop-value-preserved
@@ -20,4 +21,4 @@ returns c =
     let l = c.loop-value in
     let past = c.loop-value-test.false in
     let end : length c.args.values.now ≤ l.value-index = omega (arith, past) in
-    ap (λ rest. with_names l.names (map (text_or (codes "name")) (map view rest))) (sym (none_left c.args.values.now l.value-index end)) ∙ l.invariant
+    ap (λ rest. with_names l.names (map (text_or (codes "name")) (map view rest))) (sym (drop_all l.value-index c.args.values.now end)) ∙ l.invariant

@@ -1,5 +1,4 @@
 use Rattle.std.proofs.Common.{sym, ◌∙◌, ◌≡◌, ◌*◌, ◌+◌, arith, []}
-use Rattle.def_image.specs.Checks.{first, walked}
 use Rattle.def_image.specs.Limits.{own_slot_limits}
 use Rattle.law_image.proofs.Walks.{goes_on, stops, ends}
 use Rattle.ct_image_limits.proofs.slots.own_slots_limit.Goals as goal

@@ -1,7 +1,7 @@
 use Rattle.std.proofs.Common.{◌≡◌, false, refl, subst}
 use Rattle.std.proofs.lemmas.Bool.{both_ways}
 use Rattle.def_reach.specs.Sharing.{Reaches}
-use Rattle.ct_licence.proofs.Reached.{trusted_reaches_none, reaches_of, reached_of}
+use Rattle.ct_graph.proofs.Reached.{trusted_reaches_none, reaches_of, reached_of}
 use Rattle.ct_licence.proofs.rows.reaches.Goals as goal
 
 pub returns-in-Trusted : goal.returns-in-Trusted

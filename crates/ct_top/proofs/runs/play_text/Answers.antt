@@ -1,6 +1,5 @@
-use Rattle.std.proofs.Common.{◌≡◌, ◌<◌, ◌^◌, ◌∙◌, List, ap, arith, length, sym, subst}
+use Rattle.std.proofs.Common.{◌≡◌, ◌<◌, ◌^◌, ◌∙◌, List, arith, subst}
 use Rattle.ct_entry.specs.Listed.{DeviceRow}
-use Rattle.def_image.specs.Parts.{PartsRow}
 use Rattle.def_script.specs.Script.{IsScriptCause, ReadsAsScript}
 use Rattle.ct_commands.proofs.Endings.{due_by}
 use Rattle.ct_top.proofs.Booted.{playable}

@@ -1,4 +1,4 @@
-use Rattle.std.proofs.Common.{refl, sym, inr}
+use Rattle.std.proofs.Common.{refl}
 use Rattle.ct_commands.proofs.Endings.{at_once}
 use Rattle.ct_top.proofs.Booted.{none_playable}
 use Rattle.ct_top.proofs.Turning.{played}

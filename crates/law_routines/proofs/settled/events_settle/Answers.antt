@@ -1,5 +1,5 @@
-use Rattle.law_routines.proofs.Events.{event_settles}
+use Rattle.law_routines.proofs.Events.{event_settles, run_settles}
 use Rattle.law_routines.proofs.settled.events_settle.Goals as goal
 
 pub returns : goal.returns
-returns c = event_settles
+returns c = record { one = event_settles; all = run_settles }

@@ -3,7 +3,7 @@ use Rattle.std.proofs.lemmas.List.{length-replicate}
 use Rattle.def_memory.specs.declared.Granule.{Granule}
 use Rattle.def_memory.specs.Granules.{plain, nothing, cap_in}
 use Rattle.ct_areas.specs.Threads.{HasArea}
-use Rattle.tests_machine.proofs.Searches.{blank_held}
+use Rattle.law_granules.proofs.Lists.{none_held}
 use Rattle.tests_machine.proofs.firmware.thread.Goals as goal
 
 pub new-t-requires-clause-area : goal.new-t-requires-clause-area
@@ -14,4 +14,4 @@ new-t-requires-clause-area c =
     subst (λ n. HasArea n c.args.area) (sym long) c.requires.area
 
 pub new-t-requires-clause-clear : goal.new-t-requires-clause-clear
-new-t-requires-clause-clear c = λ k low high. subst (λ gs. cap_in gs k ≡ plain 0) (sym c.in_ok-mem.ensures) (blank_held (c.args.size / 8) k)
+new-t-requires-clause-clear c = λ k low high. subst (λ gs. cap_in gs k ≡ plain 0) (sym c.in_ok-mem.ensures) (none_held (c.args.size / 8) k)

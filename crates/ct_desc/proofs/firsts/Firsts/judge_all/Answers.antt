@@ -1,7 +1,8 @@
 use Rattle.std.proofs.Common.{◌+◌, ◌≤◌, ◌∙◌, length, sym, ap, map, drop, arith}
+use Rattle.std.proofs.lemmas.List.{drop_all}
+use Rattle.law_lists.proofs.Places.{from_here}
 use Rattle.ct_desc_value.specs.Seen.{spot_view}
 use Rattle.ct_desc.specs.Judged.{after_kinds}
-use Rattle.ct_desc.proofs.Owners.{from_here, none_left}
 use Rattle.ct_desc.proofs.firsts.Firsts.judge_all.Goals as goal
 
 pub loop-spot-preserved : goal.loop-spot-preserved
@@ -16,4 +17,4 @@ returns c =
     let l = c.loop-spot in
     let past = c.loop-spot-test.false in
     let end : length c.args.spots.now ≤ l.spot-index = omega (arith, past) in
-    ap (λ rest. after_kinds l.self (map spot_view rest)) (sym (none_left c.args.spots.now l.spot-index end)) ∙ l.invariant
+    ap (λ rest. after_kinds l.self (map spot_view rest)) (sym (drop_all l.spot-index c.args.spots.now end)) ∙ l.invariant

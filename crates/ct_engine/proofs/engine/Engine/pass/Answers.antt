@@ -1,8 +1,9 @@
 use Rattle.std.proofs.Common.{◌≡◌, true, false, unwrap_or, sym, ap, ◌∙◌, subst}
+use Rattle.law_lists.proofs.Tests.{some_is}
 use Rattle.ct_engine.specs.Seen.{Seen}
 use Rattle.ct_engine.specs.Sweeps.{NoneLeft, slice_end, over}
 use Rattle.ct_engine.proofs.Sweeps.{with_front}
-use Rattle.ct_engine.proofs.Revoker.{front_is, front_some, slice_mid, pass_ends, pass_goes, mid_ends, mid_goes}
+use Rattle.ct_engine.proofs.Revoker.{front_is, slice_mid, pass_ends, pass_goes, mid_ends, mid_goes}
 use Rattle.ct_engine.proofs.engine.Engine.pass.Goals as goal
 
 pub invariant_of-self : goal.invariant_of-self
@@ -14,7 +15,7 @@ finish-requires g c =
     let mid = (slice_mid (g.M.Memory.granules c.self.inside.mem) (g.M.Memory.granules c.slice.new.mem) c.self.inside.rows c.args.self.now c.args.rate c.slice.new.self c.self.view_is c.self.invariant c.slice.ensures.front c.slice.ensures.sliced) in
     subst (λ (s : Seen). NoneLeft s.objects s) (sym mid.is)
     (c.requires.left (unwrap_or c.self.inside.rows.front 0)
-    (front_is (g.M.Memory.granules c.self.inside.mem) c.self.inside.rows c.args.self.now c.self.view_is ∙ front_some c.self.inside.rows.front (sym c.running.ensures ∙ c.if-not-running.false))
+    (front_is (g.M.Memory.granules c.self.inside.mem) c.self.inside.rows c.args.self.now c.self.view_is ∙ some_is c.self.inside.rows.front 0 (sym c.running.ensures ∙ c.if-not-running.false))
     (mid_ends (g.M.Memory.granules c.slice.new.mem) (with_front c.self.inside.rows c.slice.new.self) c.args.self.now (unwrap_or c.self.inside.rows.front 0) (slice_end c.args.self.now c.args.rate (unwrap_or c.self.inside.rows.front 0)) c.size.result mid c.size.ensures (c.finished.ensures.0 c.if-finished.true)))
 
 pub invariant_of-self-else-finished : goal.invariant_of-self-else-finished
@@ -26,7 +27,7 @@ returns-then-finished g c =
     let mid = (slice_mid (g.M.Memory.granules c.self.inside.mem) (g.M.Memory.granules c.slice.new.mem) c.self.inside.rows c.args.self.now c.args.rate c.slice.new.self c.self.view_is c.self.invariant c.slice.ensures.front c.slice.ensures.sliced) in
     c.finish.ensures ∙ ap over mid.is
     ∙ pass_ends c.args.self.now c.args.rate (unwrap_or c.self.inside.rows.front 0)
-    (front_is (g.M.Memory.granules c.self.inside.mem) c.self.inside.rows c.args.self.now c.self.view_is ∙ front_some c.self.inside.rows.front (sym c.running.ensures ∙ c.if-not-running.false))
+    (front_is (g.M.Memory.granules c.self.inside.mem) c.self.inside.rows c.args.self.now c.self.view_is ∙ some_is c.self.inside.rows.front 0 (sym c.running.ensures ∙ c.if-not-running.false))
     (mid_ends (g.M.Memory.granules c.slice.new.mem) (with_front c.self.inside.rows c.slice.new.self) c.args.self.now (unwrap_or c.self.inside.rows.front 0) (slice_end c.args.self.now c.args.rate (unwrap_or c.self.inside.rows.front 0)) c.size.result mid c.size.ensures (c.finished.ensures.0 c.if-finished.true))
 
 pub returns-else-finished : goal.returns-else-finished
@@ -34,5 +35,5 @@ returns-else-finished g c =
     let mid = (slice_mid (g.M.Memory.granules c.self.inside.mem) (g.M.Memory.granules c.slice.new.mem) c.self.inside.rows c.args.self.now c.args.rate c.slice.new.self c.self.view_is c.self.invariant c.slice.ensures.front c.slice.ensures.sliced) in
     mid.is
     ∙ pass_goes c.args.self.now c.args.rate (unwrap_or c.self.inside.rows.front 0)
-    (front_is (g.M.Memory.granules c.self.inside.mem) c.self.inside.rows c.args.self.now c.self.view_is ∙ front_some c.self.inside.rows.front (sym c.running.ensures ∙ c.if-not-running.false))
+    (front_is (g.M.Memory.granules c.self.inside.mem) c.self.inside.rows c.args.self.now c.self.view_is ∙ some_is c.self.inside.rows.front 0 (sym c.running.ensures ∙ c.if-not-running.false))
     (mid_goes (g.M.Memory.granules c.slice.new.mem) (with_front c.self.inside.rows c.slice.new.self) c.args.self.now (unwrap_or c.self.inside.rows.front 0) c.args.rate c.size.result mid c.size.ensures (λ e. let clash : false ≡ true = sym c.if-finished.false ∙ c.finished.ensures.1 e in cc))

@@ -6,15 +6,15 @@ use Rattle.ct_machine.proofs.Rounding.{round_is}
 use Rattle.ct_machine.proofs.parts.Parts.round_quietly.Goals as goal
 
 pub count_sweep-requires : goal.count_sweep-requires
-count_sweep-requires g c = subst (λ (k : Counts). k.sweeps < MOST_STEPS) (sym c.go_quietly.ensures.aside.counts) c.requires.sweeps
+count_sweep-requires g c = subst (λ (k : Counts). k.sweeps < MOST_STEPS) (sym c.thread_goes_quietly.ensures.aside.counts) c.requires.sweeps
 
 pub count_step-requires : goal.count_step-requires
 count_step-requires g c =
     subst (λ (s : State). s.counts.steps < MOST_STEPS) (sym c.count_sweep.ensures.state)
-    (subst (λ (k : Counts). k.steps < MOST_STEPS) (sym c.go_quietly.ensures.aside.counts) c.requires.steps)
+    (subst (λ (k : Counts). k.steps < MOST_STEPS) (sym c.thread_goes_quietly.ensures.aside.counts) c.requires.steps)
 
 pub returns-clause-went : goal.returns-clause-went
 returns-clause-went g c told =
-    round_is c.args.self.now c.go_quietly.new.self c.count_sweep.new.self c.count_step.new.self
-    (c.go_quietly.ensures.is c.if-not-go_quietly.false (one_more_sweep c.args.self.now.state).counts) c.go_quietly.ensures.aside
-    c.count_sweep.ensures.state c.count_sweep.ensures.board c.count_step.ensures.state c.count_step.ensures.board (c.go_quietly.ensures.going c.if-not-go_quietly.false)
+    round_is c.args.self.now c.thread_goes_quietly.new.self c.count_sweep.new.self c.count_step.new.self
+    (c.thread_goes_quietly.ensures.is c.if-not-thread_goes_quietly.false (one_more_sweep c.args.self.now.state).counts) c.thread_goes_quietly.ensures.aside
+    c.count_sweep.ensures.state c.count_sweep.ensures.board c.count_step.ensures.state c.count_step.ensures.board c.thread_goes_quietly.ensures.going

@@ -1,23 +1,7 @@
-use Rattle.std.proofs.Common.{sym, ◌∙◌}
-use Rattle.ct_machine.proofs.Rounding.{starts, has_room, goes_on, still_went, still_guarded, loud_next, all_went, sweep_next, none_went}
+use Rattle.std.proofs.Common.{refl, sym, ◌∙◌}
+use Rattle.ct_machine.proofs.Quietly.{undisturbed_parts, disturbed_loud}
+use Rattle.ct_machine.proofs.Rounding.{loud_next, none_went, sweep_next}
 use Rattle.ct_machine.proofs.parts.Parts.run_quietly.Goals as goal
-
-pub loop-made-init : goal.loop-made-init
-loop-made-init g c = starts c.args.self.now c.args.most c.requires.guarded (sym c.has_sweep.ensures ∙ c.if-has_sweep.false)
-
-pub round_quietly-requires-clause-guarded : goal.round_quietly-requires-clause-guarded
-round_quietly-requires-clause-guarded g c = c.loop-made.invariant.guarded
-
-pub round_quietly-requires-clause-steps : goal.round_quietly-requires-clause-steps
-round_quietly-requires-clause-steps g c = has_room _ _ _ _ _ c.loop-made.invariant.steps c.requires.steps c.loop-made-test.true
-
-pub round_quietly-requires-clause-sweeps : goal.round_quietly-requires-clause-sweeps
-round_quietly-requires-clause-sweeps g c = has_room _ _ _ _ _ c.loop-made.invariant.sweeps c.requires.sweeps c.loop-made-test.true
-
-pub loop-made-preserved : goal.loop-made-preserved
-loop-made-preserved g c =
-    goes_on c.args.self.now c.loop-made.self c.round_quietly.new.self c.args.most c.loop-made.made c.loop-made.invariant c.loop-made-test.true
-    (sym c.round_quietly.ensures.when ∙ c.if-not-round_quietly.false) (c.round_quietly.ensures.went c.if-not-round_quietly.false)
 
 pub returns-then-has_sweep-clause-went : goal.returns-then-has_sweep-clause-went
 returns-then-has_sweep-clause-went g c = none_went c.args.self.now
@@ -25,23 +9,17 @@ returns-then-has_sweep-clause-went g c = none_went c.args.self.now
 pub returns-then-has_sweep-clause-stops : goal.returns-then-has_sweep-clause-stops
 returns-then-has_sweep-clause-stops g c less = sweep_next c.args.self.now (sym c.has_sweep.ensures ∙ c.if-has_sweep.true)
 
-pub returns-then-not-round_quietly-clause-went : goal.returns-then-not-round_quietly-clause-went
-returns-then-not-round_quietly-clause-went g c =
-    still_went c.args.self.now c.loop-made.self c.round_quietly.new.self c.args.most c.loop-made.made c.loop-made.invariant
-    (c.round_quietly.ensures.same c.if-not-round_quietly.true) c.round_quietly.ensures.board
+pub returns-in-None-clause-went : goal.returns-in-None-clause-went
+returns-in-None-clause-went g c = none_went c.args.self.now
 
-pub returns-then-not-round_quietly-clause-stops : goal.returns-then-not-round_quietly-clause-stops
-returns-then-not-round_quietly-clause-stops g c less =
-    loud_next c.loop-made.self c.round_quietly.new.self (sym c.round_quietly.ensures.when ∙ c.if-not-round_quietly.true)
-    (c.round_quietly.ensures.same c.if-not-round_quietly.true) c.round_quietly.ensures.board
+pub returns-in-None-clause-stops : goal.returns-in-None-clause-stops
+returns-in-None-clause-stops g c less = loud_next c.args.self.now c.args.self.now (sym (disturbed_loud c.args.self.now c.in-None.ensures)) refl refl
 
-pub returns-then-not-round_quietly-clause-guarded : goal.returns-then-not-round_quietly-clause-guarded
-returns-then-not-round_quietly-clause-guarded g c =
-    still_guarded c.args.self.now c.loop-made.self c.round_quietly.new.self c.args.most c.loop-made.made c.loop-made.invariant
-    (c.round_quietly.ensures.same c.if-not-round_quietly.true) c.round_quietly.ensures.board
+pub run_thread_quietly-requires-clause-idle : goal.run_thread_quietly-requires-clause-idle
+run_thread_quietly-requires-clause-idle g c = sym c.has_sweep.ensures ∙ c.if-has_sweep.false
 
-pub returns-clause-went : goal.returns-clause-went
-returns-clause-went g c = all_went c.args.self.now c.loop-made.self c.args.most c.loop-made.made c.loop-made.invariant c.loop-made-test.false
+pub run_thread_quietly-requires-clause-pending : goal.run_thread_quietly-requires-clause-pending
+run_thread_quietly-requires-clause-pending g c = (undisturbed_parts c.args.self.now.state c.in-Some.t c.in-Some.ensures).0
 
-pub returns-clause-guarded : goal.returns-clause-guarded
-returns-clause-guarded g c = c.loop-made.invariant.guarded
+pub run_thread_quietly-requires-clause-runs : goal.run_thread_quietly-requires-clause-runs
+run_thread_quietly-requires-clause-runs g c = (undisturbed_parts c.args.self.now.state c.in-Some.t c.in-Some.ensures).1

@@ -1,0 +1,47 @@
+use Rattle.std.proofs.Common.{sym, ◌∙◌}
+use Rattle.ct_machine.proofs.Rounding.{starts, has_room, goes_on, still_went, still_guarded, loud_next, all_went}
+use Rattle.ct_machine.proofs.parts.Parts.run_thread_quietly.Goals as goal
+
+pub loop-made-init : goal.loop-made-init
+loop-made-init g c = starts c.args.self.now c.args.t c.args.most c.requires.guarded c.requires.idle c.requires.pending c.requires.runs
+
+pub round_quietly-requires-clause-guarded : goal.round_quietly-requires-clause-guarded
+round_quietly-requires-clause-guarded g c = c.loop-made.invariant.guarded
+
+pub round_quietly-requires-clause-pending : goal.round_quietly-requires-clause-pending
+round_quietly-requires-clause-pending g c = c.loop-made.invariant.pending
+
+pub round_quietly-requires-clause-runs : goal.round_quietly-requires-clause-runs
+round_quietly-requires-clause-runs g c = c.loop-made.invariant.runs
+
+pub round_quietly-requires-clause-steps : goal.round_quietly-requires-clause-steps
+round_quietly-requires-clause-steps g c = has_room _ _ _ _ _ c.loop-made.invariant.steps c.requires.steps c.loop-made-test.true
+
+pub round_quietly-requires-clause-sweeps : goal.round_quietly-requires-clause-sweeps
+round_quietly-requires-clause-sweeps g c = has_room _ _ _ _ _ c.loop-made.invariant.sweeps c.requires.sweeps c.loop-made-test.true
+
+pub loop-made-preserved : goal.loop-made-preserved
+loop-made-preserved g c =
+    goes_on c.args.self.now c.loop-made.self c.round_quietly.new.self c.args.t c.args.most c.loop-made.made c.loop-made.invariant c.loop-made-test.true
+    (sym c.round_quietly.ensures.when ∙ c.if-not-round_quietly.false) (c.round_quietly.ensures.went c.if-not-round_quietly.false)
+
+pub returns-then-not-round_quietly-clause-went : goal.returns-then-not-round_quietly-clause-went
+returns-then-not-round_quietly-clause-went g c =
+    still_went c.args.self.now c.loop-made.self c.round_quietly.new.self c.args.t c.args.most c.loop-made.made c.loop-made.invariant
+    (c.round_quietly.ensures.same c.if-not-round_quietly.true) c.round_quietly.ensures.board
+
+pub returns-then-not-round_quietly-clause-stops : goal.returns-then-not-round_quietly-clause-stops
+returns-then-not-round_quietly-clause-stops g c less =
+    loud_next c.loop-made.self c.round_quietly.new.self (sym c.round_quietly.ensures.when ∙ c.if-not-round_quietly.true)
+    (c.round_quietly.ensures.same c.if-not-round_quietly.true) c.round_quietly.ensures.board
+
+pub returns-then-not-round_quietly-clause-guarded : goal.returns-then-not-round_quietly-clause-guarded
+returns-then-not-round_quietly-clause-guarded g c =
+    still_guarded c.args.self.now c.loop-made.self c.round_quietly.new.self c.args.t c.args.most c.loop-made.made c.loop-made.invariant
+    (c.round_quietly.ensures.same c.if-not-round_quietly.true) c.round_quietly.ensures.board
+
+pub returns-clause-went : goal.returns-clause-went
+returns-clause-went g c = all_went c.args.self.now c.loop-made.self c.args.t c.args.most c.loop-made.made c.loop-made.invariant c.loop-made-test.false
+
+pub returns-clause-guarded : goal.returns-clause-guarded
+returns-clause-guarded g c = c.loop-made.invariant.guarded

@@ -1,5 +1,0 @@
-use Rattle.law_history.proofs.Whole.{event_tokened}
-use Rattle.law_history.proofs.sealing.events_tokened.Goals as goal
-
-pub returns : goal.returns
-returns c = event_tokened

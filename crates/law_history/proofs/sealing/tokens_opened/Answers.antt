@@ -1,5 +1,0 @@
-use Rattle.law_history.proofs.Openings.{finds_sealed, opens_tokens}
-use Rattle.law_history.proofs.sealing.tokens_opened.Goals as goal
-
-pub returns : goal.returns
-returns c = record { found = λ b s k h. finds_sealed b.image s k.confined h; opens = opens_tokens }

@@ -1,5 +1,0 @@
-use Rattle.law_program.proofs.Alike.{stored_alike}
-use Rattle.law_program.proofs.beside.stored_images_run_alike.Goals as goal
-
-pub returns : goal.returns
-returns c = stored_alike
