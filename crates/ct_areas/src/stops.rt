@@ -49,6 +49,7 @@ pub fn save<M: Memory>(t: &mut Thread, mem: &mut M)
 
 /// A register gets what a granule holds, through the load filter. Where it holds the same capability already, that
 /// isn't decoded anew.
+#[inline(always)]
 fn take<M: Memory>(register: &mut Live, mem: &M, ram: u32, at: u32)
     requires even { at % 8 ≡ 0 }
     requires inside { at + 8 ≤ 8 * length (M.granules mem.now) }

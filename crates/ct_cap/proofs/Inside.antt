@@ -6,9 +6,9 @@ use Rattle.def_profile.specs.declared.bounds.TheConstants.{LAST_EXPONENT, WIDEST
 use Rattle.std.proofs.Math.Nat.{pow-le-pow_right}
 use Rattle.law_lists.proofs.Tests.{lt_tells}
 use Rattle.def_words.specs.Authority.{one_if_less, corner_of, middle, base_of, top_of, exponent_of, base_field, top_field}
-use Rattle.law_words.proofs.Back.{Units, apart, at_most_one, block_units, exponent_kinds}
+use Rattle.law_words.proofs.Back.{Units, apart, block_units, exponent_kinds}
 use Rattle.law_words.proofs.Fields.{corner_sum, unit_low, unit_high, wrap_33, base_back, top_back}
-use Rattle.law_words.proofs.Lowered.{base_at, top_at, Same, wide_base, wide_top, widest}
+use Rattle.law_words.proofs.Lowered.{base_at, top_at, Same, widest}
 
 from_units : (e B T a x : ℕ) → Units e B T (base_at e B a) (top_at e B T a) → base_at e B a ≤ x → x ≤ top_at e B T a → top_at e B T a ≤ 2 ^ 32 → Same e B T a x
 from_units e B T a x u low high fits =

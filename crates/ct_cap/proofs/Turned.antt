@@ -1,13 +1,13 @@
 -- A capability at another address inside its bounds.
 use Rattle.std.proofs.Common.{ℕ, ◌^◌, ◌<◌, ◌≤◌, ◌≡◌, ◌==◌, ◌&&◌, nat_le, true, inl, inr, refl, ap, sym, ◌∙◌}
 use Rattle.std.proofs.lemmas.Bool.{leb-true, and_parts, eq-eqb}
-use Rattle.law_lists.proofs.Tests.{both_left, both_right, eq_tells}
+use Rattle.law_lists.proofs.Tests.{both_left, both_right}
 use Rattle.def_words.specs.declared.Cap.{Cap}
 use Rattle.def_words.specs.declared.Bounds.{Bounds}
 use Rattle.def_words.specs.Authority.{base_of, bounds_of, cap_address, cap_base, cap_bounds, cap_high, cap_top, top_of, word_of}
 use Rattle.def_words.specs.Capability.{cap_of, is_range_inside, is_representable, with_address, word_at}
 use Rattle.def_words.specs.Seals.{cap_seal}
-use Rattle.law_words.proofs.Words.{address_small, bounds_is, word_whole}
+use Rattle.law_words.proofs.Words.{address_small, bounds_is}
 use Rattle.law_words.proofs.Lowered.{own_bounds, representable}
 use Rattle.ct_cap.proofs.Inside.{inside}
 

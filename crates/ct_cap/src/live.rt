@@ -63,6 +63,7 @@ impl Model for Live {
 }
 
 /// The capability decoded.
+#[inline(always)]
 pub fn expand(c: Cap) -> Live
     ensures { result ≡ c }
 {

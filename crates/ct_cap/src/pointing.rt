@@ -3,6 +3,7 @@
 ghost use Rattle.std.specs.Prelude.{◌≡◌};
 ghost use Rattle.def_words.specs.Capability.{raised, with_address};
 
+use crate::counter::raise;
 use crate::live::Live;
 use crate::words::{cap_of, high_of, word_of};
 use ct_bounds::decode;
@@ -31,5 +32,7 @@ pub fn set_address(l: Live, address: u32) -> Live
 pub fn add_address(l: Live, by: u32) -> Live
     ensures { result ≡ raised l by }
 {
-    set_address(l, l.address().wrapping_add(by))
+    let mut moved = l;
+    raise(&mut moved, by);
+    moved
 }

@@ -28,3 +28,4 @@ pub mod Sliced
 pub mod Flushing
 pub mod Revoker
 pub mod Shown
+pub mod Windows

@@ -1,35 +1,26 @@
 //! The running thread's registers, and what it loads and stores in RAM, where they stand: what a step that tells
 //! nothing asks and leaves.
 
-ghost use Rattle.std.specs.Prelude.{◌≡◌, ◌%◌, ◌<◌, Some, IfSome, true, false, is_none, is_some, length};
+ghost use Rattle.std.specs.Prelude.{◌≡◌, ◌*◌, ◌%◌, ◌<◌, Some, IfSome, true, false, is_some, length};
 ghost use Rattle.def_instr.specs.Reading.{instruction_in};
 ghost use Rattle.def_machine.specs.State.{register};
 ghost use Rattle.def_words.specs.Authority.{cap_address};
 ghost use Rattle.def_words.specs.Capability.{integer};
-ghost use Rattle.def_step.specs.Checks.{first_failed};
-ghost use Rattle.def_step.specs.Instructions.{fetch_checks, next_word};
-ghost use Rattle.def_safety.specs.HiddenSteps.{IsSeen};
+ghost use Rattle.def_step.specs.Instructions.{next_word};
 ghost use Rattle.ct_loadstore.specs.Shapes.{IsShape};
-ghost use Rattle.ct_threads.specs.Steps.{is_word_of_ram};
+ghost use Rattle.ct_threads.specs.Steps.{finds_word};
+ghost use Rattle.ct_threads.specs.Windows.{window_of, Suits};
 ghost use Rattle.ct_engine.specs.Seen.{hides, thread, advanced, moved_to, with_granules};
-ghost use Rattle.ct_engine.specs.Steps.{next_in, loads_ram, stores_ram, Loads, SeesLoad, SeesStore, Stores};
+ghost use Rattle.ct_engine.specs.Steps.{next_in, loads_ram, stores_ram, HasWindow, Loads, SeesFetch, SeesLoad, SeesStore, Stores};
 
 use crate::engine::Engine;
 use crate::steps;
 use ct_cap::Live;
 use ct_mem::Memory;
+use ct_threads::{Window, fetch_word};
 use def_step::Access;
 
 impl<M: Memory + Drop> Engine<M> {
-    /// Whether each check of a fetch by the running thread passes.
-    #[inline(always)]
-    pub fn fetches(&self, t: u32) -> bool
-        requires { self.now.running ≡ Some t }
-        ensures { result ≡ is_none (first_failed (fetch_checks (thread self.now t).pcc)) }
-    {
-        steps::fetches(&self.rows, t)
-    }
-
     /// The address of the running thread's program counter.
     #[inline(always)]
     pub fn address(&self, t: u32) -> u32
@@ -68,39 +59,60 @@ impl<M: Memory + Drop> Engine<M> {
         steps::pcc_ref(&self.rows, t)
     }
 
-    /// The word at an address, where it lies past the native routines, is a multiple of 4, and a whole word of RAM
-    /// stands there; else `None`.
-    ///
-    /// Condition: the address isn't hidden.
-    #[inline(always)]
-    pub fn word_at(&self, at: u32) -> Option<u32>
-        requires even { self.now.region.ram % 16 ≡ 0 }
-        requires seen { IsSeen (hides self.now) self.now.region.ram at }
-        ensures when { is_some result
-            ≡ is_word_of_ram self.now.region.ram self.now.granules at }
-        ensures given { IfSome result (λ w. next_in self.now at ≡ next_word (instruction_in w)) }
+    /// The addresses at which a fetch by the running thread need only ask for the tag and for a multiple of 4.
+    pub fn window(&self, t: u32) -> Window
+        requires { self.now.running ≡ Some t }
+        ensures { result ≡ window_of (thread self.now t).pcc self.now.region.ram
+            (8 * length self.now.granules) }
     {
-        ct_threads::word_at(&self.mem, self.rows.region.ram, at)
+        let pcc = steps::pcc_ref(&self.rows, t);
+        ct_threads::window_of(pcc, &self.mem, self.rows.region.ram)
+    }
+
+    /// The word at the running thread's program counter, where each check of a fetch passes, it lies past the native
+    /// routines and is a multiple of 4, and a whole word of RAM stands there; else `None`.
+    ///
+    /// Conditions: the window is one of the thread's program counter capability, and where a word is found it isn't
+    /// hidden.
+    #[inline(always)]
+    pub fn fetch(&self, t: u32, window: Window) -> Option<u32>
+        requires runs { self.now.running ≡ Some t }
+        requires even { self.now.region.ram % 16 ≡ 0 }
+        requires window { HasWindow self.now t window }
+        requires seen { SeesFetch self.now t }
+        ensures when { is_some result
+            ≡ finds_word (thread self.now t).pcc self.now.region.ram self.now.granules }
+        ensures given { IfSome result (λ w. next_in self.now (cap_address (thread self.now t).pcc)
+            ≡ next_word (instruction_in w)) }
+    {
+        let pcc = steps::pcc_ref(&self.rows, t);
+        fetch_word(pcc, &self.mem, self.rows.region.ram, window)
     }
 
     /// The running thread goes on after its instruction, and a register gets a number, which register 0 drops.
+    ///
+    /// Condition: the window suits the thread's program counter capability.
     #[inline(always)]
-    pub fn put_number(&mut self, t: u32, to: u32, value: u32)
+    pub fn put_number(&mut self, t: u32, to: u32, value: u32, window: Window)
         requires runs { self.old.running ≡ Some t }
         requires to { to < 16 }
+        requires window { Suits window (thread self.old t).pcc }
         ensures { self.new ≡ advanced self.old t to (integer value) }
     {
-        steps::put(&mut self.rows, t, to, &Live::integer(value));
+        steps::put(&mut self.rows, t, to, &Live::integer(value), window);
     }
 
     /// The running thread goes on after its instruction, and a register gets a value, which register 0 drops.
+    ///
+    /// Condition: the window suits the thread's program counter capability.
     #[inline(always)]
-    pub fn put(&mut self, t: u32, to: u32, value: &Live)
+    pub fn put(&mut self, t: u32, to: u32, value: &Live, window: Window)
         requires runs { self.old.running ≡ Some t }
         requires to { to < 16 }
+        requires window { Suits window (thread self.old t).pcc }
         ensures { self.new ≡ advanced self.old t to value.now }
     {
-        steps::put(&mut self.rows, t, to, value);
+        steps::put(&mut self.rows, t, to, value, window);
     }
 
     /// The running thread goes on at an address, by the address rule.

@@ -1,18 +1,18 @@
 //! What the running thread holds, and how it goes on.
 
-ghost use Rattle.std.specs.Prelude.{◌≡◌, ◌<◌, Some, List, is_none, length};
+ghost use Rattle.std.specs.Prelude.{◌≡◌, ◌<◌, Some, List, length};
 ghost use Rattle.def_words.specs.Authority.{cap_address};
 ghost use Rattle.def_memory.specs.declared.Granule.{Granule};
 ghost use Rattle.def_machine.specs.State.{register};
-ghost use Rattle.def_step.specs.Checks.{first_failed};
-ghost use Rattle.def_step.specs.Instructions.{actor_of, fetch_checks};
+ghost use Rattle.def_step.specs.Instructions.{actor_of};
+ghost use Rattle.ct_threads.specs.Windows.{Suits};
 ghost use Rattle.ct_engine.specs.Kept.{IsEngine};
 ghost use Rattle.ct_engine.specs.Seen.{engine_view, thread, after_filter, after_jump, advanced, moved_to};
 
 use crate::rows::Rows;
 use ct_cap::{Live, Posture};
 use ct_mem::Memory;
-use ct_threads::{branch_row, filter_row, jump_row, may_fetch, put_row, read, read_ref};
+use ct_threads::{Window, branch_row, filter_row, jump_row, put_row, read, read_ref};
 
 /// The running thread goes on elsewhere, with this posture; a register gets a value.
 pub(crate) fn jump_to(rows: &mut Rows, t: u32, pcc: Live, posture: Posture, to: u32, value: Live)
@@ -82,17 +82,6 @@ pub(crate) fn filter_registers<M: Memory>(rows: &mut Rows, mem: &M, t: u32)
     filter_row(&mut rows.list[t as usize], mem);
 }
 
-/// Whether each check of a fetch by the running thread passes.
-#[inline(always)]
-pub(crate) fn fetches(rows: &Rows, t: u32) -> bool
-    requires there { t < length rows.now.list.items }
-    requires runs { rows.now.running ≡ Some t }
-    ensures { (gs : List Granule) → IsEngine gs rows.now
-        → result ≡ is_none (first_failed (fetch_checks (thread (engine_view gs rows.now) t).pcc)) }
-{
-    may_fetch(&rows.list[t as usize].pcc)
-}
-
 /// The address of the running thread's program counter.
 #[inline(always)]
 pub(crate) fn address(rows: &Rows, t: u32) -> u32
@@ -141,15 +130,17 @@ pub(crate) fn address_in(rows: &Rows, t: u32, number: u32) -> u32
 
 /// The running thread goes on after its instruction; a register gets a value.
 #[inline(always)]
-pub(crate) fn put(rows: &mut Rows, t: u32, to: u32, value: &Live)
+pub(crate) fn put(rows: &mut Rows, t: u32, to: u32, value: &Live, window: Window)
     requires there { t < length rows.old.list.items }
     requires runs { rows.old.running ≡ Some t }
     requires to { to < 16 }
+    requires window { (gs : List Granule) × IsEngine gs rows.old
+        × Suits window (thread (engine_view gs rows.old) t).pcc }
     ensures holds { (gs : List Granule) → IsEngine gs rows.old → IsEngine gs rows.new }
     ensures seen { (gs : List Granule) → IsEngine gs rows.old
         → engine_view gs rows.new ≡ advanced (engine_view gs rows.old) t to value.now }
 {
-    put_row(&mut rows.list[t as usize], to, value);
+    put_row(&mut rows.list[t as usize], to, value, window);
 }
 
 /// The running thread goes on at an address.

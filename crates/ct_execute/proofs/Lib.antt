@@ -3,3 +3,4 @@ pub mod Executed
 pub mod Opens
 pub mod Quietly
 pub mod Reaching
+pub mod Windows

@@ -1,5 +1,6 @@
 -- What is carried out quietly: what a reading says, a fetch that passes, and branches and jumps whose target is whole.
 use Rattle.std.proofs.Common.{ℕ, zero, ◌≡◌, ◌%◌, ◌==◌, ◌&&◌, Bool, true, false, Option, Some, None, IfSome, is_none, Ok, refl, sym, ap, ◌∙◌, subst, if◌then◌else◌}
+use Rattle.std.proofs.lemmas.Bool.{and_parts}
 use Rattle.ct_entry.specs.Listed.{Listed}
 use Rattle.def_words.specs.declared.Cap.{Cap}
 use Rattle.def_words.specs.declared.Posture.{Posture}
@@ -21,7 +22,7 @@ use Rattle.def_step.specs.Jumps.{flow_result, is_taken, target_at, jumped_to, br
 use Rattle.def_step.specs.Operands.{class_of, operands_of}
 use Rattle.ct_decode.specs.declared.reading.Reading.{Reading}
 use Rattle.ct_decode.specs.Reading.{reading_by}
-use Rattle.ct_threads.specs.Steps.{is_word_of_ram}
+use Rattle.ct_threads.specs.Steps.{is_word_of_ram, finds_word}
 use Rattle.ct_engine.specs.Seen.{Seen, thread, after_jump}
 use Rattle.ct_engine.specs.Steps.{space_in, next_in}
 use Rattle.ct_execute.specs.Deciding.{decision, decide_fetched, decide_next, named_in, WentQuietly}
@@ -70,24 +71,34 @@ decided_quietly s t word new o r is checks next goes carries e k time =
 
 -- ---- when
 
-both_pass : (a b c after_jump : Bool) → a ≡ true → b ≡ true → after_jump ≡ c → after_jump ≡ (a && (b && c))
-both_pass a b c after_jump first second is = rw (first, second) is
+both_pass : (a b c went : Bool) → (a && b) ≡ true → went ≡ c → went ≡ (a && (b && c))
+both_pass a b c went found is = let parts = and_parts a b found in rw (parts.0, parts.1) is
 
--- the fetch passes, a whole word stands there, and it goes or not
-pub when_fetched : (s : Seen) (t word at : ℕ) (o : Option Instr) (r : Reading) (went : Bool) → r ≡ reading_by word o
-    → is_none (first_failed (fetch_checks (thread s t).pcc)) ≡ true → at ≡ cap_address (thread s t).pcc
-    → true ≡ is_word_of_ram s.region.ram s.granules at → next_in s at ≡ next_word o
+none_pass : (a b c : Bool) → false ≡ (a && b) → false ≡ (a && (b && c))
+none_pass true true c none = absurd (cc)
+none_pass true false c none = refl
+none_pass false b c none = refl
+
+-- a word is found, and it goes or not
+pub when_found : (s : Seen) (t word : ℕ) (o : Option Instr) (r : Reading) (went : Bool) → r ≡ reading_by word o
+    → finds_word (thread s t).pcc s.region.ram s.granules ≡ true → next_in s (cap_address (thread s t).pcc) ≡ next_word o
     → went ≡ goes_at (thread s t) s.region.ram s.granules (next_word r.instruction)
     → went ≡ goes_quietly (thread s t) s.region.ram s.granules
-when_fetched s t word at o r went is checks there stands next goes =
+when_found s t word o r went is found next goes =
     let same : r.instruction ≡ o = subst (λ (q : Reading). q.instruction ≡ o) (sym is) (instruction_read word o) in
-    let whole : is_word_of_ram s.region.ram s.granules (cap_address (thread s t).pcc) ≡ true =
-    subst (λ (n : ℕ). is_word_of_ram s.region.ram s.granules n ≡ true) there (sym stands) in
-    let here : next_in s (cap_address (thread s t).pcc) ≡ next_word o = subst (λ (n : ℕ). next_in s n ≡ next_word o) there next in
     both_pass (is_none (first_failed (fetch_checks (thread s t).pcc))) (is_word_of_ram s.region.ram s.granules (cap_address (thread s t).pcc))
-    (goes_at (thread s t) s.region.ram s.granules (next_in s (cap_address (thread s t).pcc))) went checks whole
+    (goes_at (thread s t) s.region.ram s.granules (next_in s (cap_address (thread s t).pcc))) went found
     (goes ∙ ap (λ (p : Option Instr). goes_at (thread s t) s.region.ram s.granules (next_word p)) same
-    ∙ ap (λ (n : Next). goes_at (thread s t) s.region.ram s.granules n) (sym here))
+    ∙ ap (λ (n : Next). goes_at (thread s t) s.region.ram s.granules n) (sym next))
+
+-- none is found
+pub when_none : (s : Seen) (t : ℕ) → false ≡ finds_word (thread s t).pcc s.region.ram s.granules → false ≡ goes_quietly (thread s t) s.region.ram s.granules
+when_none s t none =
+    none_pass (is_none (first_failed (fetch_checks (thread s t).pcc))) (is_word_of_ram s.region.ram s.granules (cap_address (thread s t).pcc))
+    (goes_at (thread s t) s.region.ram s.granules (next_in s (cap_address (thread s t).pcc))) none
+
+pub checks_pass : (s : Seen) (t : ℕ) → finds_word (thread s t).pcc s.region.ram s.granules ≡ true → is_none (first_failed (fetch_checks (thread s t).pcc)) ≡ true
+checks_pass s t found = (and_parts (is_none (first_failed (fetch_checks (thread s t).pcc))) (is_word_of_ram s.region.ram s.granules (cap_address (thread s t).pcc)) found).0
 
 -- ---- branches and jumps
 

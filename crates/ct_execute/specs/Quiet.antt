@@ -22,9 +22,10 @@ use Rattle.def_words.specs.Authority.{cap_address}
 use Rattle.ct_decode.specs.declared.reading.Reading.{Reading}
 use Rattle.ct_loadstore.specs.Quiet.{is_quiet_load, is_quiet_store}
 use Rattle.ct_loadstore.specs.Shapes.{space_of}
+use Rattle.ct_threads.specs.declared.window.Window.{Window}
 use Rattle.ct_threads.specs.Steps.{no_bank, is_word_of_ram}
 use Rattle.ct_engine.specs.Seen.{Seen, thread}
-use Rattle.ct_engine.specs.Steps.{space_in}
+use Rattle.ct_engine.specs.Steps.{space_in, HasWindow}
 use Rattle.ct_execute.specs.Deciding.{decide_instruction, WentQuietly}
 
 -- class, registers and access of the instruction
@@ -38,6 +39,10 @@ abbrev pub CarriesQuietly : Seen → ℕ → Instr → Seen → Type 0
 CarriesQuietly s t i new =
     (e : Listed) (k : DeviceStates) (time : ℕ)
     → WentQuietly (decide_instruction e (thread s t) (space_in s k time) i) t s k new
+
+-- each window of thread t is one of it in `new` too
+abbrev pub KeepsWindows : Seen → Seen → ℕ → Type 0
+KeepsWindows s new t = (w : Window) → HasWindow s t w → HasWindow new t w
 
 -- the offset of a branch
 abbrev pub offset_of : Instr → Option ℕ

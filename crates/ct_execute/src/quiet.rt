@@ -10,9 +10,10 @@ ghost use Rattle.def_step.specs.Jumps.{target_at};
 ghost use Rattle.def_step.specs.Operands.{class_of, operands_of};
 ghost use Rattle.ct_decode.specs.Reading.{AreRegisters};
 ghost use Rattle.ct_engine.specs.Seen.{thread, moved_to};
+ghost use Rattle.ct_engine.specs.Steps.{HasWindow};
 ghost use Rattle.ct_execute.specs.Deciding.{decision, Stays, WentQuietly};
 ghost use Rattle.ct_execute.specs.Opening.{IsOpen};
-ghost use Rattle.ct_execute.specs.Quiet.{accesses_ram, goes_at, goes_quietly, jump_by, jump_offset, jumps_whole, CarriesQuietly, Says};
+ghost use Rattle.ct_execute.specs.Quiet.{accesses_ram, goes_at, goes_quietly, jump_by, jump_offset, jumps_whole, CarriesQuietly, KeepsWindows, Says};
 
 use ct_alu::alu;
 use ct_capstep::derived;
@@ -20,6 +21,7 @@ use ct_decode::{Decoded, Reading};
 use ct_engine::Engine;
 use ct_flow::takes;
 use ct_mem::Memory;
+use ct_threads::Window;
 use def_instr::Instr;
 use def_step::Class;
 
@@ -32,15 +34,21 @@ use def_step::Class;
 /// there, and that word is an instruction of integers or of capabilities; or a branch, taken or not, or such a jump,
 /// which leads to a multiple of 4; or a load or a store that no check refuses, and that lies in RAM. `execute` does all
 /// that this leaves.
+///
+/// Conditions: the thread runs, nothing is hidden that it may reach, RAM begins at a multiple of 16, and the window is
+/// one of the thread's program counter capability, as it is after the step too. Where the program counter is in the
+/// window a fetch asks for the tag and for a multiple of 4 alone.
 #[inline(always)]
 pub fn execute_quietly<M: Memory + Drop>(
     engine: &mut Engine<M>,
     t: u32,
     decoded: &mut Decoded,
+    window: Window,
 ) -> bool
     requires runs { engine.old.running ≡ Some t }
     requires opened { IsOpen engine.old t }
     requires even { engine.old.region.ram % 16 ≡ 0 }
+    requires window { HasWindow engine.old t window }
     ensures when { result
         ≡ goes_quietly (thread engine.old t) engine.old.region.ram
         engine.old.granules }
@@ -49,18 +57,16 @@ pub fn execute_quietly<M: Memory + Drop>(
         engine.new }
     ensures same { result ≡ false → engine.new ≡ engine.old }
     ensures stays { Stays engine.old engine.new }
+    ensures window { HasWindow engine.new t window }
 {
-    if !engine.fetches(t) {
-        return false;
-    }
-    let at = engine.address(t);
-    match engine.word_at(at) {
+    match engine.fetch(t, window) {
         Some(word) => {
+            let at = engine.address(t);
             if decoded.holds(at, word) {
-                return execute_class(engine, t, decoded.reading(at));
+                return execute_class(engine, t, decoded.reading(at), window);
             }
             decoded.keep(at, word);
-            execute_anew(engine, t, decoded.reading(at))
+            execute_anew(engine, t, decoded.reading(at), window)
         }
         None => false,
     }
@@ -68,12 +74,18 @@ pub fn execute_quietly<M: Memory + Drop>(
 
 /// What was read just now is carried out as `execute_class` does, so seldom that it stands apart.
 #[inline(never)]
-fn execute_anew<M: Memory + Drop>(engine: &mut Engine<M>, t: u32, reading: &Reading) -> bool
+fn execute_anew<M: Memory + Drop>(
+    engine: &mut Engine<M>,
+    t: u32,
+    reading: &Reading,
+    window: Window,
+) -> bool
     requires runs { engine.old.running ≡ Some t }
     requires opened { IsOpen engine.old t }
     requires even { engine.old.region.ram % 16 ≡ 0 }
     requires says { (i : Instr) → reading.now.instruction ≡ Some i → Says reading.now i }
     requires registers { AreRegisters reading.now.operands }
+    requires window { HasWindow engine.old t window }
     ensures when { result
         ≡ goes_at (thread engine.old t) engine.old.region.ram
         engine.old.granules (next_word reading.now.instruction) }
@@ -81,18 +93,25 @@ fn execute_anew<M: Memory + Drop>(engine: &mut Engine<M>, t: u32, reading: &Read
         (λ i. CarriesQuietly engine.old t i engine.new) }
     ensures same { result ≡ false → engine.new ≡ engine.old }
     ensures stays { Stays engine.old engine.new }
+    ensures window { HasWindow engine.new t window }
 {
-    execute_class(engine, t, reading)
+    execute_class(engine, t, reading, window)
 }
 
 /// What was read is carried out where it is such an instruction; else `false`, and nothing changes.
 #[inline(always)]
-fn execute_class<M: Memory + Drop>(engine: &mut Engine<M>, t: u32, reading: &Reading) -> bool
+fn execute_class<M: Memory + Drop>(
+    engine: &mut Engine<M>,
+    t: u32,
+    reading: &Reading,
+    window: Window,
+) -> bool
     requires runs { engine.old.running ≡ Some t }
     requires opened { IsOpen engine.old t }
     requires even { engine.old.region.ram % 16 ≡ 0 }
     requires says { (i : Instr) → reading.now.instruction ≡ Some i → Says reading.now i }
     requires registers { AreRegisters reading.now.operands }
+    requires window { HasWindow engine.old t window }
     ensures when { result
         ≡ goes_at (thread engine.old t) engine.old.region.ram
         engine.old.granules (next_word reading.now.instruction) }
@@ -100,19 +119,20 @@ fn execute_class<M: Memory + Drop>(engine: &mut Engine<M>, t: u32, reading: &Rea
         (λ i. CarriesQuietly engine.old t i engine.new) }
     ensures same { result ≡ false → engine.new ≡ engine.old }
     ensures stays { Stays engine.old engine.new }
+    ensures window { HasWindow engine.new t window }
 {
     match &reading.instruction {
         Some(instruction) => match reading.class {
             Class::Integer => {
                 let x = engine.address_in(t, reading.operands.first);
                 let y = engine.address_in(t, reading.operands.second);
-                engine.put_number(t, reading.operands.to, alu(*instruction, x, y));
+                engine.put_number(t, reading.operands.to, alu(*instruction, x, y), window);
                 true
             }
             Class::Jump => jump(engine, t, reading, *instruction),
-            Class::Access => access(engine, t, reading),
+            Class::Access => access(engine, t, reading, window),
             Class::Capability => {
-                derive(engine, t, reading, *instruction);
+                derive(engine, t, reading, *instruction, window);
                 true
             }
             _ => false,
@@ -140,6 +160,7 @@ fn jump<M: Memory + Drop>(
         → CarriesQuietly engine.old t instruction engine.new }
     ensures same { result ≡ false → engine.new ≡ engine.old }
     ensures stays { Stays engine.old engine.new }
+    ensures windows { KeepsWindows engine.old engine.new t }
 {
     match moved_by(engine, t, reading, instruction) {
         Some(by) => go_by(engine, t, by),
@@ -199,6 +220,7 @@ fn go_by<M: Memory + Drop>(engine: &mut Engine<M>, t: u32, by: u32) -> bool
     ensures gone { result ≡ true → engine.new
         ≡ moved_to engine.old t (target_at (thread engine.old t).pcc by) }
     ensures same { result ≡ false → engine.new ≡ engine.old }
+    ensures windows { KeepsWindows engine.old engine.new t }
 {
     let target = engine.address(t).wrapping_add(by);
     if target % 4 != 0 {
@@ -210,12 +232,18 @@ fn go_by<M: Memory + Drop>(engine: &mut Engine<M>, t: u32, by: u32) -> bool
 
 /// A load or a store, where its checks pass and it lies in RAM; else `false`, and nothing changes.
 #[inline(always)]
-fn access<M: Memory + Drop>(engine: &mut Engine<M>, t: u32, reading: &Reading) -> bool
+fn access<M: Memory + Drop>(
+    engine: &mut Engine<M>,
+    t: u32,
+    reading: &Reading,
+    window: Window,
+) -> bool
     requires runs { engine.old.running ≡ Some t }
     requires opened { IsOpen engine.old t }
     requires even { engine.old.region.ram % 16 ≡ 0 }
     requires says { (i : Instr) × Says reading.now i × (class_of i ≡ kinds.Access) }
     requires registers { AreRegisters reading.now.operands }
+    requires window { HasWindow engine.old t window }
     ensures when { result
         ≡ accesses_ram (thread engine.old t) engine.old.region.ram
         engine.old.granules reading.now.access reading.now.operands }
@@ -223,19 +251,20 @@ fn access<M: Memory + Drop>(engine: &mut Engine<M>, t: u32, reading: &Reading) -
         → class_of i ≡ kinds.Access → CarriesQuietly engine.old t i engine.new }
     ensures same { result ≡ false → engine.new ≡ engine.old }
     ensures stays { Stays engine.old engine.new }
+    ensures window { HasWindow engine.new t window }
 {
     let first = reading.operands.first;
     if !reading.access.loads {
         if !engine.store_register(t, first, reading.operands.second, &reading.access) {
             return false;
         }
-        engine.put_number(t, 0, 0);
+        engine.put_number(t, 0, 0, window);
         return true;
     }
     if reading.access.whole {
         return match engine.load_capability(t, first, &reading.access) {
             Some(value) => {
-                engine.put(t, reading.operands.to, &value);
+                engine.put(t, reading.operands.to, &value, window);
                 true
             }
             None => false,
@@ -243,7 +272,7 @@ fn access<M: Memory + Drop>(engine: &mut Engine<M>, t: u32, reading: &Reading) -
     }
     match engine.load_number(t, first, &reading.access) {
         Some(value) => {
-            engine.put_number(t, reading.operands.to, value);
+            engine.put_number(t, reading.operands.to, value, window);
             true
         }
         None => false,
@@ -251,13 +280,22 @@ fn access<M: Memory + Drop>(engine: &mut Engine<M>, t: u32, reading: &Reading) -
 }
 
 /// An instruction of capabilities.
-fn derive<M: Memory + Drop>(engine: &mut Engine<M>, t: u32, reading: &Reading, instruction: Instr)
+#[inline(always)]
+fn derive<M: Memory + Drop>(
+    engine: &mut Engine<M>,
+    t: u32,
+    reading: &Reading,
+    instruction: Instr,
+    window: Window,
+)
     requires runs { engine.old.running ≡ Some t }
     requires says { Says reading.now instruction }
     requires registers { AreRegisters reading.now.operands }
     requires class { class_of instruction ≡ kinds.Capability }
+    requires window { HasWindow engine.old t window }
     ensures quiet { CarriesQuietly engine.old t instruction engine.new }
     ensures stays { Stays engine.old engine.new }
+    ensures window { HasWindow engine.new t window }
 {
     let value = derived(
         instruction,
@@ -265,5 +303,5 @@ fn derive<M: Memory + Drop>(engine: &mut Engine<M>, t: u32, reading: &Reading, i
         engine.register_ref(t, reading.operands.second),
         engine.pcc_ref(t),
     );
-    engine.put(t, reading.operands.to, &value);
+    engine.put(t, reading.operands.to, &value, window);
 }

@@ -8,7 +8,7 @@ use Rattle.def_image.specs.Spelling.{number, count, padding_after, entry_spelled
 use Rattle.def_image.specs.Shapes.{IsField, IsNumber, IsRawEntry, IsDevice, IsShared, IsSealed, IsCode, IsCompartment, IsThread}
 use Rattle.ct_image_fields.specs.declared.heads.CodeHead.{CodeHead}
 use Rattle.ct_image_fields.specs.declared.heads.GlobalsHead.{GlobalsHead}
-use Rattle.ct_image_fields.specs.Reading.{◌>>=◌, entry_at, device_at, shared_at, sealed_at, code_head_at, globals_head_at, code_at, compartment_at, library_at, thread_at}
+use Rattle.ct_image_fields.specs.Reading.{entry_at, device_at, shared_at, sealed_at, code_head_at, globals_head_at, code_at, compartment_at, library_at, thread_at}
 use Rattle.ct_image_fields.proofs.Turns.{three_in_turn, four_in_turn, seven_in_turn, four_joined}
 use Rattle.ct_image_fields.proofs.Exact.{IsBytes, Took, Exact, begin, then, made, on, AreSo, field_exact, number_exact, many_exact}
 

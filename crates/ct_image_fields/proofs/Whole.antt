@@ -12,7 +12,7 @@ use Rattle.def_image.specs.Shapes.{IsField, IsNumber, IsDevice, IsShared, IsSeal
 use Rattle.def_image.specs.Accepted.{Spells}
 use Rattle.ct_image_fields.specs.declared.heads.Bases.{Bases}
 use Rattle.ct_image_fields.specs.declared.heads.Counts.{Counts}
-use Rattle.ct_image_fields.specs.Reading.{◌>>=◌, number_at, counts_at, bases_at, sweep_at, lists_at, image_at, all_of}
+use Rattle.ct_image_fields.specs.Reading.{number_at, counts_at, bases_at, sweep_at, lists_at, image_at, all_of}
 use Rattle.ct_image_fields.proofs.Turns.{six_in_turn, seven_in_turn, six_joined}
 use Rattle.ct_image_fields.proofs.Exact.{IsBytes, Took, Exact, begin, then, made, on, AreSo, field_exact, number_exact, many_exact, bind_some}
 use Rattle.ct_image_fields.proofs.Parts.{device_exact, shared_exact, sealed_exact, compartment_exact, library_exact, thread_exact}

@@ -12,7 +12,6 @@ use Rattle.def_link.specs.declared.LinkFault.{LinkFault}
 use Rattle.def_link.specs.declared.LinkFault.TheVariants as fault
 use Rattle.def_link.specs.Owners.{Built, units_of, compartment_unit, library_unit, numbered, all_built}
 use Rattle.def_link.specs.Linked.{compartments_with, libraries_with, built_parts, linked_with, linked}
-use Rattle.def_link.specs.Links.{RowsLinkTo}
 use Rattle.law_link.proofs.Indexed.{numbered_length}
 use Rattle.law_link.proofs.Whole as whole
 use Rattle.ct_asm.specs.Labels.{Assembled}

@@ -6,7 +6,7 @@ use Rattle.def_layout.specs.Placement.{region}
 use Rattle.def_image.specs.Parts.{PartsRow}
 use Rattle.def_image.specs.Sizes.{sum_of}
 use Rattle.def_desc.specs.Rows.{CompartmentRow, LibraryRow, DescRow}
-use Rattle.def_link.specs.Linked.{BuiltCompartment, compartment_entries, base_at, compartment_parts, library_parts, shared_parts, sealed_parts, thread_parts, parts_of}
+use Rattle.def_link.specs.Linked.{compartment_entries, base_at, compartment_parts, library_parts, shared_parts, sealed_parts, thread_parts, parts_of}
 use Rattle.ct_asm.specs.Labels.{Assembled}
 use Rattle.ct_link.specs.declared.laid.Starts.{Starts}
 use Rattle.ct_link.specs.Laid.{parts_with, AreObjects}

@@ -46,6 +46,7 @@ pub(crate) fn load<M: Memory>(a: Access, x: Live, at: u32, mem: &M, ram: u32) ->
 }
 
 /// A store of y at an address in RAM, through x.
+#[inline(always)]
 pub(crate) fn store<M: Memory>(a: Access, x: Live, y: Live, at: u32, mem: &mut M, ram: u32)
     requires shape { IsShape a }
     requires reaches { Reaches a ram (length (M.granules mem.old)) at }

@@ -1,5 +1,5 @@
 -- A step that tells nothing: what the code leaves of it is what the written step leaves.
-use Rattle.std.proofs.Common.{ℕ, zero, suc, ◌+◌, ◌≡◌, ◌&&◌, ◌||◌, is_none, is_some, Bool, true, false, if◌then◌else◌, cond, List, [], ◌∷◌, Option, Some, None, option_map, refl, sym, ap, ◌∙◌, subst}
+use Rattle.std.proofs.Common.{ℕ, zero, suc, ◌+◌, ◌*◌, ◌≡◌, ◌&&◌, ◌||◌, is_none, is_some, Bool, true, false, if◌then◌else◌, cond, List, [], ◌∷◌, length, Option, Some, None, option_map, refl, sym, ap, ◌∙◌, subst}
 use Rattle.std.proofs.Math.ListN.{get_or, set}
 use Rattle.std.proofs.lemmas.Bool.{eq-eqb}
 use Rattle.ct_entry.specs.declared.acts.Act.{Act}
@@ -26,6 +26,9 @@ use Rattle.ct_sched.specs.Sched.{SchedRow}
 use Rattle.ct_threads.specs.Steps.{no_bank, is_word_of_ram}
 use Rattle.ct_engine.specs.Seen as engine
 use Rattle.ct_engine.specs.Seen.{Seen}
+use Rattle.ct_engine.specs.Steps.{HasWindow}
+use Rattle.ct_threads.specs.declared.window.Window.{Window}
+use Rattle.ct_threads.specs.Windows.{IsWindow}
 use Rattle.ct_execute.specs.declared.ran.Ran.{Ran}
 use Rattle.ct_execute.specs.declared.ran.Ran.TheVariants.{Went}
 use Rattle.ct_execute.specs.Deciding.{act_by, Decision, Goes, Returns, Serves, Traps, decision, Decided, Stays, WentQuietly}
@@ -36,7 +39,7 @@ use Rattle.def_step.specs.Operands.{class_of}
 use Rattle.ct_loadstore.specs.Shapes.{space_of}
 use Rattle.ct_execute.specs.Quiet.{goes_quietly, goes_at, goes_by, jump_by, jumps_whole, offset_of}
 use Rattle.ct_machine.specs.Going.{silence, runner_goes, steps_quietly}
-use Rattle.ct_machine.specs.Quiet.{has_sweep, undisturbed}
+use Rattle.ct_machine.specs.Quiet.{has_sweep, undisturbed, IsThreadWindow}
 use Rattle.ct_machine.proofs.Carried.{came}
 use Rattle.ct_machine.proofs.Keeping.{machine_by, ran_kept, counted_so}
 use Rattle.ct_machine.proofs.Statuses.{ready_goes, end_none}
@@ -133,6 +136,17 @@ module _ (i : Image) (e : Seen) (r : SchedRow) (k : DeviceStates) (pending : Boo
       ∙ sym (goes_alike (engine.thread e t) (get_or r.statuses t Ended) e.region.ram e.granules)
       ∙ ap (λ (w : Thread). goes_quietly w e.region.ram e.granules) (sym (given_status e.threads r.statuses t kept.statuses))
       ∙ ap (λ n. goes_quietly (thread here.state t) n e.granules) (ram_is i e r kept))
+
+  -- a window of the engine's thread is one of the machine's, and the other way round
+  pub window_in : (t : ℕ) (w : Window) → IsKept i e r → IsThreadWindow here t w → HasWindow e t w
+  window_in t w kept has =
+      subst (λ n. IsWindow w (engine.thread e t).pcc n (8 * length e.granules)) (sym (ram_is i e r kept))
+      (subst (λ (u : Thread). IsWindow w u.pcc i.ram (8 * length e.granules)) (given_status e.threads r.statuses t kept.statuses) has)
+
+  pub window_out : (t : ℕ) (w : Window) → IsKept i e r → HasWindow e t w → IsThreadWindow here t w
+  window_out t w kept has =
+      subst (λ (u : Thread). IsWindow w u.pcc i.ram (8 * length e.granules)) (sym (given_status e.threads r.statuses t kept.statuses))
+      (subst (λ n. IsWindow w (engine.thread e t).pcc n (8 * length e.granules)) (ram_is i e r kept) has)
 
 -- ---- who runs, where no tick is pending
 

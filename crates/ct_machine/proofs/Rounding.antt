@@ -1,22 +1,23 @@
 -- Quiet rounds one after another: what they leave is what the events leave, and each tells nothing.
-use Rattle.std.proofs.Common.{ℕ, zero, suc, ◌+◌, ◌≡◌, ◌≤◌, ◌<◌, ◌&&◌, ◌||◌, inl, inr, Bool, true, false, not, cond, is_some, get_or, List, [], ◌∷◌, ◌++◌, Option, Some, None, refl, sym, ap, ◌∙◌, subst, arith}
+use Rattle.std.proofs.Common.{ℕ, zero, suc, ◌+◌, ◌*◌, ◌≡◌, ◌≤◌, ◌<◌, ◌&&◌, ◌||◌, inl, inr, Bool, true, false, not, cond, is_some, get_or, List, [], ◌∷◌, length, ◌++◌, Option, Some, None, refl, sym, ap, ◌∙◌, subst, arith}
 use Rattle.std.specs.List.{All}
 use Rattle.std.proofs.lemmas.Bool.{cases_order}
 use Rattle.std.proofs.lemmas.List.Elements.{All-append}
 use Rattle.ct_entry.specs.declared.acts.Happened.{Happened}
-use Rattle.def_profile.specs.declared.limits.TheConstants.{MOST_STEPS}
 use Rattle.def_events.specs.Guarded.{Guarded}
 use Rattle.def_machine.specs.Heap as heap
 use Rattle.def_machine.specs.Image.{Image}
 use Rattle.def_machine.specs.Objects.{has_quarantined, painted}
 use Rattle.def_machine.specs.Platform.{Platform, MachineRow}
-use Rattle.def_machine.specs.State.{State, Counts}
+use Rattle.def_machine.specs.State.{State, Counts, thread}
 use Rattle.def_step.specs.declared.Event.{Event}
 use Rattle.def_step.specs.declared.Event.TheVariants.{Step, Sweep}
 use Rattle.def_step.specs.Events.{happens, run, happenings_of, end_of, one_more_step}
 use Rattle.law_routines.proofs.Appended.{run_append, told_append}
+use Rattle.ct_threads.specs.declared.window.Window.{Window}
+use Rattle.ct_threads.specs.Windows.{IsWindow}
 use Rattle.ct_machine.specs.Going.{silence, one_more_sweep, steps_quietly}
-use Rattle.ct_machine.specs.Quiet.{has_sweep, goes_on_quietly, rounds, after_rounds, with_counts, StaysAside, WentRound, WentRounds}
+use Rattle.ct_machine.specs.Quiet.{has_sweep, goes_on_quietly, rounds, after_rounds, with_counts, IsThreadWindow, StaysAside, WentRound, WentRounds}
 use Rattle.ct_machine.proofs.Guards.{kept_by, same_by}
 use Rattle.ct_machine.proofs.Statuses.{and_none}
 use Rattle.ct_machine.proofs.Sweeping.{sweep_silent}
@@ -62,6 +63,12 @@ round_is m n mid counted is aside swept board stepped last going =
       running = ap (λ (s : State). s.running) whole ∙ aside.running;
       going = going;
     }
+
+-- what is counted is nothing that a window speaks of
+pub window_counted : (m n : MachineRow) (t : ℕ) (w : Window) (c : Counts) → n.board ≡ m.board → n.state ≡ with_counts m.state c → IsThreadWindow m t w → IsThreadWindow n t w
+window_counted m n t w c board state has =
+    subst (λ (b : Platform). IsWindow w (thread n.state t).pcc b.image.ram (8 * length n.state.granules)) (sym board)
+    (subst (λ (s : State). IsWindow w (thread s t).pcc m.board.image.ram (8 * length s.granules)) (sym state) has)
 
 abbrev one_round : List Event
 one_round = Sweep ∷ Step ∷ []

@@ -27,7 +27,6 @@ use Rattle.ct_boot.specs.Launching.{launched}
 use Rattle.ct_boot.specs.Placed.{ArePlaced}
 use Rattle.ct_machine.specs.Parts.{HasQuotas, IsKept, IsCounted}
 use Rattle.ct_machine.proofs.Keeping.{machine_by}
-use Rattle.law_boot.proofs.Contents.{granules_count}
 use Rattle.law_started.proofs.Starting.{threads_count}
 use Rattle.ct_machine.specs.Starting.{IsPlan, bank_of, limits_of, rows_of}
 

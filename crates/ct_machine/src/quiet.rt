@@ -7,11 +7,12 @@ ghost use Rattle.def_machine.specs.State.{Counts};
 ghost use Rattle.def_step.specs.Events.{end_of, happens, is_lawful, one_more_step};
 ghost use Rattle.def_step.specs.declared.Event.TheVariants as event;
 ghost use Rattle.ct_machine.specs.Going.{silence, steps_quietly};
-ghost use Rattle.ct_machine.specs.Quiet.{goes_on_quietly, has_sweep, undisturbed, with_counts, StaysAside, WentRound, WentRounds};
+ghost use Rattle.ct_machine.specs.Quiet.{goes_on_quietly, has_sweep, undisturbed, with_counts, IsThreadWindow, StaysAside, WentRound, WentRounds};
 
 use crate::parts::Parts;
 use ct_execute::execute_quietly;
 use ct_mem::Memory;
+use ct_threads::Window;
 
 impl<M: Memory + Drop> Parts<M> {
     /// The running thread, where no tick is pending.
@@ -25,14 +26,23 @@ impl<M: Memory + Drop> Parts<M> {
         self.engine.running()
     }
 
+    /// The addresses at which a fetch by the running thread need only ask for the tag and for a multiple of 4.
+    fn window(&self, t: u32) -> Window
+        requires { self.now.state.running ≡ Some t }
+        ensures { IsThreadWindow self.now t result }
+    {
+        self.engine.window(t)
+    }
+
     /// A step of the running thread that isn't counted yet, where no tick is pending, exactly where `execute_quietly`
     /// carries its instruction out: `true`, and the step tells nothing, whatever was counted. Else `false`, and nothing
-    /// changes.
+    /// changes. The window stays one of the thread.
     #[inline(always)]
-    fn thread_goes_quietly(&mut self, t: u32) -> bool
+    fn thread_goes_quietly(&mut self, t: u32, window: Window) -> bool
         requires guarded { Guarded self.old }
         requires pending { self.old.state.pending ≡ false }
         requires runs { self.old.state.running ≡ Some t }
+        requires window { IsThreadWindow self.old t window }
         ensures when { result ≡ steps_quietly self.old }
         ensures is { result ≡ true → (c : Counts)
             → (one_more_step (with_counts self.new.state c), silence)
@@ -40,8 +50,9 @@ impl<M: Memory + Drop> Parts<M> {
         ensures same { result ≡ false → self.new.state ≡ self.old.state }
         ensures aside { StaysAside self.old self.new }
         ensures going { end_of self.old.state ≡ None }
+        ensures window { IsThreadWindow self.new t window }
     {
-        execute_quietly(&mut self.engine, t, &mut self.decoded)
+        execute_quietly(&mut self.engine, t, &mut self.decoded, window)
     }
 
     /// A step that isn't counted yet, exactly where no tick is pending, a thread runs, and `execute_quietly` carries
@@ -57,7 +68,7 @@ impl<M: Memory + Drop> Parts<M> {
         ensures aside { StaysAside self.old self.new }
     {
         match self.undisturbed() {
-            Some(t) => self.thread_goes_quietly(t),
+            Some(t) => self.thread_goes_quietly(t, Window::empty()),
             None => false,
         }
     }
@@ -90,20 +101,22 @@ impl<M: Memory + Drop> Parts<M> {
     }
 
     /// A slice of a sweep that has no work, and a step of the running thread, where no tick is pending, exactly where
-    /// that is quiet: `true`. Else `false`, and nothing changes.
+    /// that is quiet: `true`. Else `false`, and nothing changes. The window stays one of the thread.
     #[inline(always)]
-    fn round_quietly(&mut self, t: u32) -> bool
+    fn round_quietly(&mut self, t: u32, window: Window) -> bool
         requires guarded { Guarded self.old }
         requires pending { self.old.state.pending ≡ false }
         requires runs { self.old.state.running ≡ Some t }
+        requires window { IsThreadWindow self.old t window }
         requires steps { self.old.state.counts.steps < MOST_STEPS }
         requires sweeps { self.old.state.counts.sweeps < MOST_STEPS }
         ensures when { result ≡ steps_quietly self.old }
         ensures went { result ≡ true → WentRound self.old self.new }
         ensures same { result ≡ false → self.new.state ≡ self.old.state }
         ensures board { self.new.board ≡ self.old.board }
+        ensures window { IsThreadWindow self.new t window }
     {
-        if !self.thread_goes_quietly(t) {
+        if !self.thread_goes_quietly(t, window) {
             return false;
         }
         self.count_sweep();
@@ -112,7 +125,7 @@ impl<M: Memory + Drop> Parts<M> {
     }
 
     /// Such rounds as long as the step is quiet, at most `most`: how many. A quiet step leaves the thread running, no
-    /// tick pending and no sweep with work, so these are looked at once.
+    /// tick pending and no sweep with work, so these are looked at once, and where its code lies is asked once.
     #[inline(always)]
     fn run_thread_quietly(&mut self, t: u32, most: u32) -> u32
         requires guarded { Guarded self.old }
@@ -126,8 +139,9 @@ impl<M: Memory + Drop> Parts<M> {
         ensures stops { result < most → goes_on_quietly self.new ≡ false }
         ensures guarded { Guarded self.new }
     {
+        let window = self.window(t);
         for made in 0..most {
-            if !self.round_quietly(t) {
+            if !self.round_quietly(t, window) {
                 return made;
             }
         }

@@ -8,7 +8,7 @@ use Rattle.def_step.specs.declared.Event.TheVariants.{Step, Sweep}
 use Rattle.def_step.specs.Events.{happens, run, happenings_of, end_of}
 use Rattle.def_script.specs.Script.{Due, given_at}
 use Rattle.ct_machine.specs.Going.{silence}
-use Rattle.ct_machine.specs.Quiet.{rounds, after_rounds, WentRounds}
+use Rattle.ct_machine.specs.Quiet.{after_rounds, WentRounds}
 use Rattle.ct_run.specs.Rounds.{Came, IsBurst, Passed, round_of, ticks_if}
 use Rattle.ct_run.proofs.Coming.{both_came, silent_came}
 use Rattle.ct_run.proofs.Going as writing

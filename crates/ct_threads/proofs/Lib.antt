@@ -7,3 +7,4 @@ pub mod Leaving
 pub mod Handlers
 pub mod Starts
 pub mod Past
+pub mod Windows

@@ -1,14 +1,15 @@
 -- A capability whose address goes past an instruction inside its bounds.
-use Rattle.std.proofs.Common.{ℕ, ◌+◌, ◌%◌, ◌^◌, ◌<◌, ◌≤◌, ◌≡◌, ◌&&◌, nat_le, nat_lt, true, arith, refl, ap, ◌∙◌}
-use Rattle.std.proofs.lemmas.Bool.{leb-true, ltb-true, and_parts}
-use Rattle.law_lists.proofs.Tests.{both_left, both_right}
+use Rattle.std.proofs.Common.{ℕ, ◌+◌, ◌%◌, ◌^◌, ◌≤◌, ◌≡◌, nat_le, true, arith, refl, ap, ◌∙◌}
+use Rattle.std.proofs.lemmas.Bool.{leb-true, eqb-true, and_parts}
 use Rattle.def_words.specs.declared.Cap.{Cap}
-use Rattle.def_words.specs.Authority.{cap_address, cap_base, cap_bounds, cap_high, cap_top, word_of}
-use Rattle.def_words.specs.Capability.{is_range_inside, raised, with_address}
+use Rattle.def_words.specs.Authority.{cap_address, cap_bounds, cap_high, word_of}
+use Rattle.def_words.specs.Capability.{raised, with_address}
 use Rattle.def_words.specs.Permissions.{cap_perms}
 use Rattle.def_words.specs.Seals.{cap_seal}
 use Rattle.law_words.proofs.Words.{perms_same, seal_same}
 use Rattle.ct_cap.proofs.Turned.{Stays, bounds_stay, turned}
+use Rattle.ct_threads.specs.declared.window.Window.{Window}
+use Rattle.ct_threads.specs.Windows.{window_holds, Suits}
 
 abbrev pub next : Cap → ℕ
 next c = cap_address c + 4
@@ -16,17 +17,29 @@ next c = cap_address c + 4
 abbrev pub past : Cap → Cap
 past c = record c { word = c.word + 4 }
 
-pub stays : (c : Cap) → (is_range_inside c (next c) (next c) && nat_lt (cap_top c) (2 ^ 32)) ≡ true → Stays c (next c)
-stays c passes =
-    let ends = and_parts (nat_le (cap_base c) (next c)) (nat_le (next c) (cap_top c)) (both_left (is_range_inside c (next c) (next c)) (nat_lt (cap_top c) (2 ^ 32)) passes) in
-    let high : next c ≤ cap_top c = leb-true (next c) (cap_top c) ends.1 in
-    let less : cap_top c < 2 ^ 32 = ltb-true (cap_top c) (2 ^ 32) (both_right (is_range_inside c (next c) (next c)) (nat_lt (cap_top c) (2 ^ 32)) passes) in
+-- where a window holds its address
+pub stays : (w : Window) (c : Cap) → Suits w c → c.tag ≡ true → window_holds w (cap_address c) ≡ true → Stays c (next c)
+stays w c fits tagged within =
+    let ends = and_parts (nat_le w.from (cap_address c)) (nat_le (cap_address c) w.last) within in
+    let from : w.from ≤ cap_address c = leb-true w.from (cap_address c) ends.0 in
+    let last : cap_address c ≤ w.last = leb-true (cap_address c) w.last ends.1 in
+    let opens = fits (omega (arith, from, last)) tagged in
+    let base = opens.base in
+    let top = opens.top in
+    let less = opens.small in
     record {
-      small = omega (arith, high, less);
-      low = leb-true (cap_base c) (next c) ends.0;
-      high = high;
+      small = omega (arith, last, top, less);
+      low = omega (arith, base, from);
+      high = omega (arith, last, top);
       fits = omega (arith, less);
     }
+
+pub unsealed : (w : Window) (c : Cap) → Suits w c → c.tag ≡ true → window_holds w (cap_address c) ≡ true → cap_seal c ≡ 0
+unsealed w c fits tagged within =
+    let ends = and_parts (nat_le w.from (cap_address c)) (nat_le (cap_address c) w.last) within in
+    let from : w.from ≤ cap_address c = leb-true w.from (cap_address c) ends.0 in
+    let last : cap_address c ≤ w.last = leb-true (cap_address c) w.last ends.1 in
+    eqb-true (cap_seal c) 0 (fits (omega (arith, from, last)) tagged).unsealed
 
 word_is : (c : Cap) → (past c).word ≡ word_of (cap_high c) (next c)
 word_is c = omega arith

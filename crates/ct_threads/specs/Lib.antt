@@ -3,3 +3,4 @@ pub mod Rows
 pub mod Handling
 pub mod Steps
 pub mod Starts
+pub mod Windows

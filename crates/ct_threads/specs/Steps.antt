@@ -1,9 +1,10 @@
 -- What stands at an address of RAM, and what a load or a store leaves of RAM.
-use Rattle.std.specs.Prelude.{ℕ, ◌+◌, ◌*◌, ◌%◌, ◌==◌, ◌&&◌, ◌≡◌, ◌≤◌, Bool, nat_le, List, [], Result, Ok, Err, MatchResult}
+use Rattle.std.specs.Prelude.{ℕ, ◌+◌, ◌*◌, ◌%◌, ◌==◌, ◌&&◌, ◌≡◌, ◌≤◌, Bool, nat_le, is_none, List, [], Result, Ok, Err, MatchResult}
 use Rattle.def_profile.specs.declared.limits.TheConstants.{RAM_END}
 use Rattle.def_profile.specs.declared.native.TheConstants.{LAST_NATIVE, NATIVE_BASE, NATIVE_UNIT, RETURN}
 use Rattle.def_words.specs.declared.Cap.{Cap}
 use Rattle.def_words.specs.declared.Trap.{Trap}
+use Rattle.def_words.specs.Authority.{cap_address}
 use Rattle.def_instr.specs.declared.Instr.{Instr}
 use Rattle.def_instr.specs.Table.{InRange}
 use Rattle.def_memory.specs.declared.Granule.{Granule}
@@ -12,17 +13,27 @@ use Rattle.def_step.specs.declared.Next.{Next}
 use Rattle.def_step.specs.declared.Next.TheVariants.{Returning, Instruction, Native, Nothing}
 use Rattle.def_step.specs.declared.TheConstants.{LAST_ROUTINE}
 use Rattle.def_step.specs.Accesses.{MemoryAndDevices, access_result}
+use Rattle.def_step.specs.Checks.{first_failed}
 use Rattle.def_step.specs.Devices.{DeviceStates}
+use Rattle.def_step.specs.Instructions.{fetch_checks}
 use Rattle.ct_loadstore.specs.Shapes.{MovedRow}
 
 abbrev pub no_bank : DeviceStates
 no_bank = record { bases = []; states = [] }
 
--- past the entries of native routines, a whole word of RAM stands at an address that is a multiple of 4
+-- the first address past the entries of native routines
+abbrev pub first_after_native : ℕ
+first_after_native = NATIVE_BASE + NATIVE_UNIT * (LAST_NATIVE + 1)
+
+-- past the native routines, a whole word of RAM stands at an address that is a multiple of 4
 abbrev pub is_word_of_ram : ℕ → List Granule → ℕ → Bool
 is_word_of_ram ram gs at =
-    nat_le (NATIVE_BASE + NATIVE_UNIT * (LAST_NATIVE + 1)) at
-    && (lies_in ram gs at 4 && (at % 4 == 0))
+    nat_le first_after_native at && (lies_in ram gs at 4 && (at % 4 == 0))
+
+-- each check of a fetch passes, and a whole word of RAM stands at the capability's address, past the native routines
+abbrev pub finds_word : Cap → ℕ → List Granule → Bool
+finds_word c ram gs =
+    is_none (first_failed (fetch_checks c)) && is_word_of_ram ram gs (cap_address c)
 
 -- of a native routine but the return: its number is at most the last
 pub record IsRoutine (number : ℕ) : Type 0 where

@@ -1,19 +1,24 @@
 //! What stands at an address.
 
-ghost use Rattle.std.specs.Prelude.{◌≡◌, ◌%◌, ◌&&◌, ◌==◌, IfSome, is_some};
+ghost use Rattle.std.specs.Prelude.{◌≡◌, ◌+◌, ◌*◌, ◌%◌, ◌≤◌, ◌&&◌, ◌==◌, IfSome, is_some, length};
+ghost use Rattle.def_words.specs.Authority.{cap_address};
 ghost use Rattle.def_instr.specs.Reading.{instruction_in};
 ghost use Rattle.def_machine.specs.Memory.{lies_in};
 ghost use Rattle.def_step.specs.Instructions.{fetched, next_at, next_native, next_word, is_native_entry};
 ghost use Rattle.ct_loadstore.specs.Shapes.{space_of};
-ghost use Rattle.ct_threads.specs.Steps.{is_word_of_ram, no_bank, NextInRange};
+ghost use Rattle.ct_threads.specs.Steps.{finds_word, first_after_native, is_word_of_ram, no_bank, NextInRange};
+ghost use Rattle.ct_threads.specs.Windows.{IsWindow};
 
+use crate::registers::may_fetch;
+use crate::window::Window;
+use ct_cap::Live;
 use ct_isa::decode;
 use ct_mem::Memory;
 use def_profile::native::{LAST_NATIVE, NATIVE_BASE, NATIVE_UNIT, RETURN_ENTRY};
 use def_step::{LAST_ROUTINE, Next};
 
 /// The first address past the entries of native routines.
-const FIRST_AFTER_NATIVE: u32 = NATIVE_BASE + NATIVE_UNIT * (LAST_NATIVE + 1);
+pub(crate) const FIRST_AFTER_NATIVE: u32 = NATIVE_BASE + NATIVE_UNIT * (LAST_NATIVE + 1);
 
 /// Whether an aligned word at an address lies in RAM.
 #[inline(always)]
@@ -74,17 +79,62 @@ pub fn next<M: Memory>(mem: &M, ram: u32, at: u32) -> Next
 
 /// The word at an address, hidden or not, where it lies past the native routines, is a multiple of 4, and a whole word
 /// of RAM stands there; else `None`.
-///
-/// Condition: RAM begins at a multiple of 16.
-#[inline(always)]
-pub fn word_at<M: Memory>(mem: &M, ram: u32, at: u32) -> Option<u32>
+fn word_at<M: Memory>(mem: &M, ram: u32, at: u32) -> Option<u32>
     requires { ram % 16 ≡ 0 }
     ensures when { is_some result ≡ is_word_of_ram ram (M.granules mem.now) at }
     ensures given { IfSome result (λ w. next_at (space_of ram (M.granules mem.now) no_bank 0) at
         ≡ next_word (instruction_in w)) }
 {
     if at >= FIRST_AFTER_NATIVE && is_aligned_in_ram(mem, ram, at) {
-        return Some(mem.load(at - ram, 4));
+        return Some(word_there(mem, ram, at));
     }
     None
+}
+
+/// The word at an address past the native routines, a multiple of 4 at which a whole word of RAM stands.
+#[inline(always)]
+fn word_there<M: Memory>(mem: &M, ram: u32, at: u32) -> u32
+    requires even { ram % 16 ≡ 0 }
+    requires native { first_after_native ≤ at }
+    requires begin { ram ≤ at }
+    requires end { at + 4 ≤ ram + 8 * length (M.granules mem.now) }
+    requires whole { at % 4 ≡ 0 }
+    ensures { next_at (space_of ram (M.granules mem.now) no_bank 0) at
+        ≡ next_word (instruction_in result) }
+{
+    mem.load(at - ram, 4)
+}
+
+/// What `fetch_word` finds, with each check asked.
+#[inline(never)]
+fn fetch_anew<M: Memory>(pcc: &Live, mem: &M, ram: u32) -> Option<u32>
+    requires { ram % 16 ≡ 0 }
+    ensures when { is_some result ≡ finds_word pcc.now ram (M.granules mem.now) }
+    ensures given { IfSome result (λ w. next_at (space_of ram (M.granules mem.now) no_bank 0)
+        (cap_address pcc.now) ≡ next_word (instruction_in w)) }
+{
+    if !may_fetch(pcc) {
+        return None;
+    }
+    word_at(mem, ram, pcc.address())
+}
+
+/// The word at a program counter capability's address, hidden or not, where each check of a fetch passes, the address
+/// lies past the native routines and is a multiple of 4, and a whole word of RAM stands there; else `None`. Where the
+/// address is one of the window's next to nothing is asked.
+///
+/// Conditions: RAM begins at a multiple of 16, and the window is one of the capability.
+#[inline(always)]
+pub fn fetch_word<M: Memory>(pcc: &Live, mem: &M, ram: u32, window: Window) -> Option<u32>
+    requires even { ram % 16 ≡ 0 }
+    requires window { IsWindow window pcc.now ram (8 * length (M.granules mem.now)) }
+    ensures when { is_some result ≡ finds_word pcc.now ram (M.granules mem.now) }
+    ensures given { IfSome result (λ w. next_at (space_of ram (M.granules mem.now) no_bank 0)
+        (cap_address pcc.now) ≡ next_word (instruction_in w)) }
+{
+    let at = pcc.address();
+    if pcc.cap.tag && window.holds(at) && at % 4 == 0 {
+        return Some(word_there(mem, ram, at));
+    }
+    fetch_anew(pcc, mem, ram)
 }

@@ -13,11 +13,13 @@ mod handling;
 mod registers;
 mod starting;
 mod turns;
+mod window;
 
 pub use accesses::access;
 pub use calls::{call_row, end_row, return_row};
-pub use fetching::{next, word_at};
+pub use fetching::{fetch_word, next};
 pub use handling::{handle_row, value_of};
-pub use registers::{branch_row, filter_row, jump_row, may_fetch, put_row, read, read_ref};
+pub use registers::{branch_row, filter_row, jump_row, put_row, read, read_ref};
 pub use starting::begin;
 pub use turns::{pick_row, stop_row};
+pub use window::{Window, window_of};

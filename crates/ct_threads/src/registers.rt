@@ -1,22 +1,20 @@
 //! A row's registers and its program counter, and how its thread goes on.
 
-ghost use Rattle.std.specs.Prelude.{◌≡◌, ◌+◌, ◌<◌, ◌^◌, ◌&&◌, is_none, map, nat_lt, slice_index_or};
-ghost use Rattle.def_words.specs.Authority.{cap_address, cap_top};
-ghost use Rattle.def_words.specs.Capability.{integer, is_range_inside, raised, with_address};
+ghost use Rattle.std.specs.Prelude.{◌≡◌, ◌<◌, is_none, map, slice_index_or};
+ghost use Rattle.def_words.specs.Capability.{integer, raised, with_address};
 ghost use Rattle.def_memory.specs.Granules.{plain};
 ghost use Rattle.def_machine.specs.Memory.{filtered_in};
 ghost use Rattle.def_machine.specs.Registers.{written};
 ghost use Rattle.def_step.specs.Checks.{first_failed};
 ghost use Rattle.def_step.specs.Instructions.{fetch_checks};
 ghost use Rattle.ct_threads.specs.Rows.{row_gone};
+ghost use Rattle.ct_threads.specs.Windows.{Suits};
 
+use crate::window::Window;
 use ct_areas::Thread;
 use ct_cap::{Live, Permission, Posture, raise, turn};
 use ct_loadstore::filter;
 use ct_mem::Memory;
-
-/// The first number past all addresses.
-const ADDRESSES_END: u64 = 1 << 32;
 
 /// A register gets a value, which register 0 drops.
 fn write(registers: &mut [Live; 16], number: u32, value: Live)
@@ -57,24 +55,14 @@ pub fn jump_row(t: &mut Thread, pcc: Live, posture: Posture, to: u32, value: Liv
     t.posture = posture;
 }
 
-/// Whether a capability's bounds hold the address four bytes past its own or end there, and don't reach to the last
-/// address.
+/// The capability with its address raised past an instruction, by the address rule. Where it is
+/// tagged and its address is one of the window's nothing is decoded.
 #[inline(always)]
-fn holds_next(l: &Live) -> bool
-    ensures { result ≡ (is_range_inside l.now (cap_address l.now + 4) (cap_address l.now + 4)
-        && nat_lt (cap_top l.now) (2 ^ 32)) }
-{
-    let next = l.address() as u64 + 4;
-    l.bounds.base <= next && next <= l.bounds.top && l.bounds.top < ADDRESSES_END
-}
-
-/// The capability with its address raised past an instruction, by the address rule. It asks first what the checks of a
-/// fetch ask of tag, seal and bounds, so that where it follows them at once next to nothing is asked twice.
-#[inline(always)]
-fn go_past(l: &mut Live)
+fn go_past(l: &mut Live, window: Window)
+    requires { Suits window l.old }
     ensures { l.new ≡ raised l.old 4 }
 {
-    if l.cap.tag && l.seal == 0 && holds_next(l) {
+    if l.cap.tag && window.holds(l.address()) {
         l.cap.word += 4;
         return;
     }
@@ -83,12 +71,15 @@ fn go_past(l: &mut Live)
 
 /// A row whose thread goes on after its instruction; a register, whose number is below 16, gets a value, which register
 /// 0 drops.
+///
+/// Condition: the window suits the row's program counter capability.
 #[inline(always)]
-pub fn put_row(t: &mut Thread, to: u32, value: &Live)
-    requires { to < 16 }
+pub fn put_row(t: &mut Thread, to: u32, value: &Live, window: Window)
+    requires to { to < 16 }
+    requires window { Suits window t.old.pcc }
     ensures { t.new ≡ row_gone t.old (raised t.old.pcc 4) t.old.posture to value.now }
 {
-    go_past(&mut t.pcc);
+    go_past(&mut t.pcc, window);
     if to != 0 {
         t.regs[to as usize] = *value;
     }
@@ -122,7 +113,7 @@ pub fn filter_row<M: Memory>(t: &mut Thread, mem: &M)
 
 /// Whether each check of a fetch passes.
 #[inline(always)]
-pub fn may_fetch(pcc: &Live) -> bool
+pub(crate) fn may_fetch(pcc: &Live) -> bool
     ensures { result ≡ is_none (first_failed (fetch_checks pcc.now)) }
 {
     if !pcc.cap.tag {

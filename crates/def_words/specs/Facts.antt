@@ -51,7 +51,7 @@ Spells high set = normal_set (bit_and (unpacked (permission_bits high)) set) ≡
 abbrev pub KindFits : ℕ → ℕ → Type 0
 KindFits set kind = (kind ≡ 0) ⊎ ((kind ≢ 0) × (seal_type (bit set execute) (kind % 8) ≡ kind))
 
--- what derive is asked for
+-- what derive may be asked for
 pub record MayDerive (high base length set address kind : ℕ) : Type 0 where
   pub root : IsRoot high
   pub low : base < 2 ^ 32

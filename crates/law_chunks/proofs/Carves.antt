@@ -5,16 +5,16 @@ use Rattle.def_words.specs.declared.Cap.{Cap}
 use Rattle.def_memory.specs.declared.Granule.{Granule}
 use Rattle.def_memory.specs.Granules.{plain, granule_at}
 use Rattle.def_memory.specs.Accesses.{stored_cap}
-use Rattle.law_granules.proofs.Lists.{cap_back, cap_rest, cap_marks}
+use Rattle.law_granules.proofs.Lists.{cap_back, cap_rest}
 use Rattle.std.proofs.lemmas.List.{length-set}
 use Rattle.def_chunks.specs.declared.heads.TheConstants.{NO_CHUNK}
 use Rattle.def_chunks.specs.declared.rows.Range.{Range}
-use Rattle.def_chunks.specs.Chunks.{Chunk, is_free, total, first_free, head_of, head_at, Lays, Starts, IsChunk, AreChunks}
+use Rattle.def_chunks.specs.Chunks.{Chunk, is_free, total, first_free, head_of, head_at, Lays, IsChunk, AreChunks}
 use Rattle.def_chunks.specs.Tiles.{chunks, TiledBy, Tiled}
 use Rattle.def_chunks.specs.Changes.{replaced, parts, taken, in_state, linked}
-use Rattle.def_chunks.specs.Gaps.{NoFree, IsLastFree, LastFree, ChunkStands, FreeStands, UsedStands, FreeLinked}
+use Rattle.def_chunks.specs.Gaps.{LastFree, FreeStands, UsedStands, FreeLinked}
 use Rattle.law_chunks.proofs.Lays.{lays_same, lays_both, lays_join, free_both, none_first, unlinked, relinked, total_both, first_stays, are_split, are_join, total_even, starts_low, starts_high, starts_even}
-use Rattle.law_chunks.proofs.Reading.{Done, done, Sits, sits, sits_by, replaced_is}
+use Rattle.law_chunks.proofs.Reading.{Done, done, sits, sits_by, replaced_is}
 
 -- ---- heads at other addresses stay
 

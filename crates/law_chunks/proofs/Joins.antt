@@ -1,9 +1,9 @@
 -- What is let go and joined: chunks again, of the same size together, of which no two free ones touch.
 use Rattle.std.proofs.Common.{ℕ, zero, suc, ◌≡◌, ◌+◌, ◌-◌, ◌*◌, ◌/◌, ◌%◌, ◌^◌, ◌<◌, ◌≤◌, ◌⊎◌, inl, inr, ◌||◌, Bool, true, false, not, cond, nat_eq, List, [], ◌∷◌, ◌++◌, map, refl, sym, ap, ◌∙◌, arith, subst}
 use Rattle.law_lists.proofs.Tests.{bool_tells, eq_tells}
-use Rattle.def_chunks.specs.Chunks.{Chunk, is_free, total, IsChunk, AreChunks, BeginsUsed, NoneTouch}
-use Rattle.def_chunks.specs.Changes.{painted_chunk, all_painted, free_chunk, leaves, gap, joined, released}
-use Rattle.law_chunks.proofs.Lays.{total_both, are_join, are_split}
+use Rattle.def_chunks.specs.Chunks.{Chunk, is_free, total, AreChunks, BeginsUsed, NoneTouch}
+use Rattle.def_chunks.specs.Changes.{painted_chunk, all_painted, leaves, gap, joined}
+use Rattle.law_chunks.proofs.Lays.{total_both, are_join}
 
 -- ---- gaps
 

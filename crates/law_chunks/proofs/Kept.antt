@@ -4,20 +4,19 @@ use Rattle.std.proofs.lemmas.List.{length-set}
 use Rattle.law_lists.proofs.Tests.{bool_tells, le_tells, lt_tells, both_left, both_right}
 use Rattle.def_words.specs.declared.Cap.{Cap}
 use Rattle.def_memory.specs.declared.Granule.{Granule}
-use Rattle.def_memory.specs.Granules.{plain, granule_at, blank}
+use Rattle.def_memory.specs.Granules.{plain, granule_at}
 use Rattle.def_memory.specs.Accesses.{IsAccess, IsPlace, stored, stored_cap, with_part}
 use Rattle.def_memory.specs.Ranges.{IsZeroed, IsMarked}
 use Rattle.law_granules.proofs.Lists.{store_rest, cap_rest}
-use Rattle.def_machine.specs.State.{Object}
 use Rattle.def_machine.specs.Image.{Image, trusted_end}
 use Rattle.def_machine.specs.Objects.{Each, charges}
 use Rattle.def_hidden.specs.Hidden.{is_live_at, is_hidden_at}
 use Rattle.def_chunks.specs.declared.heads.TheConstants.{NO_CHUNK}
 use Rattle.def_chunks.specs.declared.rows.Range.{Range}
-use Rattle.def_chunks.specs.Chunks.{Chunk, is_free, total, head_at, Lays, Starts, IsChunk, AreChunks, NoneTouch}
+use Rattle.def_chunks.specs.Chunks.{Chunk, is_free, head_at, Lays, Starts, AreChunks, NoneTouch}
 use Rattle.def_chunks.specs.Tiles.{chunks, TiledBy, Tiled, TilesSettled}
-use Rattle.def_chunks.specs.Changes.{InUse, Spared}
-use Rattle.def_chunks.specs.Heaps.{HeapRow, objects_in, object_at, objects_of, quota_named, is_named, is_used_at, account, Distinct, waiting_in, Laid, IsHeapOf}
+use Rattle.def_chunks.specs.Changes.{InUse}
+use Rattle.def_chunks.specs.Heaps.{HeapRow, objects_in, object_at, objects_of, quota_named, is_used_at, Distinct, waiting_in, Laid, IsHeapOf}
 use Rattle.def_chunks.specs.Kept.{MissesHeads, KeepsHeap, KeepsUntagged}
 use Rattle.law_chunks.proofs.Lays.{lays_same, starts_low, starts_high, starts_even}
 use Rattle.law_chunks.proofs.Reading.{chunks_are}

@@ -1,9 +1,8 @@
 -- Chunks in memory: what leaves them as they are, what relinks them, what takes them apart.
 use Rattle.std.proofs.Common.{ℕ, zero, suc, ◌≡◌, ◌+◌, ◌-◌, ◌*◌, ◌/◌, ◌%◌, ◌^◌, ◌<◌, ◌≤◌, ◌⊎◌, inl, inr, Bool, true, false, cond, List, [], ◌∷◌, ◌++◌, refl, sym, ap, ◌∙◌, arith, subst}
-use Rattle.law_lists.proofs.Tests.{bool_tells}
 use Rattle.def_words.specs.declared.Cap.{Cap}
 use Rattle.def_memory.specs.declared.Granule.{Granule}
-use Rattle.def_chunks.specs.Chunks.{Chunk, is_free, total, first_free, head_of, head_at, Lays, Starts, IsChunk, AreChunks}
+use Rattle.def_chunks.specs.Chunks.{Chunk, is_free, total, first_free, head_of, head_at, Lays, Starts, AreChunks}
 use Rattle.def_chunks.specs.Gaps.{NoFree}
 
 -- what holds the same at each head lays the same chunks

@@ -9,7 +9,7 @@ use Rattle.def_machine.specs.Objects.{Each, ApartFrom}
 use Rattle.def_machine.specs.Heap.{Fits, IsPlaceFor}
 use Rattle.def_chunks.specs.declared.rows.Range.{Range}
 use Rattle.def_chunks.specs.declared.rows.Gap.{Gap}
-use Rattle.def_chunks.specs.Chunks.{Chunk, is_free, total, IsChunk, AreChunks, NoneTouch, BeginsUsed}
+use Rattle.def_chunks.specs.Chunks.{Chunk, is_free, total, AreChunks, NoneTouch, BeginsUsed}
 use Rattle.def_chunks.specs.Tiles.{chunks, TilesSettled}
 use Rattle.def_chunks.specs.Gaps.{HasRoomAt, IsGap, NoGap}
 use Rattle.def_chunks.specs.Heaps.{objects_in, object_at, quota_named, IsHeapOf, IsUnit}

@@ -1,6 +1,6 @@
 -- The chunks that lie in memory are read from it, and no others.
 use Rattle.std.proofs.Common.{ℕ, zero, suc, ◌≡◌, ◌+◌, ◌-◌, ◌*◌, ◌/◌, ◌%◌, ◌^◌, ◌<◌, ◌≤◌, ◌⊎◌, inl, inr, Bool, true, false, cond, nat_lt, nat_eq, List, [], ◌∷◌, ◌++◌, length, refl, sym, ap, ◌∙◌, arith, subst}
-use Rattle.law_lists.proofs.Tests.{bool_tells, lt_tells, eq_tells}
+use Rattle.law_lists.proofs.Tests.{lt_tells, eq_tells}
 use Rattle.def_words.specs.declared.Cap.{Cap}
 use Rattle.def_memory.specs.declared.Granule.{Granule}
 use Rattle.def_chunks.specs.declared.heads.TheConstants.{NO_CHUNK}
@@ -9,7 +9,7 @@ use Rattle.def_chunks.specs.declared.rows.Head.{Head}
 use Rattle.def_chunks.specs.Chunks.{Chunk, is_free, total, first_free, head_of, head_at, head_in, Lays, IsChunk, AreChunks}
 use Rattle.def_chunks.specs.Tiles.{chunk_of, read, chunks, TiledBy, Tiled}
 use Rattle.def_chunks.specs.Changes.{replaced}
-use Rattle.def_chunks.specs.Gaps.{ChunkStands, FreeStands, UsedStands}
+use Rattle.def_chunks.specs.Gaps.{ChunkStands}
 use Rattle.law_chunks.proofs.Lays.{total_both, lays_both, are_split, total_even}
 
 -- ---- a head tells its chunk

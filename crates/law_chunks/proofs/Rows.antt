@@ -2,10 +2,10 @@
 use Rattle.std.proofs.Common.{ℕ, zero, suc, ◌≡◌, ◌+◌, ◌-◌, ◌*◌, ◌/◌, ◌%◌, ◌^◌, ◌<◌, ◌≤◌, ◌⊎◌, inl, inr, ◌||◌, ◌&&◌, Bool, true, false, not, cond, nat_eq, nat_lt, List, [], ◌∷◌, ◌++◌, map, length, refl, sym, ap, ◌∙◌, arith, subst}
 use Rattle.law_lists.proofs.Tests.{bool_tells, eq_tells, lt_tells}
 use Rattle.def_machine.specs.State.{Object}
-use Rattle.def_machine.specs.Objects.{Each, charges, quarantine, placed_among, has_quarantined, painted, unpainted}
+use Rattle.def_machine.specs.Objects.{Each, charges, quarantine, placed_among, painted, unpainted}
 use Rattle.def_chunks.specs.Chunks.{Chunk, is_free, total, IsChunk, AreChunks}
-use Rattle.def_chunks.specs.Changes.{parts, taken, in_state, painted_chunk, all_painted, free_chunk, leaves, gap, joined, released}
-use Rattle.def_chunks.specs.Heaps.{object_at, objects_in, quota_named, is_used_at, Distinct, waiting_in}
+use Rattle.def_chunks.specs.Changes.{parts, painted_chunk, all_painted, leaves, gap, joined}
+use Rattle.def_chunks.specs.Heaps.{object_at, objects_in, quota_named, Distinct, waiting_in}
 use Rattle.law_chunks.proofs.Joins.{gap_total, stays_used}
 
 -- ---- rows one after another

@@ -2,7 +2,7 @@
 use Rattle.std.proofs.Common.{ℕ, zero, suc, ◌≡◌, ◌+◌, ◌-◌, ◌*◌, ◌/◌, ◌%◌, ◌^◌, ◌<◌, ◌≤◌, ◌⊎◌, inl, inr, Bool, true, false, cond, nat_eq, List, [], ◌∷◌, ◌++◌, length, refl, sym, ap, ◌∙◌, arith, subst}
 use Rattle.std.proofs.lemmas.Bool.{cases_eq}
 use Rattle.law_lists.proofs.Sets.{after_set_at}
-use Rattle.law_lists.proofs.Tests.{bool_tells, eq_tells, lt_tells, le_tells}
+use Rattle.law_lists.proofs.Tests.{lt_tells, le_tells}
 use Rattle.def_words.specs.declared.Cap.{Cap}
 use Rattle.def_memory.specs.declared.Granule.{Granule}
 use Rattle.def_memory.specs.Granules.{nothing, granule_at}
@@ -10,10 +10,10 @@ use Rattle.def_memory.specs.Accesses.{stored_cap}
 use Rattle.def_memory.specs.Ranges.{IsZeroed}
 use Rattle.law_granules.proofs.Lists.{cap_rest, cap_marks}
 use Rattle.def_chunks.specs.declared.rows.Range.{Range}
-use Rattle.def_chunks.specs.Chunks.{Chunk, is_free, total, Starts, IsChunk, AreChunks}
+use Rattle.def_chunks.specs.Chunks.{Chunk, is_free, total, Starts, AreChunks}
 use Rattle.def_chunks.specs.Tiles.{TiledBy}
 use Rattle.def_chunks.specs.Changes.{InUse, Spared, KeepsRest, NoTagComes, OnlyHeads}
-use Rattle.law_chunks.proofs.Lays.{are_split, total_both, starts_low, starts_high}
+use Rattle.law_chunks.proofs.Lays.{starts_low, starts_high}
 use Rattle.law_chunks.proofs.Carves.{store_length}
 
 -- ---- addresses in use

@@ -3,13 +3,12 @@ use Rattle.std.proofs.Common.{ℕ, zero, suc, ◌≡◌, ◌+◌, ◌*◌, ◌/�
 use Rattle.def_profile.specs.Areas.{frame_after}
 use Rattle.law_lists.proofs.Tests.{bool_tells}
 use Rattle.def_words.specs.declared.Cap.{Cap}
-use Rattle.def_words.specs.Capability.{untagged}
 use Rattle.def_memory.specs.declared.Granule.{Granule}
-use Rattle.def_memory.specs.Granules.{plain, nothing, granule_at, cap_in, caps_from}
+use Rattle.def_memory.specs.Granules.{granule_at, cap_in, caps_from}
 use Rattle.def_machine.specs.State.{Frame}
 use Rattle.def_machine.specs.Memory.{filtered_in, is_marked_in}
 use Rattle.def_words.specs.Authority.{cap_base}
-use Rattle.def_areas.specs.Areas.{low_word, high_word, frame_place, frame_at, frame_export, caller_actor, caller_top, caller_handling, frames_from}
+use Rattle.def_areas.specs.Areas.{low_word, high_word, frame_place, frame_at, caller_actor, caller_top, caller_handling, frames_from}
 use Rattle.def_machine.specs.Slices.{filtered_between, kept_granules, kept_frame, kept_frames, kept_registers, KeepsWords}
 use Rattle.law_hidden.proofs.Slices.{zero_passes}
 

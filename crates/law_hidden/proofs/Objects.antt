@@ -1,7 +1,7 @@
 -- What is seen of memory as the heap's objects change.
 use Rattle.std.proofs.Common.{ℕ, ◌≡◌, ◌+◌, ◌-◌, ◌*◌, ◌≤◌, ◌<◌, ◌⊎◌, inl, inr, ◌&&◌, Bool, true, false, not, cond, nat_le, nat_lt, List, [], ◌∷◌, length, refl, sym, ap, ◌∙◌, arith}
 use Rattle.std.proofs.lemmas.Bool.{or_cases, or_left, or_right}
-use Rattle.law_lists.proofs.Tests.{chosen, bool_tells, le_tells, lt_tells}
+use Rattle.law_lists.proofs.Tests.{chosen, le_tells, lt_tells}
 use Rattle.law_granules.proofs.Lists.{zeroed_length, zeroed_at, marked_length, marked_at}
 use Rattle.def_words.specs.declared.Cap.{Cap}
 use Rattle.def_memory.specs.declared.Granule.{Granule}

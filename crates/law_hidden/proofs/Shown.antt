@@ -4,7 +4,6 @@ use Rattle.law_lists.proofs.Tests.{le_tells, lt_tells}
 use Rattle.def_words.specs.declared.Cap.{Cap}
 use Rattle.def_memory.specs.declared.Granule.{Granule}
 use Rattle.def_memory.specs.Granules.{granule_at}
-use Rattle.def_hidden.specs.Hidden.{is_live_at}
 use Rattle.def_chunks.specs.Chunks.{Starts}
 use Rattle.def_chunks.specs.Tiles.{chunks}
 use Rattle.def_chunks.specs.Heaps.{HeapRow, objects_of, Laid}

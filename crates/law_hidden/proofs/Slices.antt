@@ -3,8 +3,7 @@ use Rattle.std.proofs.Common.{ℕ, suc, ◌≡◌, ◌+◌, inl, inr, ◌&&◌, 
 use Rattle.law_lists.proofs.Tests.{bool_tells}
 use Rattle.def_words.specs.declared.Cap.{Cap}
 use Rattle.def_memory.specs.declared.Granule.{Granule}
-use Rattle.def_memory.specs.Granules.{plain, blank}
-use Rattle.def_machine.specs.Memory.{filtered_in}
+use Rattle.def_memory.specs.Granules.{plain}
 use Rattle.def_hidden.specs.Hiding.{hide, with_hidden, with_hidden_from}
 use Rattle.law_hidden.proofs.Steps.{filtered_same}
 use Rattle.def_machine.specs.Slices.{filtered_between, kept_granules}

@@ -3,7 +3,7 @@ use Rattle.std.proofs.Common.{ℕ, ◌≡◌, ◌+◌, ◌-◌, ◌*◌, ◌/◌
 use Rattle.std.proofs.lemmas.Nat.{mul-le, pow-add, div-add-mod'}
 use Rattle.def_profile.specs.declared.limits.TheConstants.{MOST_BYTES}
 use Rattle.def_words.specs.LeastBounds.{ceil_units, exponent_for}
-use Rattle.law_words.proofs.Leasts.{ceil_le, ceil_above}
+use Rattle.law_words.proofs.Leasts.{ceil_le}
 use Rattle.law_words.proofs.Exacts.{no_larger}
 use Rattle.def_layout.specs.Placement.{whole_size, region_length}
 use Rattle.law_layout.proofs.Placing.{length_above}

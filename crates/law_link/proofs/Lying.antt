@@ -14,8 +14,6 @@ use Rattle.def_image.specs.Sizes.{sum_of, header_size, shared_at, sealed_at, com
 use Rattle.def_image.specs.Regions.{RegionRow, TrustedPart, trusted_region, trusted_length, shared_regions, sealed_regions, compartment_regions, library_regions, stack_regions, later_regions}
 use Rattle.def_image.specs.Regions as regions
 use Rattle.def_image.specs.Checks.{first, walked, check}
-use Rattle.def_image.specs.Profile.{most_threads}
-use Rattle.def_image.specs.declared.taken.TheConstants.{THREADS_TAKEN}
 use Rattle.def_image.specs.Lying.{meets, meets_native, is_laid, is_heap_laid, region_asked, meets_device, is_device_laid, device_asked, region_checks}
 use Rattle.def_image.specs.Sound.{IsAway}
 use Rattle.def_desc.specs.declared.Ram.{Ram}

@@ -14,10 +14,10 @@ use Rattle.def_source.specs.declared.parts.Section.{Section}
 use Rattle.def_source.specs.declared.parts.Section.TheVariants as section
 use Rattle.def_source.specs.declared.parts.Part.{Part}
 use Rattle.def_source.specs.declared.parts.Part.TheVariants as part
-use Rattle.def_source.specs.Source.{Name, Statements, in_section, numbers_fit, registers_exist, is_lawful, lines_of, section_after, program_of, lawful_from, or_else}
+use Rattle.def_source.specs.Source.{Name, Statements, in_section, numbers_fit, registers_exist, is_lawful, lines_of, section_after, program_of, lawful_from}
 use Rattle.def_object.specs.declared.Place.{Place}
 use Rattle.def_object.specs.declared.Fault.{Fault}
-use Rattle.def_object.specs.Object.{Labels, size_at, offset, advanced, start, label_in, size_fault, reference_fault, statement_fault, on_line, lesser, is_least, fault_from, fault_in, number_word, is_short, upper_part, rest_part, padding, same_section, instructions_at, word_bytes, instruction_bytes, bytes_at, section_bytes, bytes_from, text_of, initial_of}
+use Rattle.def_object.specs.Object.{Labels, size_at, offset, advanced, start, label_in, size_fault, reference_fault, statement_fault, on_line, fault_from, fault_in, number_word, is_short, padding, same_section, instructions_at, word_bytes, instruction_bytes, bytes_at, section_bytes, bytes_from, text_of, initial_of}
 use Rattle.ct_asm.proofs.Walks.{neither, no_number, either_none}
 use Rattle.law_assembly.proofs.Lengths.{at_place, after_section, filled, statement_length}
 

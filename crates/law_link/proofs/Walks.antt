@@ -2,7 +2,7 @@
 use Rattle.std.proofs.Common.{ℕ, zero, suc, ◌≡◌, ◌+◌, Bool, true, false, cond, List, [], ◌∷◌, ◌++◌, take, Some, None, slice_get, refl, sym, ap, ◌∙◌, subst, append_assoc, append-nil}
 use Rattle.std.specs.List.{AllByRecursion}
 use Rattle.def_image.specs.declared.Check.{Check}
-use Rattle.def_image.specs.Checks.{first, walked, check}
+use Rattle.def_image.specs.Checks.{first, walked}
 use Rattle.law_image.proofs.Passing.{left_none, right_none, joined_none}
 
 -- ---- checks

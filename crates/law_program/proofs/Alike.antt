@@ -5,7 +5,7 @@ use Rattle.std.proofs.lemmas.Option.{slice_get_cases, slice_get_past, slice_get_
 use Rattle.def_desc.specs.Rows.{DescRow}
 use Rattle.def_desc.specs.WellFormed.{WellFormed}
 use Rattle.def_image.specs.Accepted.{IsImage}
-use Rattle.def_image.specs.Parts.{PartsRow, upgraded}
+use Rattle.def_image.specs.Parts.{PartsRow}
 use Rattle.def_image.specs.Spelling.{image_bytes}
 use Rattle.def_link.specs.declared.LinkFault.{LinkFault}
 use Rattle.def_link.specs.Linked.{linked}

@@ -10,7 +10,7 @@ use Rattle.def_script.specs.declared.ScriptFault.TheVariants.{At}
 use Rattle.def_script.specs.Script.{Row, BeginsWithRow, NoScriptLine, Due, ReadsAsScript, IsScriptFault, device_named, is_inner}
 use Rattle.law_script.proofs.Lines.{line_long}
 use Rattle.ct_script.specs.Fields.{IsNumber, NoNumber, IsName, NoName, row_of}
-use Rattle.ct_script.specs.Lines.{LinesRow, Going, Takes, IsRefusal, dues_of, given_of, last_of, with_line}
+use Rattle.ct_script.specs.Lines.{LinesRow, Going, IsRefusal, dues_of, given_of, last_of, with_line}
 use Rattle.ct_script.proofs.Accounts as account
 use Rattle.ct_script.proofs.Accounts.{fault_is, goes_on, reads}
 use Rattle.ct_script.proofs.Parts.{place_of, endless, other_end, no_digits, number_is, name_is, no_front, no_space, other_byte, no_step, no_count, too_many, no_name, no_byte, bad_byte, line_is}

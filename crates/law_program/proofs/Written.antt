@@ -21,13 +21,12 @@ use Rattle.def_step.specs.declared.Event.{Event}
 use Rattle.def_program.specs.Answers.{AllRead, Answers, Whole, contents}
 use Rattle.def_program.specs.Calls.{CallRecord}
 use Rattle.def_program.specs.Commands.{Command, Audit, Image, Run, RunImage, Why, Upgrade, Check, Demo}
-use Rattle.def_program.specs.Licences.{LinksTo, NumberStandsFor, StandFor}
+use Rattle.def_program.specs.Licences.{LinksTo, StandFor}
 use Rattle.def_program.specs.Lines.{description_line, image_line, link_status, link_text, script_line}
-use Rattle.def_program.specs.Runs.{demo_text, events_until, last_line, run_lines, run_text, summary_after}
-use Rattle.def_program.specs.Safe.{IsSafeRun}
-use Rattle.def_program.specs.Turns.{Turn, Asks, Ends, Follows, OfDescription, OfFirst, OfImage, OfLinked, OfNumber, OfParts, OfRows, OfRun, OfScript, OfSources, source_names}
+use Rattle.def_program.specs.Runs.{demo_text, events_until, last_line, run_text, summary_after}
+use Rattle.def_program.specs.Turns.{Turn, Asks, Ends, Follows, OfLinked, OfRows, OfRun, OfScript, OfSources, source_names}
 use Rattle.def_program.specs.Within.{state_after}
-use Rattle.def_program.specs.Written.{IsRun, IsRunWritten, IsScriptFile, WritesRun, WritesRunOf, WritesSummary, event_lines, run_report}
+use Rattle.def_program.specs.Written.{IsRun, IsRunWritten, IsScriptFile, WritesRun, WritesRunOf, WritesSummary, run_report}
 use Rattle.def_program.specs.declared.Status.{Status}
 use Rattle.def_program.specs.declared.Status.TheVariants as status
 use Rattle.def_program.specs.declared.TheConstants.{DEMO_STEPS}
@@ -37,7 +36,7 @@ use Rattle.def_gen.specs.Sources as generated
 use Rattle.law_accepted.proofs.Running.{licensed}
 use Rattle.law_program.proofs.Licences.{stands_faultless}
 use Rattle.law_program.proofs.Safe.{safe}
-use Rattle.law_program.proofs.Telling.{run_is_told, text_of}
+use Rattle.law_program.proofs.Telling.{run_is_told}
 use Rattle.law_program.proofs.Ending.{same_command}
 
 -- ---- what a run's text is of

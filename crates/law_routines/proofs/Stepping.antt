@@ -9,7 +9,7 @@ use Rattle.def_words.specs.Traps.{plain_trap}
 use Rattle.def_profile.specs.declared.traps.TheConstants.{ILLEGAL_INSTRUCTION}
 use Rattle.def_instr.specs.declared.Instr.{Instr}
 use Rattle.def_machine.specs.Image.{Image, stack_base}
-use Rattle.def_machine.specs.State.{State, Thread, Frame, thread}
+use Rattle.def_machine.specs.State.{State, Frame, thread}
 use Rattle.def_machine.specs.Frames.{ended_with, returned, unwound}
 use Rattle.def_step.specs.declared.Next.{Next}
 use Rattle.def_step.specs.Checks.{first_failed}

@@ -1,3 +1,8 @@
+use Rattle.std.proofs.Common.{◌*◌, length, sym, subst}
+use Rattle.def_machine.specs.State.{thread}
+use Rattle.ct_threads.specs.declared.window.Window.{Window}
+use Rattle.ct_threads.proofs.Windows.{empty_is}
+use Rattle.ct_machine.specs.Quiet.{IsThreadWindow}
 use Rattle.ct_machine.proofs.Quietly.{undisturbed_parts, disturbed_loud}
 use Rattle.ct_machine.proofs.parts.Parts.go_quietly.Goals as goal
 
@@ -6,6 +11,11 @@ thread_goes_quietly-requires-clause-pending g c = (undisturbed_parts c.args.self
 
 pub thread_goes_quietly-requires-clause-runs : goal.thread_goes_quietly-requires-clause-runs
 thread_goes_quietly-requires-clause-runs g c = (undisturbed_parts c.args.self.now.state c.in-Some.t c.in-Some.ensures).1
+
+pub thread_goes_quietly-requires-clause-window : goal.thread_goes_quietly-requires-clause-window
+thread_goes_quietly-requires-clause-window g c =
+    let m = c.args.self.now in
+    subst (λ (w : Window). IsThreadWindow m c.in-Some.t w) (sym c.empty.ensures) (empty_is (thread m.state c.in-Some.t).pcc m.board.image.ram (8 * length m.state.granules))
 
 pub returns-in-None-clause-when : goal.returns-in-None-clause-when
 returns-in-None-clause-when g c = disturbed_loud c.args.self.now c.in-None.ensures

@@ -6,9 +6,9 @@ use Rattle.def_machine.specs.Platform.{MachineRow}
 use Rattle.ct_engine.specs.Seen.{Seen}
 use Rattle.ct_machine.specs.Going.{steps_quietly}
 use Rattle.ct_machine.specs.Parts.{state_by}
-use Rattle.ct_machine.specs.Quiet.{has_sweep, with_counts}
+use Rattle.ct_machine.specs.Quiet.{has_sweep, with_counts, IsThreadWindow}
 use Rattle.ct_machine.proofs.Opened.{is_open}
-use Rattle.ct_machine.proofs.Quietly.{kept_after, quietly_is, when_runs, sweep_stays, none_ended}
+use Rattle.ct_machine.proofs.Quietly.{kept_after, quietly_is, when_runs, sweep_stays, none_ended, window_in, window_out}
 use Rattle.ct_machine.proofs.parts.Parts.thread_goes_quietly.Goals as goal
 
 -- as the machine is seen, and so as it stands
@@ -26,6 +26,12 @@ execute_quietly-requires-clause-opened g c =
     let i = c.self.inside in
     let guarded = subst Guarded (sym c.self.view_is) c.requires.guarded in
     is_open i.plan i.engine i.sched i.pending i.bus.states i.time i.counts c.args.t c.self.invariant.0 guarded.shut guarded.keeps.confined (ap (λ (m : MachineRow). m.state.running) c.self.view_is ∙ c.requires.runs)
+
+pub execute_quietly-requires-clause-window : goal.execute_quietly-requires-clause-window
+execute_quietly-requires-clause-window g c =
+    let i = c.self.inside in
+    window_in i.plan i.engine i.sched i.bus i.pending i.time i.counts c.args.t c.args.window c.self.invariant.0
+    (subst (λ (m : MachineRow). IsThreadWindow m c.args.t c.args.window) (sym c.self.view_is) c.requires.window)
 
 pub invariant_of-self : goal.invariant_of-self
 invariant_of-self g c =
@@ -68,3 +74,10 @@ pub returns-clause-going : goal.returns-clause-going
 returns-clause-going g c =
     let i = c.self.inside in
     subst (λ (m : MachineRow). end_of m.state ≡ None) c.self.view_is (none_ended i.plan i.engine i.sched i.pending i.bus.states i.time i.counts c.args.t c.self.invariant.0 (runs_now _ c.args.self.now c.args.t c.self.view_is c.requires.runs))
+
+pub returns-clause-window : goal.returns-clause-window
+returns-clause-window g c =
+    let i = c.self.inside in
+    let kept = kept_after i.plan i.engine c.execute_quietly.new.engine i.sched i.bus i.pending i.time i.counts c.args.t c.self.invariant.0 c.self.invariant.1 (runs_now _ c.args.self.now c.args.t c.self.view_is c.requires.runs)
+    c.execute_quietly.ensures.stays c.execute_quietly.result (λ told. c.execute_quietly.ensures.quiet told i.plan.entries i.bus i.time) c.execute_quietly.ensures.same in
+    window_out i.plan c.execute_quietly.new.engine i.sched i.bus i.pending i.time i.counts c.args.t c.args.window kept.0 c.execute_quietly.ensures.window
