@@ -1,9 +1,14 @@
 #!/usr/bin/env python3
 """Holds the pages to the sources: what a page names is there, what it counts is so, what is made is as made.
 
-    docs/check.py               compares; status 1 where something isn't so, with place and reason
-    docs/check.py --write       makes the made parts, pictures and counted numbers anew first
-    docs/check.py --below NAME  prints the definitions below one, in reading order, with their lines
+    docs/check.py                     compares; status 1 where something isn't so, with place and reason
+    docs/check.py --write             makes the made parts, pictures and counted numbers anew first, digests apart
+    docs/check.py --digests           makes the digests anew: what must be believed has changed, and was read again
+    docs/check.py --below NAME        the definitions below a clause of capfw or a definition, the nearest first
+    docs/check.py --contracts CRATE   the public calls or laws of a crate: clauses, what they say, where they are claimed
+    docs/check.py --surface [CRATE]   the calls and types that crates are there for, as the sources have them
+    docs/check.py --rooms             the crates by section, with what each says of itself
+    docs/check.py --recipes           compares the recipes alone, and says how many files each has
 
 No program and no proof is looked at, only files. checks/ has what is looked at, by subject.
 """
@@ -13,16 +18,15 @@ import sys
 
 sys.dont_write_bytecode = True
 sys.path.insert(0, os.path.dirname(os.path.abspath(__file__)))
-from checks import blocks, counts, pages, pictures, reading, sources, surface  # noqa: E402
+from checks import blocks, counts, lists, marks, pages, pictures, reading, recipes, sources, surface  # noqa: E402
 
-THEOREMS = "docs/claims/theorems.md"
-CONTRACTS = "docs/build/contracts.md"
-MOST_WORDS = {"Promises": 2500}
+MOST_WORDS = {"README.md": 1500}
+MOST_OF_ALL = 50000
 MOST_LINES = 800
 
 
 def check_crates(faults):
-    """crates.txt has each crate that is there, once, and names none above its line."""
+    """crates.txt has each crate that is there, once, and names none above its line; each says what it is."""
     names = [line.partition(":")[0].strip() for line in sources.text_of("crates.txt").split("\n")
              if ":" in line and not line.startswith("#")]
     there = sorted(name for name in os.listdir(sources.path_of("crates")) if os.path.isdir(
@@ -34,36 +38,8 @@ def check_crates(faults):
         for use in sources.crates()[name].uses:
             if use in names[place:]:
                 faults.append(f"crates.txt: {name} names {use}, which comes later")
-
-
-def check_map(faults):
-    """The map names each crate of crates.txt once, in that order."""
-    text = sources.text_of("docs/build/map.md")
-    text = text[text.find("<!-- made: rooms -->"):]
-    listed = re.findall(r"^- `(\w+)`:", text[:text.find("<!-- end -->")], re.M)
-    if listed != list(sources.crates()):
-        lost = [name for name in sources.crates() if name not in listed]
-        more = [name for name in listed if name not in sources.crates()]
-        faults.append(f"docs/build/map.md: isn't crates.txt; missing {lost[:5]}, too many {more[:5]}")
-
-
-def check_told(faults):
-    """Each public law and each public call with a contract is on one of the two pages."""
-    told = pages.named_calls(THEOREMS)
-    text = sources.text_of(CONTRACTS)
-    crate = None
-    for line in text.split("\n"):
-        if line.startswith("**"):
-            crate = line[2:].partition("**")[0]
-        elif line.startswith("- `"):
-            told.add(f"{crate}::{line[3:].partition('`')[0]}")
-    for crate in sources.crates().values():
-        if not crate.name.startswith(("ct_", "law_")):
-            continue
-        for item in crate.public_items():
-            if item.kind == "fn" and item.clauses and f"{crate.name}::{item.path}" not in told:
-                faults.append(f"{item.file}:{item.line}: {crate.name}::{item.path} is neither in {THEOREMS} nor in "
-                              f"{CONTRACTS}")
+        if not sources.crates()[name].summary:
+            faults.append(f"crates/{name}/src: no first sentence says what the crate is")
 
 
 def check_rooms(faults):
@@ -85,39 +61,44 @@ def check_proofs(faults):
 
 
 def check_sizes(faults):
-    for heading, most in MOST_WORDS.items():
-        text = sources.text_of(THEOREMS)
-        start = text.find(f"\n## {heading}\n")
-        end = text.find("\n## ", start + 1)
-        words = len(text[start:end].split()) if start >= 0 else 0
-        if start < 0 or words >= most:
-            faults.append(f"{THEOREMS}: {heading} has {words} words, of fewer than {most}")
+    """No page and no script is longer than somebody reads."""
+    words = {path: len(sources.text_of(path).split()) for path in pages.pages()}
+    faults += [f"{path}: {words[path]} words, of fewer than {most}"
+               for path, most in MOST_WORDS.items() if words[path] >= most]
+    whole = sum(count for path, count in words.items() if path.startswith("docs/") or path == "README.md")
+    if whole > MOST_OF_ALL:
+        faults.append(f"docs: {whole} words with the README, of at most {MOST_OF_ALL}")
     for path in sources.files_below("docs", ".py"):
         if sources.text_of(path).count("\n") >= MOST_LINES:
             faults.append(f"{path}: {MOST_LINES} lines and more")
 
 
 def check_parts(faults):
-    """Each definition that reading.md counts by name is there."""
+    """Each definition whose size and digest are told by name is there."""
     for text, name in reading.PARTS:
         if not reading.below_name(name).definitions:
             faults.append(f"docs/checks/reading.py: there is no {name} ({text})")
 
 
-def all_faults(write):
+def all_faults(wanted):
+    """What isn't so, after the made parts whose names are wanted were written."""
     faults = []
     check_crates(faults)
     if faults:
         return faults
-    counts.check_numbers(faults, write)
-    pictures.check_pictures(faults, write)
+    writes = wanted("everything else")
+    counts.check_numbers(faults, writes)
+    pictures.check_pictures(faults, writes)
     for path in pages.pages():
-        blocks.check_made(path, faults, write)
+        blocks.write(path, wanted)
+        blocks.check_made(path, faults)
     sources.more_words.update(counts.row_names())
     for path in pages.pages():
         pages.check_page(path, faults)
-    pages.check_calls(THEOREMS, faults)
-    for check in (check_map, check_told, check_rooms, check_proofs, check_sizes, check_parts, surface.check_surface):
+    for path in marks.PAGES:
+        pages.check_calls(path, faults)
+    for check in (marks.check_told, check_rooms, check_proofs, check_sizes, check_parts, sources.check_errors,
+                  surface.check_surface, recipes.check_recipes, pages.check_cited, pages.check_read):
         check(faults)
     for name, rows in counts.tables().items():
         if not rows:
@@ -125,16 +106,33 @@ def all_faults(write):
     return faults
 
 
+def show(words):
+    """What was asked for by name; None where nothing was."""
+    crates = sources.crates()
+    if words[:1] == ["--below"] and len(words) == 2:
+        return lists.below(words[1]) or None
+    if words[:1] == ["--contracts"] and len(words) == 2 and words[1] in crates:
+        return lists.contracts(words[1])
+    if words[:1] == ["--surface"] and len(words) < 3 and set(words[1:]) <= set(surface.SURFACE):
+        return lists.public_surface(*words[1:])
+    return lists.rooms() if words == ["--rooms"] else None
+
+
 def main(words):
-    if len(words) == 2 and words[0] == "--below":
-        for file, definitions in reading.in_order(reading.below_name(words[1])):
-            for each in definitions:
-                print(f"{file}:{each.first}: {each.name}")
+    shown = show(words)
+    if shown is not None:
+        print(shown)
         return 0
-    if words not in ([], ["--write"]):
+    if words == ["--recipes"]:
+        faults = []
+        for name, listed, apart in recipes.check_recipes(faults):
+            print(f"recipe by {name}: {listed} files that name it, {apart} that don't")
+    elif words in ([], ["--write"], ["--digests"]):
+        made = {"--write": lambda name: name != blocks.DIGESTS, "--digests": lambda name: name == blocks.DIGESTS}
+        faults = all_faults(made.get("".join(words), lambda name: False))
+    else:
         print(__doc__)
         return 2
-    faults = all_faults(bool(words))
     for fault in faults:
         print(f"docs: {fault}")
     print(f"docs: {len(pages.pages())} pages, {len(faults)} faults")

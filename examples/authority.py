@@ -1,7 +1,7 @@
 #!/usr/bin/env python3
 """What code in a compartment may ever use, whatever that code is: its own entries, and those of who reaches it.
 
-    bin/capfw audit FIRMWARE.json | python3 examples/authority.py [COMPARTMENT..]
+    capfw audit FIRMWARE.json | authority.py [COMPARTMENT..]
 
 It answers for each compartment that is named, or for all. Entries of the compartment itself come first, then those
 of every other owner that reaches it, with the path and the reason of each step (docs/use/report.md, "Reach"). Left
@@ -10,7 +10,8 @@ out are code, globals, the switcher's slots, and exports but those that turn int
 import sys
 
 sys.dont_write_bytecode = True
-from reports import NO_REPORT, report_of, table, text  # noqa: E402
+import manners  # noqa: E402
+from reports import report_read, table, text  # noqa: E402
 
 
 def counts(entry):
@@ -47,14 +48,14 @@ def answer(report, compartment):
 
 
 def main(words):
-    report, _ = report_of(sys.stdin.read())
-    for name in words or report.compartments:
+    parser = manners.Words(__doc__)
+    parser.add_argument("compartments", nargs="*")
+    named, report = parser.parse_args(words).compartments, report_read()[0]
+    for name in named or report.compartments:
         if name not in report.compartments:
-            print(f"no compartment {name}: there are {', '.join(report.compartments)}", file=sys.stderr)
-            return NO_REPORT
+            raise manners.Refusal(f"no compartment {name}: there are {', '.join(report.compartments)}")
         print("\n".join(answer(report, name)))
-    return 0
 
 
 if __name__ == "__main__":
-    sys.exit(main(sys.argv[1:]))
+    manners.run(main)

@@ -1,15 +1,18 @@
 #!/usr/bin/env python3
 """What changed from one report to another, by names, and whether authority grew: for a review, or for a build.
 
-    python3 examples/changes.py OLD NEW
+    changes.py OLD NEW [--code OLD_DIGESTS NEW_DIGESTS] [--description DESC]
 
-OLD and NEW are files with a report line. It writes
+OLD and NEW are files with a report line, and the digests what digests.py wrote of the two images. It writes
 
     + and - for an entry, a device, a thread, an owner or an edge of the sharing graph that came or went,
     ~       for one that changed, with what it was and is; its number and its base in RAM don't count,
-    grew    for each power that code in a compartment may use by NEW and could not, or not so far, by OLD.
+    code    for each owner whose text, entries, initial data or sealed bytes are others, by the digests,
+    grew    for each power that code in a compartment may use by NEW and could not, or not so far, by OLD; with DESC,
+            which is the new build's, also where in it the entry stands that gives the power.
 
-Status 0: authority didn't grow. Status 1: it grew. Status 2: no two reports.
+Status 0: authority didn't grow. Status 1: it grew. Status 2: no two reports, or no digests. Code that changed is no
+growth: the report holds whatever the code is.
 
 Authority *grew* where there is a `grew` line. What code in a compartment may use are the powers of all entries whose
 owner reaches it (docs/use/report.md, "Reach"): to use code and globals of another compartment, to read or write a
@@ -23,13 +26,18 @@ arguments or how much stack an export takes, and the names of slots.
 import sys
 
 sys.dont_write_bytecode = True
+import manners  # noqa: E402
+from places import shown  # noqa: E402
+from places.descriptions import Description  # noqa: E402
+from places.growth import spots  # noqa: E402
 from powers import powers_in  # noqa: E402
-from reports import NO_REPORT, allowed, file_of, report_of  # noqa: E402
+from reports import allowed, report_in  # noqa: E402
 
 # of each kind of entry the members that are compared; `may` are its rights in words
 MEMBERS = {"code": ["length"], "globals": ["length"], "stack": ["length"], "service": [], "call": [], "library": [],
            "device": ["may"], "shared": ["may", "length"], "sealed": ["type", "length"], "quota": ["limit"],
            "key": ["base"], "export": ["passes", "posture", "args", "stack"]}
+SHORT = 12  # digits of a sum that are written
 NONE = "none"  # a member that only one of the reports has, as of an export of a library that became a compartment
 
 
@@ -68,7 +76,8 @@ def changed(old, new):
 
 
 def grown(old, new):
-    """A line for each power that a compartment may use by the new report, and not so far by the old."""
+    """Each power that a compartment may use by the new report, and not so far by the old: its line, the compartment,
+    who holds it, and the power."""
     for compartment in new.compartments:
         before = powers_in(old, compartment) if compartment in old.compartments else {}
         for power, (extent, holder) in powers_in(new, compartment).items():
@@ -76,19 +85,56 @@ def grown(old, new):
             if extent > past:
                 far = f", {extent} bytes" + (f" and not {past}" if past else "") if extent > 1 else ""
                 through = "" if holder == compartment else f", which {holder} holds"
-                yield f"grew: {compartment} may {power}{far}{through}"
+                yield f"grew: {compartment} may {power}{far}{through}", compartment, holder, power
+
+
+# ---- code, by its digests
+
+def digests_in(file):
+    """The digests of a file: of each name and kind its bytes and its sum."""
+    out = {}
+    for line in manners.text_in(file).splitlines():
+        words = line.split(" ")
+        if len(words) != 4 or words[0] not in ("text", "entries", "data", "sealed"):
+            raise manners.Refusal(f"{file}: not what digests.py writes: {line[:80]}")
+        out.setdefault(words[1], {})[words[0]] = words[2:]
+    return out
+
+
+def recoded(old, new):
+    """A line for each name that both builds have and whose code, data or sealed bytes are others."""
+    for name in (name for name in new if name in old):
+        kinds = [kind for kind in {**old[name], **new[name]} if old[name].get(kind) != new[name].get(kind)]
+        words = []
+        for kind in kinds:
+            (was, before), (now, after) = old[name].get(kind, ("0", "")), new[name].get(kind, ("0", ""))
+            sizes = f", {was} -> {now} {'exports' if kind == 'entries' else 'bytes'}" if was != now else ""
+            words.append(f"{kind} {before[:SHORT] or NONE} -> {after[:SHORT] or NONE}{sizes}")
+        if kinds:
+            yield f"code: {name} {'; '.join(words)}"
 
 
 def main(words):
-    if len(words) != 2:
-        print(__doc__.split("\n\n")[1].strip(), file=sys.stderr)
-        return NO_REPORT
-    old, new = (report_of(file_of(word))[0] for word in words)
+    parser = manners.Words(__doc__)
+    parser.add_argument("reports", nargs=2)
+    parser.add_argument("--code", nargs=2, default=[])
+    parser.add_argument("--description")
+    options = parser.parse_args(words)
+    old, new = (report_in(file)[0] for file in options.reports)
+    codes = [digests_in(file) for file in options.code]
+    d = Description.read(options.description) if options.description else None
     found = list(grown(old, new))
-    for line in [*changed(rows(old), rows(new)), *found]:
+    for line in [*changed(rows(old), rows(new)), *(recoded(*codes) if codes else [])]:
         print(line)
+    for line, compartment, holder, power in found:
+        print(line)
+        for spot in spots(d, new, compartment, holder, power) if d else []:
+            print(f"    {spot.head()}: {spot.member}: {spot.says}")
+            if shown.is_annotated():
+                spot.says, spot.hints = f"authority: {line}", []
+                print(shown.annotation(spot))
     return 1 if found else 0
 
 
 if __name__ == "__main__":
-    sys.exit(main(sys.argv[1:]))
+    manners.run(main)

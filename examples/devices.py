@@ -1,7 +1,7 @@
 #!/usr/bin/env python3
 """A table of a report: who may touch which device, and through which entry.
 
-    bin/capfw audit FIRMWARE.json | python3 examples/devices.py
+    capfw audit FIRMWARE.json | devices.py
 
 An entry's owner isn't alone: a compartment that the owner reaches in the sharing graph may come to use
 the entry too. The column `reached` names them; it is the owner itself where nothing is shared. Owners
@@ -10,7 +10,8 @@ of device entries are compartments: a library imports libraries alone.
 import sys
 
 sys.dont_write_bytecode = True
-from reports import report_of, table  # noqa: E402
+import manners  # noqa: E402
+from reports import report_read, table  # noqa: E402
 
 
 def rows(report):
@@ -24,5 +25,10 @@ def rows(report):
                 yield (device["name"], *marks, entry["number"], entry["owner"], users)
 
 
+def main(words):
+    manners.Words(__doc__).parse_args(words)
+    print("\n".join(table(rows(report_read()[0]))))
+
+
 if __name__ == "__main__":
-    print("\n".join(table(rows(report_of(sys.stdin.read())[0]))))
+    manners.run(main)

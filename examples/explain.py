@@ -1,7 +1,7 @@
 #!/usr/bin/env python3
 """Says where in the files a refusal of capfw is, what is wrong there, and what may have been meant.
 
-    bin/capfw WORDS.. | examples/explain.py WORDS..
+    capfw WORDS.. | explain.py [--sarif FILE] WORDS..
 
 It takes the words that capfw takes, in the same folder, and what capfw wrote as its input. All of that goes on to the
 output, and after a refusal or a denial one line for each thing that is at fault,
@@ -9,202 +9,68 @@ output, and after a refusal or a denial one line for each thing that is at fault
     FILE:LINE:COLUMN: MEMBER: NUMBER: WHY
 
 with the line itself, marks under it and hints. MEMBER is a path that jq takes. Of an image it is FILE byte PLACE:
-FIELD.
+FIELD. Of a path, that of a denial or the one that `why` writes, each step has its entry and its line. A member that
+stands twice in the description is warned of, on standard error where nothing was refused.
 
-Status 0: nothing was refused, or it was explained. Status 1: the files aren't those that were refused.
+`--sarif` writes what was found to FILE too, as SARIF 2.1.0. Where GITHUB_ACTIONS is `true`, a line `::error ..`
+follows for each, by which a server marks the place. Status 0: nothing was refused, or it was explained. Status 1: the
+files aren't those that were refused.
 """
-import os
-import re
+import argparse
 import sys
 
 sys.dont_write_bytecode = True
-from places import descriptions, images, linking, rules  # noqa: E402
+import manners  # noqa: E402
+from places import shown  # noqa: E402
+from places.calls import Call  # noqa: E402
 from places.members import NoJson  # noqa: E402
-from places.texts import Found, Text, meant  # noqa: E402
+from places.refusals import explained, warned  # noqa: E402
 
-# The words of each command, and which of them name files.
-FORMS = {
-    "audit": ["DESC"], "image": ["DESC"], "run": ["DESC", "LIMIT", "SCRIPT"], "runimage": ["IMAGE", "LIMIT", "SCRIPT"],
-    "why": ["DESC", "OWNER", "COMPARTMENT"], "upgrade": ["IMAGE"], "check": ["DESC", "POLICY"], "demo": ["NUMBER"]}
-LAST_IS_OPTIONAL = ("run", "runimage")
-MOST_STEPS, MOST_NUMBER = 4_000_000_000, 2 ** 32 - 1
-LARGEST_FILE = 16_777_216
+REFUSED = ("refused ", "denied ")
+# what comes where a file isn't the one that a line is about: what the line says of it doesn't hold
+OTHER_FILES = (OSError, NoJson, LookupError, AttributeError, TypeError, ValueError, RuntimeError)
 
 
-class Call:
-    """A call of capfw by its words."""
-
-    def __init__(self, words):
-        self.words = words
-        self.named = dict(zip(FORMS.get(words[0], []), words[1:])) if words else {}
-
-    def description(self):
-        return descriptions.Description.read(self.named["DESC"])
-
-    def word(self, index, says, hints=()):
-        """What is found at a word of the call."""
-        text = Text("words", " ".join(self.words).encode("utf-8", "surrogateescape"))
-        if index >= len(self.words):
-            return Found(text, len(text.text), len(text.text) + 1, "", says, list(hints))
-        start = sum(len(word) + 1 for word in self.words[:index])
-        return Found(text, start, start + len(self.words[index]), "", says, list(hints))
-
-
-# ---- each refusal, by its status: what is found
-
-def usage(call, *_):
-    words = call.words
-    if not words or words[0] not in FORMS:
-        return [call.word(0, "1: no command", meant(words[0] if words else "", FORMS, "commands"))]
-    form = FORMS[words[0]]
-    hint = [f"written {words[0]} {' '.join(form)}" + (", the last one or not" if words[0] in LAST_IS_OPTIONAL else "")]
-    if len(words) - 1 > len(form):
-        return [call.word(len(form) + 1, "1: a word too many", hint)]
-    if len(words) - 1 < len(form) - (words[0] in LAST_IS_OPTIONAL):
-        return [call.word(len(words), "1: a word is missing", hint)]
-    for index, name in enumerate(form, 1):
-        least, most = {"LIMIT": (1, MOST_STEPS), "NUMBER": (0, MOST_NUMBER)}.get(name, (0, 0))
-        why = rules.number_fault(words[index], least, most) if most else None
-        if why:
-            return [call.word(index, f"1: {name}: {why}", hint)]
-    return []
-
-
-def near_files(call, file):
-    """Hints on a file that isn't there."""
-    folder, name = os.path.split(file)
-    beside = os.path.join(os.path.dirname(call.named.get("DESC", "")), file)
-    if beside != file and os.path.isfile(beside):
-        return [f"{beside} is there: names count from the folder of the call, so cd {os.path.dirname(beside)} first"]
-    there = sorted(os.listdir(folder or ".")) if os.path.isdir(folder or ".") else []
-    return meant(name, there)
-
-
-def unread(call, file):
-    """Where a file is named that couldn't be read."""
-    why = "it is a folder" if os.path.isdir(file) else "it isn't there" if not os.path.exists(file) else \
-        "it can't be read"
-    return [at_file(call, file, f"2: {why}", near_files(call, file) if why == "it isn't there" else [])]
-
-
-def at_file(call, file, says, hints):
-    if file in call.words[1:]:
-        return call.word(call.words.index(file, 1), says, hints)
-    found = linking.missing_file(call.description(), call.words, file)
-    found.says, found.hints = says, list(hints)
-    return found
-
-
-def large(call, file):
-    says = f"3: it has {os.path.getsize(file)} bytes, {LARGEST_FILE} are allowed"
-    return [at_file(call, file, says, ["is it the file that was meant?"])]
-
-
-def description(call, number, part, index, item):
-    return descriptions.find(Text.read(call.named["DESC"]), number, part, int(index), int(item))
-
-
-def source(call, number, owner, line):
-    return linking.line_fault(call.description(), number, owner, int(line))
-
-
-def link(call, number, first, second):
-    if number == "L2":
-        return linking.room_fault(call.description(), int(first), int(second))
-    if number == "L4":
-        return linking.data_fault(call.description(), first)
-    if number == "L3":
-        return linking.line_fault(call.description(), number, first, int(second))
-    return linking.export_fault(call.description(), first, int(second))
-
-
-def image(call, number, place):
-    return images.find(call.named["IMAGE"], image_bytes(call), number, int(place))
-
-
-def image_bytes(call):
-    with open(call.named["IMAGE"], "rb") as file:
-        return file.read()
-
-
-def script(call, number, line):
-    if "IMAGE" in call.named:
-        devices = images.Image(image_bytes(call)).devices
-    else:
-        devices = [(node.text("name"), node.text("kind")) for node in call.description().top.items("devices")]
-    return spot_of_first(rules.first_of_script(Text.read(call.named["SCRIPT"]), devices), number, line)
-
-
-def policy(call, number, line):
-    return spot_of_first(rules.first_of_policy(Text.read(call.named["POLICY"]), call.description()), number, line)
-
-
-def spot_of_first(first, number, line):
-    return [first[2]] if first and first[:2] == (number, int(line)) else []
-
-
-def no_name(call, *_):
-    d = call.description()
-    owners, compartments = d.names("compartments") + d.names("libraries"), d.names("compartments")
-    for index, name, names, what in ((2, call.words[2], owners, "owners"), (3, call.words[3], compartments,
-                                                                          "compartments")):
-        if name not in names:
-            hints = meant(name, names, what)
-            if name in owners:
-                hints = ["it is a library; a compartment is wanted here"]
-            elif name in d.names("threads"):
-                hints = ["it is a thread, which owns nothing but its stack"]
-            return [call.word(index, f"11: no {'compartment or library' if what == 'owners' else 'compartment'} "
-                                     "has this name", hints)]
-    return []
-
-
-def denied(call, line, *rest):
-    """The rule that is broken, and the entry that breaks it."""
-    rule = Text.read(call.named["POLICY"])
-    start = rule.at(int(line), 1)
-    if rest[0] == "path":
-        says = f"12: {rest[1]} reaches {rest[-1]}" + (f" by {', '.join(rest[2:-1])}" if rest[2:-1] else "")
-        return [Found(rule, start, start + len(rule.line(int(line))), "", says)]
-    d = call.description()
-    what, node, path = linking.entries(d)[int(rest[0])]
-    found = Found(rule, start, start + len(rule.line(int(line))), "", f"12: broken by entry {rest[0]}, {what}")
-    return [found, d.found(node, path, f"entry {rest[0]}")]
-
-
-REFUSALS = {"1": usage, "2": unread, "3": large, "4": description, "5": source, "6": link, "7": image, "8": script,
-            "11": no_name, "13": policy}
-
-
-def explained(call, line):
-    """What is found for a line of capfw; None where it is no refusal and no denial."""
-    words = line.split(" ")
-    if words[0] == "denied" and re.fullmatch(r"denied [0-9]+ ([0-9]+|path( [^ ]+)+)", line):
-        return denied(call, *words[1:])
-    if words[0] != "refused" or len(words) < 3 or words[1] not in REFUSALS:
-        return None
-    rest = [line.split(" ", 3)[3]] if words[1] in ("2", "3") else words[3:]
-    return REFUSALS[words[1]](call, *rest)
-
-
-def main():
-    output = sys.stdin.buffer.read()
-    sys.stdout.buffer.write(output)
-    sys.stdout.buffer.flush()
+def found_of(call, output):
+    """What is found for what capfw wrote; None for a line that isn't about these files."""
     lines = output.decode("utf-8", "surrogateescape").splitlines()
-    status, call = 0, Call(sys.argv[1:])
-    for line in lines if lines and lines[0].startswith(("refused ", "denied ")) else []:
+    wanted = REFUSED + ("path ",) * (call.words[:1] == ["why"])
+    for line in lines if lines and lines[0].startswith(wanted) else []:
         try:
             found = explained(call, line)
-        except (OSError, NoJson, KeyError):
+        except OTHER_FILES:
             found = []
-        if found == []:
-            print("the files aren't those that this line is about", file=sys.stderr)
-            status = 1
-        for it in found or []:
-            print("\n".join(it.lines()))
-    return status
+        yield from [None] if found == [] else found or []
+
+
+def show(all_found, options, write):
+    """Writes what was found as text, to a file in SARIF, and as annotations."""
+    for it in all_found:
+        write("\n".join(it.lines()))
+    if options.sarif:
+        with open(options.sarif, "w", encoding="utf-8") as file:
+            file.write(shown.sarif(all_found))
+    for it in all_found if shown.is_annotated() else []:
+        write(shown.annotation(it))
+
+
+def main(words):
+    parser = manners.Words(__doc__)
+    parser.add_argument("--sarif", metavar="FILE")
+    parser.add_argument("words", nargs=argparse.REMAINDER)
+    options = parser.parse_args(words)
+    output = manners.input_bytes("what capfw wrote")
+    sys.stdout.buffer.write(output)
+    sys.stdout.buffer.flush()
+    call = Call(options.words)
+    found = list(found_of(call, output))
+    is_refused = output.startswith(tuple(word.encode() for word in REFUSED))
+    write = print if is_refused or found else manners.complain
+    show([it for it in found if it] + warned(call), options, write)
+    if None in found:
+        return manners.complain("the files aren't those that this line is about") and 1
+    return 0
 
 
 if __name__ == "__main__":
-    sys.exit(main())
+    manners.run(main)

@@ -1,8 +1,8 @@
 #!/usr/bin/env python3
 """RAM as a firmware lays it out: what stands where, how large it is, and what is left.
 
-    python3 examples/map.py FIRMWARE.json
-    python3 examples/map.py FIRMWARE.image
+    map.py FIRMWARE.json
+    map.py FIRMWARE.image
 
 The description or the image is linked and read by the plain model of the tests; both must be ones that the program
 accepts. First comes each region in the order of addresses, the slots and the text of a code region apart; `rounding`
@@ -12,8 +12,9 @@ with what the quotas may take of it.
 import sys
 
 sys.dont_write_bytecode = True
+import manners  # noqa: E402
 import plain  # noqa: E402
-from reports import NO_REPORT, table  # noqa: E402
+from reports import table  # noqa: E402
 
 SLOT, TABLE_HEAD, TABLE_ROW, TRUSTED_HEAD, THREAD_AREA, FRAME = 8, 16, 16, 16, 160, 64
 
@@ -71,16 +72,14 @@ def heap_lines(firmware):
 
 
 def main(words):
-    if len(words) != 1:
-        print(__doc__.split("\n\n")[1], file=sys.stderr)
-        return NO_REPORT
-    firmware = plain.firmware_of(words[0])
+    parser = manners.Words(__doc__)
+    parser.add_argument("firmware")
+    firmware = plain.firmware_of(parser.parse_args(words).firmware)
     rows = list(region_rows(firmware.image))
     print("\n".join(table([("from", "to", "bytes", "of", "what"), *(
         (f"{base:08x}", f"{base + length:08x}", length, owner, what) for base, length, owner, what in rows)])))
     print("\n".join(["", *table([("of", "bytes", "of RAM"), *sums(firmware.image, rows)]), "", *heap_lines(firmware)]))
-    return 0
 
 
 if __name__ == "__main__":
-    sys.exit(main(sys.argv[1:]))
+    manners.run(main)

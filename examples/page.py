@@ -1,68 +1,27 @@
 #!/usr/bin/env python3
 """One page of HTML for a review: the picture, who may use what, the policy with its verdict, and a run by names.
 
-    bin/capfw run FIRMWARE.json 1000 > run.txt
-    bin/capfw check FIRMWARE.json FIRMWARE.policy > verdict.txt
-    python3 examples/page.py run.txt [FIRMWARE.policy verdict.txt] > FIRMWARE.html
+    capfw run FIRMWARE.json 1000 > run.txt
+    capfw check FIRMWARE.json FIRMWARE.policy > verdict.txt
+    page.py run.txt [FIRMWARE.policy verdict.txt] [--only WORD].. > FIRMWARE.html
 
-run.txt is what `run` or `audit` wrote: after an audit the page has no run. The page is one file that a browser shows
-without a network; it has no scripts, and nothing in it comes from elsewhere.
+run.txt is what `run` or `audit` wrote, or `-` for standard input: after an audit the page has no run. Of a run it has
+the lines that `--only` asks for, as names.py does, and all where it asks for none; they are written as they are read.
+The page is one file that a browser shows without a network; it has no scripts, and nothing in it comes from elsewhere.
 """
-import html
+import itertools
 import sys
 
 sys.dont_write_bytecode = True
 import authority  # noqa: E402
+import cards  # noqa: E402
 import devices  # noqa: E402
+import manners  # noqa: E402
 import names  # noqa: E402
 import picture  # noqa: E402
-from reports import NO_REPORT, file_of, report_of, text, title  # noqa: E402
-
-STYLE = """
-body { font: 16px/1.5 system-ui, "Segoe UI", "DejaVu Sans", sans-serif; color: #1f2328; background: #fff;
-  margin: 0 auto; max-width: 68rem; padding: 1rem 1.5rem 4rem; }
-h1 { margin-bottom: 0; } h2 { margin-top: 2.5rem; border-bottom: 1px solid #d0d7de; } h3 { margin-bottom: .25rem; }
-nav ul { padding: 0; display: flex; flex-wrap: wrap; gap: .25rem 1.25rem; list-style: none; }
-a { color: #0b4f9c; } figure { margin: 1rem 0; } figcaption { color: #57606a; }
-svg { max-width: 100%; height: auto; border: 1px solid #d0d7de; border-radius: 6px; }
-.wide { overflow-x: auto; } table { border-collapse: collapse; margin: .5rem 0 1rem; }
-caption { text-align: left; color: #57606a; padding: .25rem 0; }
-th, td { text-align: left; padding: .2rem .9rem .2rem 0; border-bottom: 1px solid #d0d7de; vertical-align: top; }
-td { font-family: "DejaVu Sans Mono", Menlo, Consolas, monospace; font-size: .85rem; }
-.broken { color: #9a1c13; font-weight: bold; } .kept { color: #14532d; }
-summary { cursor: pointer; }
-"""
-
-
-# ---- parts
-
-def tag(name, content, **attributes):
-    """An element of content that is already HTML."""
-    given = "".join(f' {key.rstrip("_").replace("_", "-")}="{html.escape(str(value))}"'
-                    for key, value in attributes.items())
-    return f"<{name}{given}>{content}</{name}>"
-
-
-def said(name, content, **attributes):
-    """An element of a text."""
-    return tag(name, html.escape(str(content)), **attributes)
-
-
-def row(cells, head=False):
-    """A row; a cell is a text, or a text and a class."""
-    pairs = [cell if isinstance(cell, tuple) else (cell, "") for cell in cells]
-    kind, more = ("th", {"scope": "col"}) if head else ("td", {})
-    return tag("tr", "".join(said(kind, content, **dict(more, class_=name) if name else more)
-                             for content, name in pairs))
-
-
-def table(caption, head, rows):
-    body = tag("thead", row(head, head=True)) + tag("tbody", "\n".join(map(row, rows)))
-    return tag("div", tag("table", said("caption", caption) + body), class_="wide")
-
-
-def items(lines):
-    return tag("ul", "".join(said("li", line) for line in lines))
+import traces  # noqa: E402
+from elements import STYLE, items, row, said, table, tag  # noqa: E402
+from reports import report_in, report_read, text, title  # noqa: E402
 
 
 # ---- sections: an id, a heading and what stands below it
@@ -70,7 +29,7 @@ def items(lines):
 def drawn(report):
     caption = said("figcaption", "Threads, compartments with what they hold, devices, objects and libraries. Numbers "
                                  "are those of the report's entries.")
-    described = tag("details", said("summary", "The picture in words") + items(picture.words(report)))
+    described = tag("details", said("summary", "The picture in words") + items(cards.words(report)))
     return "picture", "Picture", tag("figure", picture.Picture(report).drawn() + caption) + described
 
 
@@ -112,14 +71,23 @@ def judged(report, rules, verdict):
                                                         rows)
 
 
-def ran(report, lines):
-    done = names.steps(lines)
-    rows = [names.row(report, line) for line in done]
-    head = ["step", "thread", "in", "did", "what", "by"]
-    parts = [table("Each step that did something", head, rows)] if rows else []
-    ends = [*lines[len(done):], *(f"{name} said {values!r}" for name, values in names.said(report, done).items()),
-            *names.still_allocated(report, done)]
-    return "run", "A run", "\n".join(parts) + items(ends)
+def ran(report, texts, words):
+    """The run, piece by piece: a table of its lines where it has any, and what it comes to."""
+    sums, ends, is_picked, is_begun = traces.Sums(report), [], names.picked(report, words), False
+    for line, columns in traces.lines_of(report, texts):
+        if line is None:
+            ends.append(columns)
+            continue
+        sums.add(line)
+        if is_picked(columns):
+            if not is_begun:
+                yield '<div class="wide"><table>' + said("caption", "Each step that did something")
+                yield tag("thead", row(names.HEAD, head=True)) + "<tbody>"
+            is_begun = True
+            yield row(columns)
+    if is_begun:
+        yield "</tbody></table></div>"
+    yield items([*ends, *sums.lines()])
 
 
 def listed(report):
@@ -141,30 +109,47 @@ def summary(report):
     return f"{', '.join(words)}; a heap of {report.heap['length']} bytes; a tick each {report.quantum} steps."
 
 
-def page(report, lines, rules=None, verdict=None):
-    """The page's text."""
+def section(key, name, *parts):
+    """A section of these parts, piece by piece."""
+    yield f'<section id="{key}">' + said("h2", name, id=key + "-heading")
+    for part in parts:
+        yield from [part] if isinstance(part, str) else part
+    yield "</section>"
+
+
+def page(report, run, rules=None, verdict=None):
+    """The page's text, piece by piece; the run is what `ran` gives, or None."""
     sections = [drawn(report), touched(report), used(report)]
     sections += [judged(report, rules, verdict)] if rules is not None else []
-    sections += [ran(report, lines)] if lines else []
+    sections += [("run", "A run", run)] if run else []
     sections.append(listed(report))
-    heading = said("h1", f"Firmware {report.firmware}") + said("p", summary(report))
     contents = tag("nav", tag("ul", "".join(tag("li", said("a", name, href="#" + key)) for key, name, _ in sections)),
                    aria_label="Contents")
-    body = [tag("section", said("h2", name, id=key + "-heading") + part, id=key) for key, name, part in sections]
     head = ('<meta charset="utf-8"><meta name="viewport" content="width=device-width, initial-scale=1">'
             + said("title", f"Firmware {report.firmware}") + tag("style", STYLE))
-    return "\n".join(["<!doctype html>", '<html lang="en">', tag("head", head), "<body>", heading, contents,
-                      tag("main", "\n".join(body)), "</body>", "</html>"])
+    yield from ("<!doctype html>", '<html lang="en">', tag("head", head), "<body>",
+                said("h1", f"Firmware {report.firmware}") + said("p", summary(report)), contents, "<main>")
+    for part in sections:
+        yield from section(*part)
+    yield from ("</main>", "</body>", "</html>")
 
 
 def main(words):
-    if len(words) not in (1, 3):
-        print(__doc__.split("\n\n")[1], file=sys.stderr)
-        return NO_REPORT
-    report, lines = report_of(file_of(words[0]))
-    print(page(report, lines, *(file_of(word).splitlines() for word in words[1:])))
-    return 0
+    parser = manners.Words(__doc__)
+    parser.add_argument("run")
+    parser.add_argument("policy", nargs="?")
+    parser.add_argument("verdict", nargs="?")
+    parser.add_argument("--only", action="append", default=[])
+    options = parser.parse_args(words)
+    if options.policy and not options.verdict:
+        parser.error("a policy stands with its verdict")
+    report, texts = report_read() if options.run == "-" else report_in(options.run)
+    first = next(texts, None)
+    run = ran(report, itertools.chain([first], texts), options.only) if first is not None else None
+    judged_by = [manners.text_in(file).splitlines() for file in (options.policy, options.verdict) if file]
+    for piece in page(report, run, *judged_by):
+        print(piece)
 
 
 if __name__ == "__main__":
-    sys.exit(main(sys.argv[1:]))
+    manners.run(main)

@@ -11,8 +11,8 @@ import sys
 sys.path.append(os.path.join(os.path.dirname(os.path.abspath(__file__)), "..", "tests"))
 from model import assembler, images, linker, reports as reference  # noqa: E402
 from model.heap import HeapMachine  # noqa: E402
-from names import NAMES  # noqa: E402
-from reports import NO_REPORT, Report, file_of, title  # noqa: E402
+from manners import Refusal, bytes_in, text_in  # noqa: E402
+from reports import Report  # noqa: E402
 
 MAGIC = b"CTFW"
 NATIVE, NATIVE_BYTES = 65536, 16
@@ -30,8 +30,7 @@ def place_name(place):
 
 
 def refuse(message):
-    print(message, file=sys.stderr)
-    sys.exit(NO_REPORT)
+    raise Refusal(message)
 
 
 # ---- the places of a source
@@ -109,13 +108,9 @@ class Firmware:
         return self.places.get(address)
 
 
-def firmware_of(path, read=file_of):
+def firmware_of(path, read=text_in):
     """The firmware of a description or an image in a file; sources count from the folder of the call."""
-    try:
-        with open(path, "rb") as file:
-            data = file.read()
-    except OSError as why:
-        refuse(f"{path}: {why.strerror}")
+    data = bytes_in(path)
     try:
         if data.startswith(MAGIC):
             return Firmware(data)
@@ -139,21 +134,23 @@ def inputs_of(firmware, text):
 
 # ---- a run, step by step
 
-Moment = collections.namedtuple("Moment", "thread actor depth pcc registers")
+Moment = collections.namedtuple("Moment", "thread actor depth pcc registers frame handling")
 
 
 class Watched(HeapMachine):
     """The plain machine, which tells a watcher before each step which thread runs it and from what state, and after it
     what was told. A watcher has `before(machine, moment)` and `after(machine, moment, lines)`; a step in which no
-    thread runs has no moment. Lines are those of `run`, with the step's number."""
+    thread runs has no moment. Lines are those of `run`, with the step's number. `keys` has each key and token by its
+    object's number: the number of its key, and 0 for a key."""
 
     def __init__(self, image, watcher):
         super().__init__(image)
-        self.watcher, self.moment = watcher, None
+        self.watcher, self.moment, self.keys = watcher, None, {}
 
     def moment_of(self, t):
         thread = self.threads[t]
-        return Moment(t, self.actor(t), len(thread.frames), thread.pcc, list(thread.regs))
+        frame = thread.frames[-1]
+        return Moment(t, self.actor(t), len(thread.frames), thread.pcc, list(thread.regs), frame, frame.handling)
 
     def execute(self, t):
         self.moment = self.moment_of(t)
@@ -166,6 +163,12 @@ class Watched(HeapMachine):
         self.watcher.after(self, self.moment, [f"{self.count['steps']} {line}" for line in lines])
         return lines
 
+    def allocate(self, t, quota, size, key=None):
+        told = super().allocate(t, quota, size, key)
+        if told and key is not None:
+            self.keys[self.count["allocations"]] = key
+        return told
+
     def input(self, n, byte):
         super().input(n, byte)
         self.watcher.came(self, n, byte)
@@ -174,38 +177,3 @@ class Watched(HeapMachine):
 def run(firmware, limit, inputs, watcher):
     """The lines of a run, which a watcher watches."""
     return Watched(firmware.image, watcher).run(limit, firmware.image.quantum, inputs)
-
-
-# ---- capabilities in words
-
-RIGHTS = "GL LG SD LM SL LD MC SR EX US SE U0".split()
-SEALS = {1: "a sentry", 2: "a sentry that turns interrupts off", 3: "a sentry that turns interrupts on",
-         4: "a return with interrupts off", 5: "a return with interrupts on", 9: "an export", 10: "a quota"}
-
-
-def rights_of(cap):
-    return [name for n, name in enumerate(RIGHTS) if cap.perms >> n & 1]
-
-
-def number_text(value):
-    """A word as a number: small ones with their sign in decimal, others in hexadecimal."""
-    signed = value - 2 ** 32 if value >> 31 else value
-    return str(signed) if -4096 < signed < 4096 else f"0x{value:08x}"
-
-
-def cap_text(report, cap, rights=False):
-    """What a register or a granule holds: a number, or a range with the entry that it comes from, and its rights."""
-    base, top = cap.bounds()
-    if not cap.tag:
-        return number_text(cap.address) + (f" (no tag, high word 0x{cap.high:08x})" if cap.high else "")
-    at = "" if cap.address == base else f" at {cap.address:08x}"
-    entry = report.entry.get(cap.root)
-    made = f" n{cap.source}," if entry and entry["kind"] == "quota" and not cap.seal else ""
-    origin = f"{made} by {title(entry)}" if entry else ""
-    sealed = f", {SEALS.get(cap.seal, f'sealed as type {cap.seal}')}" if cap.seal else ""
-    return f"[{base:08x},{top:08x}){at}{origin}{sealed}" + (f", {' '.join(rights_of(cap))}" if rights else "")
-
-
-def register_name(n, cap):
-    """A register by its name: as a capability's where it holds one, else as a number's."""
-    return ("c" if cap.tag or cap.high else "") + NAMES[n]

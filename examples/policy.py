@@ -1,7 +1,7 @@
 #!/usr/bin/env python3
 """Writes the policy that a report keeps: a start for a review, from which a reviewer strikes or widens lines.
 
-    bin/capfw audit FIRMWARE.json | python3 examples/policy.py > FIRMWARE.policy
+    capfw audit FIRMWARE.json | policy.py > FIRMWARE.policy
 
 `capfw check` of the same description by this policy answers `allow`. There is a rule for each device, shared object
 and service that an entry is for, with its holders; for each export of a compartment, with its callers, or its own
@@ -15,7 +15,8 @@ device may come to write to it), and none for sealed objects, keys and libraries
 import sys
 
 sys.dont_write_bytecode = True
-from reports import report_of  # noqa: E402
+import manners  # noqa: E402
+from reports import report_read  # noqa: E402
 
 # the rule `quota total` is the one over all quotas, also where an owner has that name
 ALL = "total"
@@ -69,5 +70,11 @@ def rules(report):
     yield from apart(report)
 
 
+def main(words):
+    manners.Words(__doc__).parse_args(words)
+    for rule in rules(report_read()[0]):
+        print(rule)
+
+
 if __name__ == "__main__":
-    print("\n".join(rules(report_of(sys.stdin.read())[0])))
+    manners.run(main)

@@ -4,11 +4,13 @@ A *power* is something that entries let code do, by names: so it is the same pow
 where numbers and places are others. What code in a compartment may use are the powers of every owner that reaches it.
 """
 
+OTHERS, THREAD = "use code and globals of ", "run thread "
+
 
 def powers_of(report, owner):
     """The powers that an owner's entries hold, each with how far it goes: bytes for objects and quotas, else 1."""
     out = {}
-    devices = {row["name"]: f"{row['kind']} {row['name']} at {row['base']:08x}" for row in report.devices}
+    devices = devices_of(report)
     for entry in report.of_kind("device", "shared", "sealed", "key", "call", "service", "library", "quota", "export",
                                 owner=owner):
         for power, extent in powers_of_entry(entry, devices):
@@ -16,10 +18,23 @@ def powers_of(report, owner):
     return out
 
 
+def givers(report, owner, power):
+    """The numbers of an owner's entries that give a power."""
+    devices = devices_of(report)
+    entries = report.of_kind("device", "shared", "sealed", "key", "call", "service", "library", "quota", "export",
+                             owner=owner)
+    return [entry["number"] for entry in entries if power in dict(powers_of_entry(entry, devices))]
+
+
+def devices_of(report):
+    """Each device in words, by its name."""
+    return {row["name"]: f"{row['kind']} {row['name']} at {row['base']:08x}" for row in report.devices}
+
+
 def threads_of(report, compartment):
     """That threads begin in a compartment: a power that it shares with nobody."""
     gates = [(thread["name"], report.entry[thread["entry"]]) for thread in report.threads]
-    return {f"run thread {name} from {compartment}.{gate['name']}": (1, compartment)
+    return {f"{THREAD}{name} from {compartment}.{gate['name']}": (1, compartment)
             for name, gate in gates if gate["owner"] == compartment}
 
 
@@ -46,7 +61,7 @@ def powers_of_entry(entry, devices):
 
 def powers_in(report, compartment):
     """What code in a compartment may ever use: each power, how far it goes, and the first owner that holds it."""
-    out = {f"use code and globals of {name}": (1, compartment)
+    out = {OTHERS + name: (1, compartment)
            for name in report.component(compartment) if name != compartment}
     for owner in [compartment] + [name for name in report.owners if name != compartment]:
         if report.path(owner, compartment):

@@ -1,13 +1,35 @@
 """What the scripts of this folder share: a report as `capfw audit` writes it, and what it says, by names."""
 import json
-import signal
-import sys
 
-NO_REPORT = 2
+from manners import Refusal, input_lines, lines_in
 
-# who reads what a script writes, and stops before its end, ends the script
-if hasattr(signal, "SIGPIPE"):
-    signal.signal(signal.SIGPIPE, signal.SIG_DFL)
+# What stands in a report, and in an entry of it by its kind beside what each entry has.
+PARTS = {"firmware": str, "quantum": int, "heap": dict, "compartments": list, "libraries": list, "devices": list,
+         "entries": list, "threads": list, "edges": list}
+ENTRY = {"number": int, "kind": str, "owner": str, "base": int, "length": int, "rights": str}
+OF_KIND = dict.fromkeys(("device", "shared", "call", "library", "service"), ["of", "name"])
+OF_KIND |= {"sealed": ["of", "name", "type"], "quota": ["name", "limit"], "key": ["name"],
+            "export": ["name", "posture"]}
+
+
+def is_whole(row):
+    """Whether a value has what a report has."""
+    def has(value, members):
+        return isinstance(value, dict) and all(isinstance(value.get(name), kind) for name, kind in members.items())
+
+    def has_rows(name, members):
+        return all(has(part, members) for part in row[name])
+
+    if not (has(row, PARTS) and has(row["heap"], {"length": int}) and has_rows("entries", ENTRY)):
+        return False
+    count = len(row["compartments"])
+    numbers = {entry["number"] for entry in row["entries"]}
+    return (all(name in entry for entry in row["entries"] for name in OF_KIND.get(entry["kind"], []))
+            and has_rows("devices", {"name": str, "kind": str, "base": int})
+            and has_rows("threads", {"name": str, "entry": int, "priority": int})
+            and all(thread["entry"] in numbers for thread in row["threads"])
+            and all(isinstance(edge, list) and len(edge) == 2 and set(edge) <= set(range(count))
+                    for edge in row["edges"]))
 
 
 class Report:
@@ -15,6 +37,8 @@ class Report:
 
     def __init__(self, line):
         row = json.loads(line)
+        if not is_whole(row):
+            raise ValueError(line)
         self.line = line
         self.firmware, self.quantum, self.heap = row["firmware"], row["quantum"], row["heap"]
         self.compartments, self.libraries = row["compartments"], row["libraries"]
@@ -85,24 +109,24 @@ class Report:
         return f"both hold {next(name for name in ours if name in theirs)} with capabilities"
 
 
-def report_of(text):
-    """The report on the first line of a text, and the lines behind it; it ends the script where there is none."""
-    first, *more = text.splitlines() or [""]
+def report_of(lines):
+    """The report on the first of some lines, and those behind it; it refuses what is no report."""
+    lines = iter(lines)
+    first = next(lines, "").rstrip("\n")
     try:
-        return Report(first), more
-    except (ValueError, KeyError, TypeError):
-        print(f"no report: {first}" if first else "no report: nothing was read", file=sys.stderr)
-        sys.exit(NO_REPORT)
+        return Report(first), lines
+    except (ValueError, TypeError, RecursionError):
+        raise Refusal(f"no report: {first[:200]}" if first else "no report: nothing was read") from None
 
 
-def file_of(path):
-    """A file's text; it ends the script where the file can't be read."""
-    try:
-        with open(path, encoding="utf-8", errors="replace", newline="\n") as file:
-            return file.read()
-    except OSError as why:
-        print(f"{path}: {why.strerror}", file=sys.stderr)
-        sys.exit(NO_REPORT)
+def report_read():
+    """The report on standard input, and the lines behind it."""
+    return report_of(input_lines("a report, which `capfw audit` writes,"))
+
+
+def report_in(path):
+    """The report on the first line of a file, and the lines behind it."""
+    return report_of(lines_in(path))
 
 
 def allowed(entry):
@@ -140,8 +164,13 @@ def text(entry):
     return f"{kind} {entry['of']}" if "of" in entry else f"{kind}, {entry['length']} bytes"
 
 
+def widths(rows):
+    """How wide the columns of rows of texts must be."""
+    return [max(map(len, column)) for column in zip(*rows)]
+
+
 def table(rows):
     """The lines of a table, each column as wide as it must be."""
     cells = [[str(cell) for cell in row] for row in rows]
-    widths = [max(map(len, column)) for column in zip(*cells)]
-    return ["  ".join(cell.ljust(width) for cell, width in zip(row, widths)).rstrip() for row in cells]
+    wide = widths(cells)
+    return ["  ".join(cell.ljust(width) for cell, width in zip(row, wide)).rstrip() for row in cells]

@@ -140,7 +140,7 @@ upward("lexports", "library 0 0", filled("libraries", "exports", of=named("x", {
 
 for length, wanted in ((1, LAWFUL), (32, LAWFUL), (33, "refused 4 description F4 firmware 0 0\n")):
     described("name", lambda firmware, number: firmware.update(firmware="n" * number), length, wanted)
-for letter in "n", "\N{LATIN SMALL LETTER E WITH ACUTE}":
+for letter in "n", "\N{LATIN SMALL LETTER E WITH ACUTE}", "\N{GRINNING FACE}":
     for length in 1, 255, 256:
         lawful = length < 256
         described(f"file_{len(letter.encode())}",

@@ -143,6 +143,9 @@ for name, firmware, length, heap in (
     if name == "words_of_li":
         assert r.read(data).owners[0].text == text_of([0x00001537, 0x00050513, 0xfff00513])
 
+# A description of the last version that names no rate has one of 64, where the image has the rate.
+assert linked("rate_that_is_not_named", dict(TINY, version=2))[52:56] == r.number(64)
+
 # ---- samples altered, and their first fault
 
 
@@ -160,6 +163,8 @@ THREE = at("main") + [{"name": "odd", "at": 6}, {"name": "none", "at": "none"}]
 refused("6 link L1 app 0",
         ("a_number_of_two", small(exports=at(2))), ("the_end_of_the_text", small(exports=at(20))),
         ("a_place_before_too_little_ram", small(exports=at(2), size=640)),
+        ("an_offset_past_32_bits", small(exports=at(4294967296))),
+        ("an_offset_of_64_bits", small(exports=at(18446744073709551612))),
         ("no_such_label", small("start: cret\n")), ("a_label_of_data", small("cret\n.data\nmain: .word 0\n")),
         ("a_label_at_the_end", small("cret\nmain:\n")), ("a_label_of_no_bytes", small("main:\n")),
         ("an_export_before_a_line_of_a_later_owner", board("cret\n", "frob a0\n", HEX)))

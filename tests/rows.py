@@ -32,6 +32,8 @@ def tiny(words=None, device=None, rights=None, size=None, **members):
 
 SLOT = ["00000297", "ff82b283"]
 run("limit", TINY, 3, ended("limit", 3))
+run("limit_before_the_end", TINY, 5, STORE, ended("limit", 5, devices=1))
+run("limit_at_the_end", TINY, 6, STORE, ended("finished", 6, devices=1))
 run("past_the_device", tiny(SLOT + ["00a2a823"]), 100, "3 trap t0 c0 28 1 5", ended("finished", 3, traps=1))
 run("divided_by_zero", tiny(SLOT + ["00700513", "020555b3", "00b2a023", "00008067"]), 100,
     "5 store t0 c0 e4 10000000 4 ffffffff", ended("finished", 7, devices=1))

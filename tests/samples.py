@@ -4,8 +4,8 @@
     samples.py OUT     writes the cases that cases.py tells of
 
 A sample is a folder NAME with the description NAME.json, its sources, and what was worked out apart from the program:
-report.json is what `audit` writes, run.txt what a run of at most STEPS steps writes after it, by the script NAME.script
-where there is one. Each line of why.txt has an owner, a compartment and what `why` writes of them. NAME.policy, where
+report.json is what `audit` writes, run.txt what a run writes after it of at most STEPS steps, or USUAL_STEPS, by the
+script NAME.script where there is one. Each line of why.txt has an owner, a compartment and what `why` writes of them. NAME.policy, where
 it stands, is a policy that the report keeps. The plain machine and the reference of reports must write the same. The
 program is handed each file by its own name, so what two samples have under one name must be the same.
 """
@@ -13,7 +13,8 @@ import os
 
 from cases import SAMPLES, case, images, lines, link, modelled, reports, sample, text_of
 
-STEPS = 200
+STEPS = {"gateway": 2000}
+USUAL_STEPS = 200
 SUFFIXES = ".s", ".script", ".policy"
 
 
@@ -31,11 +32,12 @@ def cases_of(name):
     description, files = text_of(name, name + ".json"), files_of(name)
     data = link(sample(name), {file: text_of(name, file).split("\n") for file in files})
     report, run = text_of(name, "report.json"), text_of(name, "run.txt")
+    steps = STEPS.get(name, USUAL_STEPS)
     script = [name + ".script"] if name + ".script" in files else []
     assert report == lines(reports.report(data)), name
-    assert run == lines(*modelled(data, STEPS, text_if(name, name + ".script"))), name
+    assert run == lines(*modelled(data, steps, text_if(name, name + ".script"))), name
     case(name + "-audit", ["audit", "{}"], description, report)
-    case(name + "-run", ["run", "{}", str(STEPS), *script], description, report + run)
+    case(name + "-run", ["run", "{}", str(steps), *script], description, report + run)
     ways = list(reports.ways(images.read(data)))
     for row in text_if(name, "why.txt").splitlines():
         owner, compartment, answer = row.split(" ", 2)

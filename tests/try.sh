@@ -1,11 +1,11 @@
 #!/bin/bash
 # Runs the tables of worked rows through the program, and compares what it writes and each status with what is due
 # (answers.py): samples.py (every sample), rows.py (commands), descriptions.py and sources.py (their faults; integer
-# instructions), links.py (what is linked), images.py (images altered), reports.py (reports, and paths), policies.py,
-# calls.py (calls between compartments), handlers.py (error handlers), threads.py (turns and services), heap.py (the
-# heap), freed.py (what was freed, and sweeps), tokens.py (keys and tokens, also with error handlers), scripts.py (bytes
-# that come to devices), faults.py (files and output that fail), limits.py (both sides of each limit), words.py (words
-# of the command line).
+# instructions), texts.py (what texts are read as), links.py (what is linked), images.py (images altered), reports.py
+# (reports, and paths), policies.py, calls.py (calls between compartments), handlers.py (error handlers), threads.py
+# (turns and services), heap.py (the heap), freed.py (what was freed, and sweeps), tokens.py (keys and tokens, also with
+# error handlers), scripts.py (bytes that come to devices), faults.py (files and output that fail), limits.py (both
+# sides of each limit), words.py (words of the command line).
 #
 #     tests/try.sh PROGRAM    a built program, proved and optimised (crates/ct_main/out/ct_main): some seconds
 #     tests/try.sh            the kit tries the program unproved, with checks: some minutes, without images.py,
@@ -17,7 +17,7 @@ cases=$(mktemp -d) || exit 1
 trap 'rm -rf "$cases" "$cases"-*' EXIT
 files=()
 
-tables=(samples rows descriptions sources links reports policies calls handlers threads heap freed tokens
+tables=(samples rows descriptions texts sources links reports policies calls handlers threads heap freed tokens
     scripts faults)
 [ -z "$program" ] || tables+=(images limits words)
 for table in "${tables[@]}"; do

@@ -1,4 +1,5 @@
 """What the pages say, held to the sources: links and anchors, paths, calls, clauses, definitions, widths."""
+import functools
 import os
 import re
 
@@ -147,8 +148,23 @@ def check_words(path, faults):
                 faults.append(f"{path}:{line_of(text, match.start())}: {name} stands nowhere in the sources")
 
 
+@functools.cache
+def scripts():
+    return {os.path.basename(file) for folder in ("examples", "tests", "bench", "docs", "crates")
+            for ending in (".py", ".sh") for file in sources.files_below(folder, ending)}
+
+
+def check_scripts(path, faults):
+    """Each script that is named without its folder is there."""
+    there = scripts()
+    text = sources.text_of(path)
+    for match in re.finditer(r"`([a-z]\w*\.(?:py|sh))[` ]", text):
+        if match[1] not in there:
+            faults.append(f"{path}:{line_of(text, match.start())}: there is no script {match[1]}")
+
+
 def check_page(path, faults):
-    for check in (check_links, check_paths, check_widths, check_names, check_labels, check_words):
+    for check in (check_links, check_paths, check_widths, check_names, check_labels, check_words, check_scripts):
         check(path, faults)
 
 
@@ -200,3 +216,39 @@ def named_calls(path):
             if kind != "clause" and crate in sources.crates() and name in sources.names_of(crate):
                 found.add(call)
     return found
+
+
+def calls_in_tables(path):
+    """The calls that the rows of a page's tables name, whole or after another of the crate, clauses apart."""
+    found = set()
+    for line in sources.text_of(path).split("\n"):
+        if line.startswith("|") and not line.startswith("|-"):
+            for call, kind in calls_of(line):
+                crate, _, name = call.partition("::")
+                if kind != "clause" and crate in sources.crates() and name in sources.names_of(crate):
+                    found.add(call)
+    return found
+
+
+def check_read(faults):
+    """Each name of a *Read* bullet is that of a definition: what a reader is sent to is there."""
+    known = {name for module in sources.modules().values() for name in module.definitions}
+    for path in pages():
+        for start, bullet in bullets(sources.text_of(path), "Read"):
+            for name in re.findall(r"`([A-Za-z]\w*)`", bullet):
+                if name not in known and name not in sources.crates():
+                    faults.append(f"{path}:{line_of(sources.text_of(path), start)}: no definition is named {name}")
+
+
+def check_cited(faults):
+    """Each page that sources, scripts and commands cite is there."""
+    for folder, ending in (("crates", ".rt"), ("crates", ".antt"), ("tests", ""), ("examples", ".py"), ("bench", ""),
+                           ("bin", ""), ("samples", ""), (".ci", "")):
+        for path in sources.files_below(folder, ending):
+            try:
+                text = sources.text_of(path)
+            except UnicodeDecodeError:
+                continue
+            for match in re.finditer(r"\bdocs/[\w/-]+\.(?:md|json|svg)", text):
+                if not os.path.exists(sources.path_of(match[0])):
+                    faults.append(f"{path}:{line_of(text, match.start())}: there is no {match[0]}")

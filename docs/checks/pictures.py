@@ -11,8 +11,11 @@ STYLE = ("text{font:12px sans-serif;text-anchor:middle}.small{font-size:10px;fil
 PROOF = (
     ("capfw", "what the program answers", ["ct_top"], ["commands", "advance", "link"]),
     ("commands", "each command's run is licensed and safe", ["law_program"], ["accepted"]),
-    ("advance", "the machine does what is written", ["ct_machine"], ["history", "started", "engine"]),
-    ("accepted", "so of every accepted image", ["law_accepted"], ["started", "history", "linked"]),
+    ("advance", "the machine does what is written", ["ct_machine"], ["truly", "integrity", "started", "engine"]),
+    ("accepted", "so of every accepted image", ["law_accepted"], ["started", "truly", "integrity", "linked"]),
+    ("truly", "what is told was done, and all of it", ["law_truly"], ["history"]),
+    ("integrity", "what changes, changes for a reason", ["law_integrity"], ["history"]),
+    ("secrecy", "a step goes by what its thread sees", ["law_secrecy"], ["events"]),
     ("history", "calls clean, no use after free, a sweep before reuse", ["law_history"], ["events"]),
     ("started", "what a sound image boots is confined", ["law_started"], ["confined", "boot"]),
     ("linked", "what is linked is faultless", ["law_link"], ["image"]),

@@ -7,7 +7,7 @@ from . import sources
 
 TOP = "ct_top"
 CALL = "capfw"
-ORDER = ("misuse", "licensed", "safe", "answer", "complete", "demo")
+ORDER = ("written", "licensed", "safe", "answer", "decided")
 PARTS = (
     ("each deed is licensed", "AllLicensed"), ("the invariant of every run", "Confined.Confined"),
     ("the written machine", "happens"), ("what an image boots", "booted_machine"), ("bytes are an image", "IsImage"),
@@ -20,7 +20,7 @@ class Cited:
     """What a walk met: definitions in the order in which they were met, and plain types and numbers of Rust."""
 
     def __init__(self):
-        self.definitions, self.plain, self.kit = {}, set(), set()
+        self.definitions, self.plain, self.kit, self.depth = {}, set(), set(), {}
 
     def lines(self):
         return sum(definition.own for definition in self.definitions.values())
@@ -31,6 +31,21 @@ class Cited:
     def crates(self):
         return {file.split("/")[1] for file in self.files()}
 
+    def tables(self):
+        """The crates of definitions whose types and tables of Rust are named."""
+        return sorted({module.split(".")[0] for module, _ in self.plain})
+
+    def table_lines(self):
+        return sum(len(lines_of_table(crate)) for crate in self.tables())
+
+
+@functools.cache
+def lines_of_table(crate):
+    """The lines of a crate's Rust, without comments and blank lines."""
+    return [line.strip() for path in sources.files_below(f"crates/{crate}/src", ".rt")
+            for line in sources.text_of(path).split("\n")
+            if line.strip() and not line.strip().startswith(("//", "#![", "use ", "pub use ", "ghost use "))]
+
 
 def heads(text):
     """The names that a text uses, each with what follows its first dot."""
@@ -40,10 +55,10 @@ def heads(text):
 
 
 def meet(cited, module, name):
-    """Adds what a module's name means to what was met, and all below it."""
-    pending = [(module, name)]
+    """Adds what a module's name means to what was met, and all below it, the nearest first."""
+    pending = collections.deque([(module, name, 0)])
     while pending:
-        module, name = pending.pop()
+        module, name, depth = pending.popleft()
         here = sources.modules().get(module)
         if here is None:
             if module.split(".")[0] in sources.crates():
@@ -52,14 +67,15 @@ def meet(cited, module, name):
                 cited.kit.add((module, name))
             continue
         if name in here.imports and name not in here.definitions:
-            pending.append(here.imports[name])
+            pending.append((*here.imports[name], depth))
             continue
         name = name if name in here.definitions else here.members.get(name, name)
-        if name not in here.definitions or (module, name) in cited.definitions:
+        if name not in here.definitions or cited.depth.get((module, name), depth + 1) <= depth:
             continue
         definition = here.definitions[name]
         cited.definitions[module, name] = definition
-        pending += used(here, "\n".join(definition.lines), name)
+        cited.depth[module, name] = depth
+        pending.extend((*each, depth + 1) for each in used(here, "\n".join(definition.lines), name))
 
 
 def used(here, text, own=None):
@@ -67,6 +83,8 @@ def used(here, text, own=None):
     found = []
     definitions = getattr(here, "definitions", {})
     members = getattr(here, "members", {})
+    bound = set(re.findall(r"^ +(?:pub )?([A-Za-z_][\w']*) *:", text, re.M))
+    bound |= {name for names in re.findall(r"[({λ]([\w' ]+?)(?: :|\.)", text) for name in names.split()}
     signs = {piece: name for name in here.imports for piece in name.split("◌") if piece and "◌" in name}
     signs.update({piece: name for name in definitions for piece in name.split("◌") if piece and "◌" in name})
     for head, after in heads(text):
@@ -77,7 +95,7 @@ def used(here, text, own=None):
             found.append(here.imports[head])
         elif head in definitions and head != own:
             found.append((here.name, head))
-        elif head in members and members[head] != own:
+        elif head in members and members[head] != own and head not in bound:
             found.append((here.name, members[head]))
     return sorted(found)
 
@@ -90,7 +108,11 @@ def below_clause(item, clause):
 
 
 def below_name(name):
-    """All below every definition of this name, which may be written CRATE.Module.name or name alone."""
+    """All below a clause of the top call, or else below every definition of this name, which may be written
+    CRATE.Module.name or name alone."""
+    for label, cited in top_clauses():
+        if label == name:
+            return cited
     cited = Cited()
     wanted = name.replace("::", ".").split(".")
     for module in sources.modules().values():
@@ -114,36 +136,19 @@ def all_below():
     whole = Cited()
     for _, cited in top_clauses():
         whole.definitions.update(cited.definitions)
+        for key, depth in cited.depth.items():
+            whole.depth[key] = min(whole.depth.get(key, depth), depth)
         whole.plain |= cited.plain
         whole.kit |= cited.kit
     return whole
 
 
 def in_order(cited):
-    """Files with their definitions: crates from the top down, in a crate the files that use others of it first."""
+    """Files with their definitions: those that the clause itself names first, then what these name, and so on."""
     order = {name: k for k, name in enumerate(sources.crates())}
-    by_file = collections.defaultdict(list)
-    for definition in cited.definitions.values():
+    by_file, near = collections.defaultdict(list), {}
+    for key, definition in cited.definitions.items():
         by_file[definition.file].append(definition)
-    ranks = ranked(by_file)
-    found = sorted(by_file, key=lambda file: (-order[file.split("/")[1]], ranks[file], file))
+        near[definition.file] = min(near.get(definition.file, cited.depth[key]), cited.depth[key])
+    found = sorted(by_file, key=lambda file: (near[file], -order[file.split("/")[1]], file))
     return [(file, sorted(by_file[file], key=lambda each: each.first)) for file in found]
-
-
-def ranked(by_file):
-    """Of each file how many steps it lies below the files of its crate that nothing there imports."""
-    names = {module.file: module for module in sources.modules().values()}
-    above = {file: {other for other in by_file if other != file and other.split("/")[1] == file.split("/")[1]
-                    and any(module == names[file].name for module, _ in names[other].imports.values())}
-             for file in by_file}
-    ranks = {}
-
-    def rank(file, seen=()):
-        if file not in ranks:
-            others = [other for other in above[file] if other not in seen]
-            ranks[file] = max((rank(other, seen + (file,)) + 1 for other in others), default=0)
-        return ranks[file]
-
-    for file in by_file:
-        rank(file)
-    return ranks

@@ -231,6 +231,28 @@ def read_sources(crate):
         crate.summary = sentence(comment)
 
 
+def derives(lines, at):
+    """What the attributes over lines[at] derive."""
+    words = set()
+    while at > 0 and lines[at - 1].startswith(("#[", "///")):
+        at -= 1
+        match = re.match(r"#\[derive\((.*)\)\]", lines[at])
+        words |= {word.strip() for word in match[1].split(",")} if match else set()
+    return words
+
+
+def check_errors(faults):
+    """Each fault and each refusal that a call can answer is an error of thiserror."""
+    for path in files_below("crates", ".rt"):
+        if not re.match(r"crates/(ct|def)_\w+/src/", path):
+            continue
+        lines = text_of(path).split("\n")
+        for at, line in enumerate(lines):
+            match = re.match(r"pub (?:enum|struct) (\w+(?:Fault|Refusal))\b", line)
+            if match and "Error" not in derives(lines, at):
+                faults.append(f"{path}:{at + 1}: {match[1]} doesn't derive Error")
+
+
 @functools.cache
 def crates():
     """The crates of crates.txt, in its order."""

@@ -1,7 +1,7 @@
 """The public surface: the calls and types that the crates are there for, each as its source has it."""
 import re
 
-from . import sources
+from . import pages, sources
 
 PAGE = "docs/checks/surface.py"
 DECISIONS = "decisions.md"
@@ -173,7 +173,7 @@ def told(item):
 def row(crate, name):
     item = sources.crates()[place_of(crate, name)].items[name]
     words = SURFACE_WORDS.get(f"{crate}::{name}")
-    why = f"[{words[0]}]({DECISIONS}#{words[1]})" if words else ""
+    why = f"{words[0]} ({DECISIONS}, {words[1]})" if words else ""
     return f"| `{told(item)}` | {why} |"
 
 
@@ -192,11 +192,11 @@ def beside(crate):
             and (item.clauses or item.path.partition("::")[2] not in promised)]
 
 
-def surface():
-    """The table of each crate, in the order of crates.txt."""
+def surface(only=None):
+    """The table of each crate, or of these alone, in the order of crates.txt."""
     parts = []
     for crate in sources.crates():
-        if crate not in SURFACE:
+        if crate not in SURFACE or only and crate not in only:
             continue
         names = [name for name in SURFACE[crate].split() if place_of(crate, name)]
         parts += [f"\n## {crate}\n", "| call or type | why so |", "|---|---|"]
@@ -214,7 +214,9 @@ def check_surface(faults):
             faults.append(f"{PAGE}: there is no crate {crate}")
             continue
         faults += [f"{PAGE}: {crate} has no public {name}" for name in names.split() if not place_of(crate, name)]
-    for name in SURFACE_WORDS:
+    for name, (_, heading) in SURFACE_WORDS.items():
         crate, _, item = name.partition("::")
         if item not in SURFACE.get(crate, "").split():
             faults.append(f"{PAGE}: {name} isn't listed")
+        if heading not in pages.anchors(f"docs/build/{DECISIONS}"):
+            faults.append(f"{PAGE}: {DECISIONS} has no heading #{heading}")

@@ -196,8 +196,14 @@ def written(word, form):
     return f"{word} {''.join(words.get(part, lambda part=part: part)() for part in form)}".rstrip()
 
 
+# Registers that other machines of this family have, and this one hasn't.
+OTHER_REGISTERS = re.compile("c?(a[67]|s([2-9]|1[01])|t[3-6])")
+
+
 def exchanged(word, part, token):
-    """A hint where a number stands for a register, or a register for a number."""
+    """A hint where a number stands for a register, or a register for a number, or one that the machine hasn't."""
+    if part == "R" and token.is_name and OTHER_REGISTERS.fullmatch(token.text):
+        return ["the machine has a0 to a5, s0, s1 and t0 to t2, beside zero, ra, sp, gp and tp"]
     with_register = {other: name for name, other in WITH_NUMBER.items()}
     if part == "R" and token.is_number and word in WITH_NUMBER:
         return [f"{WITH_NUMBER[word]} takes a number"]

@@ -20,10 +20,11 @@ class NoJson(Exception):
 
 class Node:
     """A value: its kind, its range in the text, and what it is. An object's members are by their names, the last one
-    of a name; each has the range of its name and its value."""
+    of a name; each has the range of its name and its value. `twice` has each name that stands there again, with the
+    range of the name before and its own."""
 
-    def __init__(self, kind, start, end, value):
-        self.kind, self.start, self.end, self.value = kind, start, end, value
+    def __init__(self, kind, start, end, value, twice=()):
+        self.kind, self.start, self.end, self.value, self.twice = kind, start, end, value, twice
 
     def get(self, name):
         """The value of a member, or None."""
@@ -162,7 +163,7 @@ class Reader:
             at = self.skip(at + 1)
 
     def members(self, start):
-        out, at = {}, self.skip(start + 1)
+        out, twice, at = {}, [], self.skip(start + 1)
         if self.peek(at) == "}":
             return Node("object", start, at + 1, out)
         while True:
@@ -175,10 +176,11 @@ class Reader:
             if self.peek(colon) != ":":
                 self.fail(colon, "a colon is wanted after a member's name")
             node = self.value(colon + 1)
+            twice += [(name, out[name][0], (at, end))] if name in out else []
             out[name] = ((at, end), node)
             at = self.skip(node.end)
             if self.peek(at) == "}":
-                return Node("object", start, at + 1, out)
+                return Node("object", start, at + 1, out, twice)
             if self.peek(at) != ",":
                 self.fail(at, "a comma or } is wanted here")
             at = self.skip(at + 1)

@@ -1,4 +1,4 @@
-"""The generated firmware, by docs/use/demo.md."""
+"""The generated firmware, by docs/use/run.md."""
 
 
 def source(y, index, last):

@@ -3,8 +3,9 @@
 ghost use Rattle.std.specs.Prelude.{◌≡◌, ◌++◌, ◌∷◌, ◌<◌, ◌^◌, [], length, IfOk, OnErr, is_none, if◌then◌else◌};
 ghost use Rattle.def_object.specs.Object as object;
 
+use def_refusals::NoMemory;
 use indexmap::IndexSet;
-use std::alloc::{AllocError, Global};
+use std::alloc::Global;
 use std::marker::Model;
 
 /// Names in slot order, each once.
@@ -46,8 +47,8 @@ impl Names {
         self.set.get_index_of(name)
     }
 
-    /// Gives a name the next slot, unless it has one. An `Err` changes nothing.
-    pub fn add(&mut self, alloc: Global, name: &str) -> Result<bool, AllocError>
+    /// Gives a name the next slot, unless it has one. An `Err` is want of memory and changes nothing.
+    pub fn add(&mut self, alloc: Global, name: &str) -> Result<bool, NoMemory>
         ensures fresh { IfOk result (λ fresh. fresh ≡ is_none (object.slot_of self.old name.now)) }
         ensures added { IfOk result
             (λ fresh. self.new ≡ (if fresh then self.old ++ name.now ∷ [] else self.old)) }

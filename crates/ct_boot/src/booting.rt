@@ -8,12 +8,12 @@ ghost use Rattle.def_boot.specs.Booting.{empty_granules};
 ghost use Rattle.ct_boot.specs.Starts.{starts_of};
 
 use crate::filling::{put_compartments, put_libraries, put_sealed_objects};
-use crate::making::return_sentry;
 use crate::putting::put;
 use crate::start::Start;
 use ct_image::Image;
 use ct_image_parts::Parts;
 use ct_mem::Memory;
+use ct_switch::return_sentry;
 
 /// RAM as these parts boot it.
 fn fill<M: Memory>(parts: &Parts, mem: &mut M)

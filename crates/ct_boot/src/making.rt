@@ -3,18 +3,15 @@
 ghost use Rattle.std.specs.Prelude.{◌≡◌, ◌+◌, ◌^◌, ◌<◌, ℕ};
 ghost use Rattle.ct_entry.specs.declared.rows.Owner.{Owner};
 ghost use Rattle.def_boot.specs.Entries as spec;
-ghost use Rattle.def_boot.specs.Made.{from_entry, entry_cap_as, return_sentry};
+ghost use Rattle.def_boot.specs.Made.{from_entry, entry_cap_as};
 ghost use Rattle.def_memory.specs.Granules.{plain};
 ghost use Rattle.def_words.specs.Derive.{derive, executable_root, memory_root, sealing_root};
 
 use ct_cap::{Live, Shadow, derive};
 use ct_image_parts::{Code, Compartment, Thread};
-use def_profile::native::{NATIVE_LENGTH, RETURN_ENTRY};
 use def_profile::rights::{
-    CODE_RIGHTS, EXECUTABLE_ROOT, GLOBALS_RIGHTS, MEMORY_ROOT, SEALING_ROOT, SERVICE_RIGHTS,
-    STACK_RIGHTS,
+    CODE_RIGHTS, EXECUTABLE_ROOT, GLOBALS_RIGHTS, MEMORY_ROOT, SEALING_ROOT, STACK_RIGHTS,
 };
-use def_profile::seals::RETURN_ENABLE;
 
 /// The shadow of what an entry gives.
 fn from_entry(number: u32) -> Shadow
@@ -78,21 +75,6 @@ pub(crate) fn key_made(number: u32, seal: u32, rights: u32) -> Live
     ensures { result ≡ derive sealing_root seal 1 rights seal 0 (from_entry number) }
 {
     derive(SEALING_ROOT, seal, 1, rights, seal, 0, from_entry(number))
-}
-
-/// The return sentry: the return's native entry, which turns interrupts on, with the trusted part's
-/// number.
-pub(crate) fn return_sentry() -> Live
-    ensures { result ≡ return_sentry }
-{
-    code_made(
-        0,
-        RETURN_ENTRY,
-        NATIVE_LENGTH,
-        SERVICE_RIGHTS,
-        RETURN_ENTRY,
-        RETURN_ENABLE,
-    )
 }
 
 /// The code of a compartment, at its base.

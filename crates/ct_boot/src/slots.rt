@@ -12,6 +12,7 @@ ghost use Rattle.def_image.specs.declared.SlotKind.TheVariants as kind;
 ghost use Rattle.def_image.specs.Rights as rights;
 ghost use Rattle.def_image.specs.Sound.{Names, SlotFits, Sound};
 ghost use Rattle.def_profile.specs.declared.layout.TheConstants as layout;
+ghost use Rattle.def_native.specs.declared.TheConstants.{LAST_NATIVE};
 ghost use Rattle.def_profile.specs.declared.native.TheConstants as native;
 ghost use Rattle.def_profile.specs.declared.seals.TheConstants as seals;
 ghost use Rattle.def_reach.specs.Roots.{gate_for};
@@ -49,7 +50,7 @@ fn sentry_type(posture: Mode) -> u32
 
 /// A native routine, which is called by a forward sentry.
 fn service(number: u32, of: u32, rights: u32) -> Live
-    requires { of ≤ native.LAST_NATIVE }
+    requires { of ≤ LAST_NATIVE }
     ensures { result
         ≡ derive executable_root (native_address of) native.NATIVE_LENGTH rights
         (native_address of) seals.SENTRY_INHERIT (from_entry number) }

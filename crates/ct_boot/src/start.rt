@@ -4,11 +4,11 @@ ghost use Rattle.std.specs.Prelude.{◌≡◌, ◌<◌, ◌≤◌, Some, [], len
 ghost use Rattle.ct_boot.specs.Starts.{starts_of, first_start};
 ghost use Rattle.def_image.specs.Sound.{Sound};
 
-use crate::making::return_sentry;
 use crate::starting::{kept_of, nobody};
 use ct_areas::First;
 use ct_cap::{Cap, Live, Posture, expand};
 use ct_image_parts::Parts;
+use ct_switch::return_sentry;
 use def_refusals::NoMemory;
 use std::alloc::Global;
 use std::marker::Model;

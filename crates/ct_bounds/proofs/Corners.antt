@@ -1,30 +1,28 @@
--- The corner of bounds fits 64 bits, over plain numbers.
-use Rattle.std.proofs.Common.{ℕ, ◌+◌, ◌-◌, ◌*◌, ◌/◌, ◌%◌, ◌^◌, ◌<◌, ◌≤◌, ◌≡◌, arith, lit<}
-use Rattle.std.proofs.lemmas.Nat.{mul-le, div-add-mod', one_shl}
+-- Corners of bounds, counted in units, over plain numbers.
+use Rattle.std.proofs.Common.{ℕ, ◌+◌, ◌-◌, ◌*◌, ◌/◌, ◌^◌, ◌<◌, ◌≤◌, ◌≡◌, arith, lit<}
+use Rattle.std.proofs.lemmas.Nat.{mul-le, pow-add, shr-shr}
 use Rattle.std.proofs.Math.Nat.{pow-le-pow_right}
 use Rattle.def_profile.specs.declared.bounds.TheConstants.{WIDEST_EXPONENT}
+use Rattle.def_words.specs.Authority.{corner_of}
 
-blocks_fit : (a span more : ℕ) → a < 2 ^ 32 → span ≤ 2 ^ 33 → more ≤ 2 ^ 24 + 1 → (a / span + more) * span < 2 ^ 58
-blocks_fit a span more ha hs hm =
-    let whole : a / span * span + a % span ≡ a = div-add-mod' a span in
-    let rest : more * span ≤ (2 ^ 24 + 1) * 2 ^ 33 = mul-le more span (2 ^ 24 + 1) (2 ^ 33) hm hs in
-    omega (arith, whole, rest)
-
--- one shifted by less than 64
-pub power : (k : ℕ) → k < 64 → 1 * 2 ^ k % 18446744073709551616 ≡ 2 ^ k
-power k small = one_shl k 64 small
-
-pub block_fits : (a e up down : ℕ) → e ≤ WIDEST_EXPONENT → a < 2 ^ 32 → up ≤ 1 → (a / 2 ^ (e + 9) + 16777216 + up - down) * 2 ^ (e + 9) < 2 ^ 58
-block_fits a e up down small ha hu =
-    let far : e + 9 ≤ 33 = omega (arith, small) in
-    let span : 2 ^ (e + 9) ≤ 2 ^ 33 = pow-le-pow_right (lit< tt) far in
-    let under : a / 2 ^ (e + 9) + 16777216 + up - down ≤ a / 2 ^ (e + 9) + (2 ^ 24 + 1) = omega (arith, hu) in
-    let scaled : (a / 2 ^ (e + 9) + 16777216 + up - down) * 2 ^ (e + 9) ≤ (a / 2 ^ (e + 9) + (2 ^ 24 + 1)) * 2 ^ (e + 9) = mul-le (a / 2 ^ (e + 9) + 16777216 + up - down) (2 ^ (e + 9)) (a / 2 ^ (e + 9) + (2 ^ 24 + 1)) (2 ^ (e + 9)) under (omega arith) in
-    let all : (a / 2 ^ (e + 9) + (2 ^ 24 + 1)) * 2 ^ (e + 9) < 2 ^ 58 = blocks_fit a (2 ^ (e + 9)) (2 ^ 24 + 1) ha span (omega arith) in
-    omega (arith, scaled, all)
-
-pub unit_fits : (field e : ℕ) → e ≤ WIDEST_EXPONENT → field < 512 → field * 2 ^ e < 2 ^ 34
-unit_fits field e small few =
-    let unit : 2 ^ e ≤ 2 ^ 24 = pow-le-pow_right (lit< tt) small in
-    let scaled : field * 2 ^ e ≤ 512 * 2 ^ 24 = mul-le field (2 ^ e) 512 (2 ^ 24) (omega (arith, few)) unit in
+-- a corner fits 64 bits
+pub corner_fits : (block unit e : ℕ) → block ≤ 2 ^ 25 → unit < 512 → e ≤ WIDEST_EXPONENT → (block * 512 + unit) * 2 ^ e < 2 ^ 64
+corner_fits block unit e few small low =
+    let power : 2 ^ e ≤ 2 ^ 24 = pow-le-pow_right (lit< tt) low in
+    let scaled : (block * 512 + unit) * 2 ^ e ≤ (2 ^ 35) * 2 ^ 24 = mul-le (block * 512 + unit) (2 ^ e) (2 ^ 35) (2 ^ 24) (omega (arith, few, small)) power in
     omega (arith, scaled)
+
+-- a block of 512 units is 2^(e+9) addresses
+pub base_is : (a e field down block : ℕ) → block ≡ a / 2 ^ e / 512 + 2 ^ 24 - down → (block * 512 + field) * 2 ^ e ≡ corner_of a e field 0 down
+base_is a e field down block is =
+    let units : a / 2 ^ e / 512 ≡ a / 2 ^ (e + 9) = shr-shr a e 9 in
+    let span : 2 ^ (e + 9) ≡ 2 ^ e * 512 = pow-add 2 e 9 in
+    let moved : a / 2 ^ (e + 9) + 2 ^ 24 + 0 - down ≡ a / 2 ^ (e + 9) + 2 ^ 24 - down = omega arith in
+    rw (is, units, moved, span) (omega arith)
+
+pub top_is : (a e field up down block : ℕ) → down ≤ 1 → block ≡ a / 2 ^ e / 512 + 2 ^ 24 - down → ((block + up) * 512 + field) * 2 ^ e ≡ corner_of a e field up down
+top_is a e field up down block low is =
+    let units : a / 2 ^ e / 512 ≡ a / 2 ^ (e + 9) = shr-shr a e 9 in
+    let span : 2 ^ (e + 9) ≡ 2 ^ e * 512 = pow-add 2 e 9 in
+    let moved : a / 2 ^ (e + 9) + 2 ^ 24 - down + up ≡ a / 2 ^ (e + 9) + 2 ^ 24 + up - down = omega (arith, low) in
+    rw (is, units, moved, span) (omega arith)

@@ -1,8 +1,8 @@
 //! From a word to its bounds.
 
-ghost use Rattle.std.specs.Prelude.{◌%◌, ◌/◌, ◌<◌, ◌^◌, ◌≡◌, ◌≤◌};
+ghost use Rattle.std.specs.Prelude.{◌*◌, ◌+◌, ◌-◌, ◌/◌, ◌<◌, ◌^◌, ◌≡◌, ◌≤◌};
 ghost use Rattle.def_profile.specs.declared.bounds.TheConstants as bounds;
-ghost use Rattle.def_words.specs.Authority.{bounds_of, corner_of, exponent_of, one_if_less};
+ghost use Rattle.def_words.specs.Authority.{bounds_of, exponent_of, one_if_less};
 
 use ct_bits::field;
 use def_profile::bounds::{WIDEST_EXPONENT, WIDEST_FIELD};
@@ -19,12 +19,12 @@ pub fn decode(high: u32, address: u32) -> Bounds
     let exponent = exponent(high);
     let base = field(high, 9, 9);
     let top = field(high, 0, 9);
-    let down = borrow(field_at(address, exponent), base);
-    let up = borrow(top, base);
+    let units = address >> exponent;
+    let block = block(units, borrow(units % 512, base));
     Bounds {
         exponent,
-        base: corner(address, exponent, base, 0, down) % (1 << 32),
-        top: corner(address, exponent, top, up, down) % (1 << 33),
+        base: corner(block, base, exponent) % (1 << 32),
+        top: corner(block + borrow(top, base), top, exponent) % (1 << 33),
     }
 }
 
@@ -41,14 +41,6 @@ fn exponent(high: u32) -> u32
     }
 }
 
-/// The nine bits of an address that stand where B and T stand.
-fn field_at(address: u32, exponent: u32) -> u32
-    requires { exponent ≤ bounds.WIDEST_EXPONENT }
-    ensures { result ≡ address / 2 ^ exponent % 512 }
-{
-    (address >> exponent) % 512
-}
-
 /// A block to borrow where `a` is below `b`.
 fn borrow(a: u32, b: u32) -> u64
     ensures value { result ≡ one_if_less a b }
@@ -57,19 +49,24 @@ fn borrow(a: u32, b: u32) -> u64
     if a < b { 1 } else { 0 }
 }
 
-/// The unit that `field` names in the address's block, moved up and down by whole blocks.
+/// The block that an address's units lie in, or the one below.
 ///
 /// 2^24 blocks more are a multiple of 2^33 and keep the difference from falling below zero.
-#[tactic(auto, using(crate::proofs::Corners::block_fits, crate::proofs::Corners::unit_fits, crate::proofs::Corners::power))]
-fn corner(address: u32, exponent: u32, field: u32, up: u64, down: u64) -> u64
-    requires exponent { exponent ≤ bounds.WIDEST_EXPONENT }
-    requires field { field < 512 }
-    requires up { up ≤ 1 }
-    requires down { down ≤ 1 }
-    ensures { result ≡ corner_of address exponent field up down }
+fn block(units: u32, down: u64) -> u64
+    requires { down ≤ 1 }
+    ensures value { result ≡ units / 512 + 2 ^ 24 - down }
+    ensures small { result < 2 ^ 25 }
 {
-    let unit = 1u64 << exponent;
-    let span = 1u64 << (exponent + 9);
-    let block = address as u64 / span + (1 << 24) + up - down;
-    block * span + field as u64 * unit
+    (units / 512) as u64 + (1 << 24) - down
+}
+
+/// The address of a unit of a block: a block has 512.
+#[tactic(auto, using(crate::proofs::Corners::corner_fits))]
+fn corner(block: u64, unit: u32, exponent: u32) -> u64
+    requires block { block ≤ 2 ^ 25 }
+    requires unit { unit < 512 }
+    requires exponent { exponent ≤ bounds.WIDEST_EXPONENT }
+    ensures { result ≡ (block * 512 + unit) * 2 ^ exponent }
+{
+    (block * 512 + unit as u64) << exponent
 }

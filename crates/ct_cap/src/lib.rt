@@ -19,7 +19,7 @@ pub use bounding::{set_bounds, set_bounds_exact};
 pub use comparing::{same, subset};
 pub use counter::{raise, turn};
 pub use ct_bounds::Bounds;
-pub use ct_perm::{Permission, Perms};
+pub use ct_perm::{Flags, Perms};
 pub use def_words::{Cap, Posture, Shadow, Trap};
 pub use live::{Live, expand, shrink};
 pub use passing::{attenuate, derive, link, open};

@@ -9,7 +9,7 @@ ghost use Rattle.def_words.specs.Seals.{cap_seal, seal_type};
 use crate::words::{address_of, cap_of, high_of, with_seal_field, word_of};
 use ct_bits::field;
 use ct_bounds::{Bounds, decode};
-use ct_perm::{Permission, Perms};
+use ct_perm::{Flags, Perms};
 use def_profile::seals::DATA_TYPES;
 use def_words::{Cap, Shadow};
 use std::marker::Model;
@@ -71,7 +71,7 @@ pub fn expand(c: Cap) -> Live
 }
 
 /// The same where it is used, so that what is known of the word needn't be decoded in a run.
-#[tactic(auto, unfolding(def_words::specs::Authority::cap_bounds, def_words::specs::Permissions::cap_perms, def_words::specs::Seals::cap_seal))]
+#[tactic(auto, unfolding(def_words::specs::Authority::cap_bounds, def_words::specs::Permissions::cap_perms, def_words::specs::Seals::cap_seal), using(ct_perm::proofs::Tests::has_ex))]
 #[inline(always)]
 fn decoded(c: Cap) -> Live
     ensures { result ≡ c }
@@ -82,7 +82,7 @@ fn decoded(c: Cap) -> Live
         cap: c,
         bounds: decode(high, address_of(c.word)),
         perms,
-        seal: type_of(perms.has(Permission::Execute), field(high, 22, 3)),
+        seal: type_of(perms.contains(Perms::EX), field(high, 22, 3)),
     }
 }
 
@@ -175,6 +175,7 @@ pub(crate) fn retagged(l: Live, tag: bool) -> Live
 
 /// A capability of another high word with the same bounds. These are not decoded anew, and its
 /// permissions are at hand.
+#[tactic(auto, using(ct_perm::proofs::Tests::has_ex))]
 #[inline(always)]
 pub(crate) fn respelled(l: Live, tag: bool, high: u32, perms: Perms, from: Shadow) -> Live
     requires bounds { high % 2 ^ 22 ≡ cap_high l % 2 ^ 22 }
@@ -186,7 +187,7 @@ pub(crate) fn respelled(l: Live, tag: bool, high: u32, perms: Perms, from: Shado
         cap: cap_of(tag, word, from),
         bounds: l.bounds,
         perms,
-        seal: type_of(perms.has(Permission::Execute), field(high, 22, 3)),
+        seal: type_of(perms.contains(Perms::EX), field(high, 22, 3)),
     }
 }
 

@@ -11,7 +11,7 @@ use crate::counter::{raise, turn};
 use crate::live::{Live, made, with_seal};
 use crate::rights::{and_perms, narrowed};
 use crate::words;
-use ct_perm::Permission;
+use ct_perm::{Flags, Perms};
 use def_profile::rights::{ALL_RIGHTS, GL, LG, LM, SD};
 use def_profile::seals::{RETURN_DISABLE, RETURN_ENABLE};
 use def_words::{Posture, Shadow};
@@ -20,16 +20,16 @@ use def_words::{Posture, Shadow};
 /// where that one lacks LM, and GL and LG where it lacks LG; sealed, GL alone where it lacks LG.
 ///
 /// The permissions go from every word, tagged or not.
-#[tactic(auto, unfolding(def_words::specs::Loaded::attenuated))]
+#[tactic(auto, unfolding(def_words::specs::Loaded::attenuated), using(ct_perm::proofs::Tests::each_flag))]
 pub fn attenuate(by: Live, l: Live) -> Live
     ensures { result ≡ attenuated by l }
 {
     let mask = passed(
         l.seal == 0,
-        by.perms.has(Permission::LoadMutable),
-        by.perms.has(Permission::LoadGlobal),
+        by.perms.contains(Perms::LM),
+        by.perms.contains(Perms::LG),
     );
-    let keeps = l.cap.tag & by.perms.has(Permission::MemoryCapability);
+    let keeps = l.cap.tag & by.perms.contains(Perms::MC);
     narrowed(l, keeps, mask)
 }
 

@@ -9,7 +9,7 @@ use crate::live::{Live, respelled, retagged, with_seal};
 use crate::words::{high_of, with_permission_bits, with_seal_field};
 use ct_bits::field;
 use ct_bounds::Bounds;
-use ct_perm::{Permission, Perms};
+use ct_perm::{Flags, Perms};
 use def_profile::seals::{EXPORT_TYPE, LAST_KEY_TYPE, RETURN_ENABLE, SENTRY_INHERIT};
 
 /// The capability sealed as the type that the key's address is.
@@ -17,17 +17,17 @@ use def_profile::seals::{EXPORT_TYPE, LAST_KEY_TYPE, RETURN_ENABLE, SENTRY_INHER
 /// The tag stays exactly where both are tagged and unsealed, the key seals, and its address lies in
 /// its bounds and is a type of the capability's kind: 1 to 5 with EX, 9 to 15 without. Where the
 /// address is such a type the seal field becomes it, else the field stays.
-#[tactic(auto, unfolding(def_words::specs::Capability::sealed_by))]
+#[tactic(auto, unfolding(def_words::specs::Capability::sealed_by), using(ct_perm::proofs::Tests::has_ex, ct_perm::proofs::Tests::has_se))]
 pub fn seal(l: Live, key: Live) -> Live
     ensures { result ≡ sealed_by l key }
 {
     let kind = key.address();
-    let lawful = is_key_type(l.perms.has(Permission::Execute), kind);
+    let lawful = is_key_type(l.perms.contains(Perms::EX), kind);
     let keeps = l.cap.tag
         & key.cap.tag
         & (l.seal == 0)
         & (key.seal == 0)
-        & key.perms.has(Permission::Seal)
+        & key.perms.contains(Perms::SE)
         & holds(key.bounds, kind)
         & lawful;
     if lawful {
@@ -43,7 +43,7 @@ pub fn seal(l: Live, key: Live) -> Live
 /// The tag stays exactly where the capability is tagged and sealed, the key is tagged and unsealed
 /// and unseals, and its address is the capability's type and lies in its bounds. The seal field
 /// becomes 0, and GL goes where the key lacks it.
-#[tactic(auto, unfolding(def_words::specs::Capability::unsealed_by))]
+#[tactic(auto, unfolding(def_words::specs::Capability::unsealed_by), using(ct_perm::proofs::Tests::has_us, ct_perm::proofs::Tests::has_gl))]
 pub fn unseal(l: Live, key: Live) -> Live
     ensures { result ≡ unsealed_by l key }
 {
@@ -52,11 +52,11 @@ pub fn unseal(l: Live, key: Live) -> Live
         & key.cap.tag
         & (l.seal != 0)
         & (key.seal == 0)
-        & key.perms.has(Permission::Unseal)
+        & key.perms.contains(Perms::US)
         & holds(key.bounds, kind)
         & (l.seal == kind);
     let old = high_of(l.cap.word);
-    let bits = bits_through(old, key.perms.has(Permission::Global));
+    let bits = bits_through(old, key.perms.contains(Perms::GL));
     let high = with_permission_bits(with_seal_field(old, 0), bits);
     let from = l.cap.shadow;
     respelled(l, keeps, high, Perms::unpack(bits), from)

@@ -25,7 +25,7 @@ pub(crate) fn between(
     ensures { IfOk result (λ s. IsWhyLine parts.now from to.0 (string_bytes s)) }
 {
     match graph.path(alloc, from, to)? {
-        Some(path) => Ok(path_text(alloc, parts, path.owners.as_slice())?),
+        Some(path) => path_text(alloc, parts, path.owners.as_slice()),
         None => Ok(none_text(alloc)?),
     }
 }
@@ -38,7 +38,7 @@ fn none_text(alloc: Global) -> Result<String, AllocError>
 }
 
 /// The line of a path: the names of its members.
-fn path_text(alloc: Global, parts: &Parts, owners: &[Owner]) -> Result<String, AllocError>
+fn path_text(alloc: Global, parts: &Parts, owners: &[Owner]) -> Result<String, NoMemory>
     ensures { IfOk result (λ s. string_bytes s ≡ path_line parts.now owners.now) }
 {
     let mut text = String::from_str(alloc, "path")?;

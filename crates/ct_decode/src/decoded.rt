@@ -67,6 +67,8 @@ impl Decoded {
     }
 
     /// What a word at an address says comes into the address's slot, and what stood there beside it.
+    ///
+    /// Each is written once, and no other slot: for speed alone, since a slot that holds another word is filled anew.
     #[inline(never)]
     fn fill(&mut self, at: u32, word: u32)
         ensures { slot_for self.new at ≡ reading_of word }

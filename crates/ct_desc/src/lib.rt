@@ -25,11 +25,13 @@ use ct_desc_rows::Desc;
 use def_desc::{Fault, PartWord, Place};
 use serde_json::Value;
 use std::alloc::{AllocError, Global};
+use thiserror::Error;
 
 /// Why a description is not read.
-#[derive(Drop)]
+#[derive(Clone, Copy, Debug, PartialEq, Eq, Drop, Error)]
 pub enum DescFault {
     /// The least fault that holds anywhere, by the number after its F, and its first place.
+    #[error("F{number} at index {index}, item {item}")]
     At {
         number: u32,
         part: PartWord,
@@ -37,6 +39,7 @@ pub enum DescFault {
         item: u32,
     },
     /// Memory was wanted.
+    #[error("out of memory")]
     NoMemory,
 }
 

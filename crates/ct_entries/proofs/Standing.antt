@@ -10,6 +10,7 @@ use Rattle.def_image.specs.Sound.{Sound}
 use Rattle.law_image.proofs.Members.{all_at}
 use Rattle.law_image.proofs.Sounds.{sound}
 use Rattle.def_image.specs.Accepted.{IsFaultless}
+use Rattle.law_image.proofs.Limited.{few_threads}
 use Rattle.ct_entries.specs.Fits.{HasFit, Starts, CodeStands, CompartmentStands, PartsFit}
 use Rattle.law_layout.proofs.Placing.{size_fits}
 
@@ -122,5 +123,5 @@ module _ (p : PartsRow) (s : Sound p) where
     libraries = all_of (CodeStands p) p.libraries library_stands;
     few = s.few.compartments;
     some = s.few.libraries;
-    threads = s.few.threads;
+    threads = few_threads p s.few;
   }

@@ -71,13 +71,12 @@ decided_quietly s t word new o r is checks next goes carries e k time =
 
 -- ---- when
 
-both_pass : (a b c went : Bool) → (a && b) ≡ true → went ≡ c → went ≡ (a && (b && c))
-both_pass a b c went found is = let parts = and_parts a b found in rw (parts.0, parts.1) is
+both_pass : (found goes went : Bool) → found ≡ true → went ≡ goes → went ≡ (found && goes)
+both_pass found goes went is same = rw is same
 
-none_pass : (a b c : Bool) → false ≡ (a && b) → false ≡ (a && (b && c))
-none_pass true true c none = absurd (cc)
-none_pass true false c none = refl
-none_pass false b c none = refl
+none_pass : (found goes : Bool) → false ≡ found → false ≡ (found && goes)
+none_pass true goes none = absurd (cc)
+none_pass false goes none = refl
 
 -- a word is found, and it goes or not
 pub when_found : (s : Seen) (t word : ℕ) (o : Option Instr) (r : Reading) (went : Bool) → r ≡ reading_by word o
@@ -86,7 +85,7 @@ pub when_found : (s : Seen) (t word : ℕ) (o : Option Instr) (r : Reading) (wen
     → went ≡ goes_quietly (thread s t) s.region.ram s.granules
 when_found s t word o r went is found next goes =
     let same : r.instruction ≡ o = subst (λ (q : Reading). q.instruction ≡ o) (sym is) (instruction_read word o) in
-    both_pass (is_none (first_failed (fetch_checks (thread s t).pcc))) (is_word_of_ram s.region.ram s.granules (cap_address (thread s t).pcc))
+    both_pass (finds_word (thread s t).pcc s.region.ram s.granules)
     (goes_at (thread s t) s.region.ram s.granules (next_in s (cap_address (thread s t).pcc))) went found
     (goes ∙ ap (λ (p : Option Instr). goes_at (thread s t) s.region.ram s.granules (next_word p)) same
     ∙ ap (λ (n : Next). goes_at (thread s t) s.region.ram s.granules n) (sym next))
@@ -94,7 +93,7 @@ when_found s t word o r went is found next goes =
 -- none is found
 pub when_none : (s : Seen) (t : ℕ) → false ≡ finds_word (thread s t).pcc s.region.ram s.granules → false ≡ goes_quietly (thread s t) s.region.ram s.granules
 when_none s t none =
-    none_pass (is_none (first_failed (fetch_checks (thread s t).pcc))) (is_word_of_ram s.region.ram s.granules (cap_address (thread s t).pcc))
+    none_pass (finds_word (thread s t).pcc s.region.ram s.granules)
     (goes_at (thread s t) s.region.ram s.granules (next_in s (cap_address (thread s t).pcc))) none
 
 pub checks_pass : (s : Seen) (t : ℕ) → finds_word (thread s t).pcc s.region.ram s.granules ≡ true → is_none (first_failed (fetch_checks (thread s t).pcc)) ≡ true

@@ -1,5 +1,5 @@
 -- What a reading says of an instruction, what it is to carry one out quietly, and when that is done.
-use Rattle.std.specs.Prelude.{ℕ, zero, ◌%◌, ◌==◌, ◌&&◌, ◌≡◌, Bool, true, false, List, Option, Some, None, is_none, if◌then◌else◌}
+use Rattle.std.specs.Prelude.{ℕ, zero, ◌%◌, ◌==◌, ◌&&◌, ◌≡◌, Bool, true, false, List, Option, Some, None, IfSome, if◌then◌else◌}
 use Rattle.ct_entry.specs.Listed.{Listed}
 use Rattle.def_instr.specs.declared.Instr.{Instr}
 use Rattle.def_instr.specs.declared.Instr.TheVariants.{Jal, Beq, Bne, Blt, Bge, Bltu, Bgeu}
@@ -12,21 +12,22 @@ use Rattle.def_step.specs.declared.Next.{Next}
 use Rattle.def_step.specs.declared.Next.TheVariants.{Instruction}
 use Rattle.def_step.specs.declared.Operands.{Operands}
 use Rattle.def_step.specs.Accesses.{access_of}
-use Rattle.def_step.specs.Checks.{first_failed}
 use Rattle.def_step.specs.Devices.{DeviceStates}
-use Rattle.def_step.specs.Instructions.{fetch_checks, next_at}
+use Rattle.def_step.specs.Instructions.{next_at, next_word}
 use Rattle.def_step.specs.Jumps.{is_taken, target_at}
 use Rattle.def_step.specs.Operands.{class_of, operands_of}
 use Rattle.def_words.specs.declared.Cap.{Cap}
 use Rattle.def_words.specs.Authority.{cap_address}
 use Rattle.ct_decode.specs.declared.reading.Reading.{Reading}
+use Rattle.ct_decode.specs.Reading.{AreRegisters}
 use Rattle.ct_loadstore.specs.Quiet.{is_quiet_load, is_quiet_store}
 use Rattle.ct_loadstore.specs.Shapes.{space_of}
 use Rattle.ct_threads.specs.declared.window.Window.{Window}
-use Rattle.ct_threads.specs.Steps.{no_bank, is_word_of_ram}
+use Rattle.ct_threads.specs.Steps.{no_bank, finds_word}
 use Rattle.ct_engine.specs.Seen.{Seen, thread}
 use Rattle.ct_engine.specs.Steps.{space_in, HasWindow}
-use Rattle.ct_execute.specs.Deciding.{decide_instruction, WentQuietly}
+use Rattle.ct_execute.specs.Deciding.{decide_instruction, Stays, WentQuietly}
+use Rattle.ct_execute.specs.Opening.{IsOpen}
 
 -- class, registers and access of the instruction
 pub record Says (r : Reading) (i : Instr) : Type 0 where
@@ -104,6 +105,23 @@ goes_at w ram gs _ = false
 -- Each check of the fetch passes, a whole word of RAM stands at the program counter, and it is such an instruction.
 abbrev pub goes_quietly : Thread → ℕ → List Granule → Bool
 goes_quietly w ram gs =
-    is_none (first_failed (fetch_checks w.pcc))
-    && (is_word_of_ram ram gs (cap_address w.pcc)
-    && goes_at w ram gs (next_at (space_of ram gs no_bank 0) (cap_address w.pcc)))
+    finds_word w.pcc ram gs && goes_at w ram gs (next_at (space_of ram gs no_bank 0) (cap_address w.pcc))
+
+-- ---- a reading carried out
+
+-- what is asked before: thread t runs, nothing is hidden that it may reach, and the window is one of it
+pub record MayCarry (s : Seen) (t : ℕ) (r : Reading) (w : Window) : Type 0 where
+  pub runs : s.running ≡ Some t
+  pub opened : IsOpen s t
+  pub even : s.region.ram % 16 ≡ 0
+  pub says : (i : Instr) → r.instruction ≡ Some i → Says r i
+  pub registers : AreRegisters r.operands
+  pub window : HasWindow s t w
+
+-- it went exactly where what is read goes, then quietly; else nothing changes
+pub record Carried (s : Seen) (t : ℕ) (r : Reading) (w : Window) (went : Bool) (new : Seen) : Type 0 where
+  pub when : went ≡ goes_at (thread s t) s.region.ram s.granules (next_word r.instruction)
+  pub quiet : went ≡ true → IfSome r.instruction (λ i. CarriesQuietly s t i new)
+  pub same : went ≡ false → new ≡ s
+  pub stays : Stays s new
+  pub window : HasWindow new t w

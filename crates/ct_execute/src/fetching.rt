@@ -4,10 +4,11 @@ ghost use Rattle.std.specs.Prelude.{◌≡◌};
 ghost use Rattle.def_step.specs.Checks.{first_failed};
 ghost use Rattle.def_step.specs.Instructions.{fetch_checks};
 
-use ct_cap::{Live, Permission, Trap};
+use ct_cap::{Flags, Live, Perms, Trap};
 use def_profile::traps::{BOUNDS_CODE, EXECUTE_CODE, PCC_REGISTER, SEAL_CODE, TAG_CODE};
 
 /// The first check of a fetch that fails.
+#[tactic(auto, using(ct_perm::proofs::Tests::has_ex))]
 pub(crate) fn fetch_trap(pcc: Live) -> Option<Trap>
     ensures { result ≡ first_failed (fetch_checks pcc) }
 {
@@ -17,7 +18,7 @@ pub(crate) fn fetch_trap(pcc: Live) -> Option<Trap>
     if pcc.seal != 0 {
         return Some(Trap::capability(SEAL_CODE, PCC_REGISTER));
     }
-    if !pcc.perms.has(Permission::Execute) {
+    if !pcc.perms.contains(Perms::EX) {
         return Some(Trap::capability(EXECUTE_CODE, PCC_REGISTER));
     }
     if !pcc.covers(pcc.address(), 4) {

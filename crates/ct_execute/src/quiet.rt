@@ -13,7 +13,7 @@ ghost use Rattle.ct_engine.specs.Seen.{thread, moved_to};
 ghost use Rattle.ct_engine.specs.Steps.{HasWindow};
 ghost use Rattle.ct_execute.specs.Deciding.{decision, Stays, WentQuietly};
 ghost use Rattle.ct_execute.specs.Opening.{IsOpen};
-ghost use Rattle.ct_execute.specs.Quiet.{accesses_ram, goes_at, goes_quietly, jump_by, jump_offset, jumps_whole, CarriesQuietly, KeepsWindows, Says};
+ghost use Rattle.ct_execute.specs.Quiet.{accesses_ram, goes_quietly, jump_by, jump_offset, jumps_whole, Carried, CarriesQuietly, KeepsWindows, MayCarry, Says};
 
 use ct_alu::alu;
 use ct_capstep::derived;
@@ -37,7 +37,8 @@ use def_step::Class;
 ///
 /// Conditions: the thread runs, nothing is hidden that it may reach, RAM begins at a multiple of 16, and the window is
 /// one of the thread's program counter capability, as it is after the step too. Where the program counter is in the
-/// window a fetch asks for the tag and for a multiple of 4 alone.
+/// window a fetch asks for the tag and for a multiple of 4 alone. Window and cache are for speed alone: by the empty
+/// window, or with each word decoded anew, the step is the same.
 #[inline(always)]
 pub fn execute_quietly<M: Memory + Drop>(
     engine: &mut Engine<M>,
@@ -80,20 +81,8 @@ fn execute_anew<M: Memory + Drop>(
     reading: &Reading,
     window: Window,
 ) -> bool
-    requires runs { engine.old.running ≡ Some t }
-    requires opened { IsOpen engine.old t }
-    requires even { engine.old.region.ram % 16 ≡ 0 }
-    requires says { (i : Instr) → reading.now.instruction ≡ Some i → Says reading.now i }
-    requires registers { AreRegisters reading.now.operands }
-    requires window { HasWindow engine.old t window }
-    ensures when { result
-        ≡ goes_at (thread engine.old t) engine.old.region.ram
-        engine.old.granules (next_word reading.now.instruction) }
-    ensures quiet { result ≡ true → IfSome reading.now.instruction
-        (λ i. CarriesQuietly engine.old t i engine.new) }
-    ensures same { result ≡ false → engine.new ≡ engine.old }
-    ensures stays { Stays engine.old engine.new }
-    ensures window { HasWindow engine.new t window }
+    requires { MayCarry engine.old t reading.now window }
+    ensures { Carried engine.old t reading.now window result engine.new }
 {
     execute_class(engine, t, reading, window)
 }
@@ -106,20 +95,8 @@ fn execute_class<M: Memory + Drop>(
     reading: &Reading,
     window: Window,
 ) -> bool
-    requires runs { engine.old.running ≡ Some t }
-    requires opened { IsOpen engine.old t }
-    requires even { engine.old.region.ram % 16 ≡ 0 }
-    requires says { (i : Instr) → reading.now.instruction ≡ Some i → Says reading.now i }
-    requires registers { AreRegisters reading.now.operands }
-    requires window { HasWindow engine.old t window }
-    ensures when { result
-        ≡ goes_at (thread engine.old t) engine.old.region.ram
-        engine.old.granules (next_word reading.now.instruction) }
-    ensures quiet { result ≡ true → IfSome reading.now.instruction
-        (λ i. CarriesQuietly engine.old t i engine.new) }
-    ensures same { result ≡ false → engine.new ≡ engine.old }
-    ensures stays { Stays engine.old engine.new }
-    ensures window { HasWindow engine.new t window }
+    requires { MayCarry engine.old t reading.now window }
+    ensures { Carried engine.old t reading.now window result engine.new }
 {
     match &reading.instruction {
         Some(instruction) => match reading.class {

@@ -6,7 +6,7 @@ ghost use Rattle.def_step.specs.Checks.{first_failed};
 ghost use Rattle.def_step.specs.Jumps.{register_jumped, register_jump_checks, register_target};
 
 use crate::outcome::Flow;
-use ct_cap::{Live, Permission, Posture, Trap, link, open, turn};
+use ct_cap::{Flags, Live, Perms, Posture, Trap, link, open, turn};
 use def_profile::seals::{
     RETURN_DISABLE, RETURN_ENABLE, SENTRY_DISABLE, SENTRY_ENABLE, SENTRY_INHERIT,
 };
@@ -58,6 +58,7 @@ fn target_of(x: Live, immediate: u32) -> u32
 }
 
 /// The first check of a register jump that fails.
+#[tactic(auto, using(ct_perm::proofs::Tests::has_ex))]
 fn first_trap(to: u32, at: u32, x: Live, immediate: u32) -> Option<Trap>
     ensures { result ≡ first_failed (register_jump_checks to at x immediate) }
 {
@@ -67,7 +68,7 @@ fn first_trap(to: u32, at: u32, x: Live, immediate: u32) -> Option<Trap>
     if !(is_jump_taken(to, at, x.seal) && (x.seal == 0 || immediate == 0)) {
         return Some(Trap::capability(SEAL_CODE, at));
     }
-    if !x.perms.has(Permission::Execute) {
+    if !x.perms.contains(Perms::EX) {
         return Some(Trap::capability(EXECUTE_CODE, at));
     }
     if target_of(x, immediate) % 4 != 0 {

@@ -1,4 +1,4 @@
-//! The firmware that is generated from a number, for demonstration (docs/use/demo.md): its description
+//! The firmware that is generated from a number, for demonstration (docs/use/run.md): its description
 //! and its sources, as def_gen has them.
 #![tactic(auto)]
 

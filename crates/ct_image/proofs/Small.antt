@@ -15,7 +15,7 @@ use Rattle.def_image.specs.Checks.{first}
 use Rattle.def_image.specs.Limits.{byte_at, row_limits, name_checks, own_slot_limits, slot_limits, compartment_limits_by, compartment_limits, library_limits_by, library_limits, entry_name, is_misnamed, is_unnamed_key}
 use Rattle.law_image.proofs.Passing.{left_none, all_pass, every}
 use Rattle.law_image.proofs.Holding.{limited, compartment_holds, library_holds}
-use Rattle.law_image.proofs.Limited.{header_fits, thread_fits}
+use Rattle.law_image.proofs.Limited.{few_threads, header_fits, thread_fits}
 use Rattle.law_image.proofs.Owners.{compartment_limited}
 use Rattle.ct_image.specs.Answers.{Stand}
 use Rattle.ct_image_parts.specs.Places.{end_place}
@@ -30,7 +30,7 @@ small_is p s =
     let h = limited (raw_of p) s.limits in
     let header = header_fits p h.header in
     record {
-      threads = header.few.threads;
+      threads = few_threads p header.few;
       frames = all_there (λ (t : ThreadRow). t.frames ≤ 96) p.threads (λ i t is. (thread_fits p h i t is).frames.1);
       exports = all_there (λ (c : CompartmentRow). length c.code.exports ≤ 64) p.compartments (λ b c is. (compartment_limited p h b c is).code.exports);
       ram = header.end;

@@ -15,7 +15,8 @@ use ct_image_parts::{
 };
 use ct_tables::{ImportRow, SlotKind};
 use def_image::format::{COMPARTMENT_HEAD, ENTRY, LIBRARY_HEAD, NAME, NUMBER, THREAD};
-use def_profile::native::{RETURN, SWITCH};
+use def_native::SWITCH;
+use def_profile::native::RETURN;
 
 /// Where a thread's compartment stands in it.
 const COMPARTMENT_OF: u32 = NAME + 2 * NUMBER;

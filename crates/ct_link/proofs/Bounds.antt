@@ -19,7 +19,7 @@ use Rattle.ct_link_slots.specs.Exporters.{IsExporter, IsLibraryExporter, AreCoun
 use Rattle.ct_link.specs.Laid.{sizes_with, laid_of, IsPlaced, AreObjects}
 use Rattle.ct_link.specs.Rows.{IsSized, IsSmallOwner, IsSmallLibrary, AreOwn, AreLent, own_built, lent_built}
 use Rattle.ct_link.proofs.Ready.{no_room}
-use Rattle.law_image.proofs.Limited.{threads_most}
+use Rattle.law_link.proofs.Threads.{most_threads_few}
 
 -- ---- rows
 
@@ -107,7 +107,7 @@ frames_few d law = all_so (IsLawfulThread d) (λ (t : ThreadRow). t.frames ≤ M
 pub threads_few : (d : DescRow) → IsLawful d → length d.threads ≤ MOST_THREADS_2
 threads_few d law =
     let few = law.few.threads in
-    let most = threads_most d.version in
+    let most = most_threads_few d.version in
     omega (arith, few, most)
 
 pub areas_few : (d : DescRow) → IsLawful d → sum_of area_size d.threads ≤ 403456

@@ -11,16 +11,17 @@ ghost use Rattle.ct_link_objects.specs.Slots.{with_slot, with_slots};
 use crate::owners::OwnerRow;
 use ct_asm::Names;
 use ct_desc_rows::{Compartment, Import, LibraryImport, Quota, key_name};
-use std::alloc::{AllocError, Global};
+use def_refusals::NoMemory;
+use std::alloc::Global;
 
-fn add(names: &mut Names, alloc: Global, name: &str) -> Result<(), AllocError>
+fn add(names: &mut Names, alloc: Global, name: &str) -> Result<(), NoMemory>
     ensures { OnOk result (names.new ≡ with_slot names.old name.now) }
 {
     names.add(alloc, name)?;
     Ok(())
 }
 
-fn add_imports(names: &mut Names, alloc: Global, imports: &[Import]) -> Result<(), AllocError>
+fn add_imports(names: &mut Names, alloc: Global, imports: &[Import]) -> Result<(), NoMemory>
     ensures { OnOk result
         (names.new ≡ with_slots names.old (map (λ (x : ImportRow). x.alias) imports.now)) }
 {
@@ -30,7 +31,7 @@ fn add_imports(names: &mut Names, alloc: Global, imports: &[Import]) -> Result<(
     Ok(())
 }
 
-fn add_quotas(names: &mut Names, alloc: Global, quotas: &[Quota]) -> Result<(), AllocError>
+fn add_quotas(names: &mut Names, alloc: Global, quotas: &[Quota]) -> Result<(), NoMemory>
     ensures { OnOk result
         (names.new ≡ with_slots names.old (map (λ (q : QuotaRow). q.name) quotas.now)) }
 {
@@ -40,7 +41,7 @@ fn add_quotas(names: &mut Names, alloc: Global, quotas: &[Quota]) -> Result<(), 
     Ok(())
 }
 
-fn add_keys(names: &mut Names, alloc: Global, keys: &[u64]) -> Result<(), AllocError>
+fn add_keys(names: &mut Names, alloc: Global, keys: &[u64]) -> Result<(), NoMemory>
     ensures { OnOk result
         (names.new ≡ with_slots names.old (map name.key_name keys.now)) }
 {
@@ -56,7 +57,7 @@ fn add_compartment_slots(
     names: &mut Names,
     alloc: Global,
     compartment: &Compartment,
-) -> Result<(), AllocError>
+) -> Result<(), NoMemory>
     ensures { OnOk result (names.new ≡ with_slots names.old (slot_names compartment.now)) }
 {
     add(names, alloc, "switch")?;
@@ -71,7 +72,7 @@ fn add_library_slots(
     names: &mut Names,
     alloc: Global,
     imports: &[LibraryImport],
-) -> Result<(), AllocError>
+) -> Result<(), NoMemory>
     ensures { OnOk result
         (names.new ≡ with_slots names.old (map (λ (x : LimportRow). x.alias) imports.now)) }
 {
@@ -82,7 +83,7 @@ fn add_library_slots(
 }
 
 /// Adds the names of an owner's slots.
-fn add_slots(names: &mut Names, alloc: Global, row: OwnerRow<'_>) -> Result<(), AllocError>
+fn add_slots(names: &mut Names, alloc: Global, row: OwnerRow<'_>) -> Result<(), NoMemory>
     ensures { OnOk result (names.new ≡ with_slots names.old (unit_of row.entry).slots) }
 {
     match row {
@@ -93,7 +94,7 @@ fn add_slots(names: &mut Names, alloc: Global, row: OwnerRow<'_>) -> Result<(), 
 
 /// The names of an owner's slots.
 #[tactic(auto, using(crate::proofs::Slots::once_taken))]
-pub(crate) fn names_of(alloc: Global, row: OwnerRow<'_>) -> Result<Names, AllocError>
+pub(crate) fn names_of(alloc: Global, row: OwnerRow<'_>) -> Result<Names, NoMemory>
     requires { AreNames (unit_of row).slots }
     ensures { IfOk result (λ names. names ≡ (unit_of row.entry).slots) }
 {

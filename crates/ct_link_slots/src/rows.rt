@@ -11,7 +11,7 @@ use ct_desc_rows::Desc;
 use ct_desc_value::tables::service_of;
 use def_desc::Form;
 use def_image::{ImportRow, SlotKind};
-use def_profile::native::SWITCH;
+use def_native::SWITCH;
 use def_profile::rights::{CODE_RIGHTS, EXPORT_RIGHTS, SEALED_RIGHTS, SERVICE_RIGHTS};
 
 /// The row of slot 0 of a compartment, the switch.

@@ -4,7 +4,7 @@ ghost use Rattle.std.specs.Prelude.{◌≡◌, ◌<◌, ◌&&◌};
 ghost use Rattle.def_step.specs.Checks.{first_failed};
 ghost use Rattle.def_step.specs.Accesses.{access_checks, load_checks, store_checks};
 
-use ct_cap::{Live, Permission, Trap};
+use ct_cap::{Flags, Live, Perms, Trap};
 use def_profile::traps::{
     BOUNDS_CODE, LOAD_CODE, MISALIGNED_LOAD, MISALIGNED_STORE, SEAL_CODE, STORE_CAPABILITY_CODE,
     STORE_CODE, TAG_CODE,
@@ -12,6 +12,7 @@ use def_profile::traps::{
 use def_step::Access;
 
 /// The first check of a load through x at an address that fails.
+#[tactic(auto, using(ct_perm::proofs::Tests::has_ld))]
 fn load_trap(a: Access, x: Live, at: u32) -> Option<Trap>
     requires { 0 < a.width }
     ensures { result ≡ first_failed (load_checks a x at) }
@@ -22,7 +23,7 @@ fn load_trap(a: Access, x: Live, at: u32) -> Option<Trap>
     if x.seal != 0 {
         return Some(Trap::capability(SEAL_CODE, a.by));
     }
-    if !x.perms.has(Permission::LoadData) {
+    if !x.perms.contains(Perms::LD) {
         return Some(Trap::capability(LOAD_CODE, a.by));
     }
     if !x.covers(at, a.width) {
@@ -36,6 +37,7 @@ fn load_trap(a: Access, x: Live, at: u32) -> Option<Trap>
 
 /// The first check of a store through x at an address that fails; `carries` where a tagged value is
 /// stored as a capability.
+#[tactic(auto, using(ct_perm::proofs::Tests::has_sd, ct_perm::proofs::Tests::has_mc))]
 fn store_trap(a: Access, x: Live, at: u32, carries: bool) -> Option<Trap>
     requires { 0 < a.width }
     ensures { result ≡ first_failed (store_checks a x at carries) }
@@ -46,10 +48,10 @@ fn store_trap(a: Access, x: Live, at: u32, carries: bool) -> Option<Trap>
     if x.seal != 0 {
         return Some(Trap::capability(SEAL_CODE, a.by));
     }
-    if !x.perms.has(Permission::StoreData) {
+    if !x.perms.contains(Perms::SD) {
         return Some(Trap::capability(STORE_CODE, a.by));
     }
-    if carries && !x.perms.has(Permission::MemoryCapability) {
+    if carries && !x.perms.contains(Perms::MC) {
         return Some(Trap::capability(STORE_CAPABILITY_CODE, a.by));
     }
     if !x.covers(at, a.width) {

@@ -9,15 +9,16 @@ ghost use Rattle.ct_loadstore.specs.Shapes.{IsShape, Reaches};
 
 use crate::marks::filter;
 use crate::shapes::widen;
-use ct_cap::{Live, Permission, attenuate, clear_tag, expand, shrink};
+use ct_cap::{Flags, Live, Perms, attenuate, clear_tag, expand, shrink};
 use ct_mem::Memory;
 use def_step::Access;
 
 /// What is stored of a value: one without GL is stored untagged where SL is missing.
+#[tactic(auto, using(ct_perm::proofs::Tests::has_gl, ct_perm::proofs::Tests::has_sl))]
 pub(crate) fn kept(x: Live, y: Live) -> Live
     ensures { result ≡ stored_through x y }
 {
-    if y.cap.tag && !y.perms.has(Permission::Global) && !x.perms.has(Permission::StoreLocal) {
+    if y.cap.tag && !y.perms.contains(Perms::GL) && !x.perms.contains(Perms::SL) {
         return clear_tag(y);
     }
     y

@@ -10,7 +10,7 @@ ghost use Rattle.ct_loadstore.specs.Quiet.{Quiet, is_quiet_load, is_quiet_store}
 
 use crate::memory;
 use crate::moving::in_ram;
-use ct_cap::{Live, Permission};
+use ct_cap::{Flags, Live, Perms};
 use ct_mem::Memory;
 use def_step::Access;
 
@@ -46,15 +46,17 @@ fn fits(a: &Access, x: &Live, at: u32) -> bool
 }
 
 /// Whether each check of a load through x at an address passes.
+#[tactic(auto, using(ct_perm::proofs::Tests::has_ld))]
 #[inline(always)]
 fn may_load(a: &Access, x: &Live, at: u32) -> bool
     requires { IsShape a.now }
     ensures { result ≡ not (is_some (first_failed (load_checks a.now x.now at))) }
 {
-    x.cap.tag && x.seal == 0 && x.perms.has(Permission::LoadData) && fits(a, x, at)
+    x.cap.tag && x.seal == 0 && x.perms.contains(Perms::LD) && fits(a, x, at)
 }
 
 /// Whether each check of a store of y through x at an address passes.
+#[tactic(auto, using(ct_perm::proofs::Tests::has_sd, ct_perm::proofs::Tests::has_mc))]
 #[inline(always)]
 fn may_store(a: &Access, x: &Live, y: &Live, at: u32) -> bool
     requires { IsShape a.now }
@@ -63,8 +65,8 @@ fn may_store(a: &Access, x: &Live, y: &Live, at: u32) -> bool
 {
     x.cap.tag
         && x.seal == 0
-        && x.perms.has(Permission::StoreData)
-        && (!(a.whole && y.cap.tag) || x.perms.has(Permission::MemoryCapability))
+        && x.perms.contains(Perms::SD)
+        && (!(a.whole && y.cap.tag) || x.perms.contains(Perms::MC))
         && fits(a, x, at)
 }
 

@@ -22,10 +22,14 @@ use Rattle.law_started.proofs.Blanking.{blank}
 use Rattle.law_started.proofs.Tokening.{boot_tokened}
 use Rattle.law_routines.proofs.Events.{event_settles}
 use Rattle.law_events.proofs.BlankEvents.{event_blank}
+use Rattle.law_history.proofs.Locals.{event_local}
 use Rattle.law_history.proofs.TokensEvents.{event_fit}
 use Rattle.law_history.proofs.Whole.{event_tokened}
 use Rattle.law_events.proofs.Events.{event_keeps, deed_licensed, span_licensed}
+use Rattle.law_started.proofs.Globality.{boots_local}
 use Rattle.law_started.proofs.Starting.{no_rows}
+use Rattle.law_truly.proofs.Running.{event_framed}
+use Rattle.law_truly.proofs.Whole.{boots_framed}
 use Rattle.ct_machine.specs.Going.{silence}
 
 pub at_boot : (p : PartsRow) → Sound p → Guarded (booted_machine p)
@@ -40,6 +44,8 @@ at_boot p s = record {
   blank = blank p s;
   rows = no_rows p;
   tokened = boot_tokened p s;
+  framed = boots_framed p;
+  locals = boots_local p s;
 }
 
 pub after_event : (m : MachineRow) (e : Event) → Guarded m → Guarded (record { board = m.board; state = (happens m.board m.state e).0 })
@@ -54,6 +60,8 @@ after_event m e g = record {
   blank = event_blank m.board m.state e g.partitioned g.wired g.shut g.keeps g.blank;
   rows = event_fit m.board m.state e g.partitioned g.keeps g.rows;
   tokened = event_tokened m.board m.state e g.partitioned g.facts g.wired g.keeps g.rows g.tokened;
+  framed = event_framed m.board m.state e g.keeps g.framed;
+  locals = event_local m.board m.state e g.partitioned g.keeps g.locals;
 }
 
 pub event_licensed : (m : MachineRow) (e : Event) → Guarded m → IsLicensedEvent m.board.image.entries (happens m.board m.state e).1

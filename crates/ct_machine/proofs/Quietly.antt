@@ -23,7 +23,7 @@ use Rattle.def_step.specs.Instructions.{actor_of, fetch_checks, next_at}
 use Rattle.def_machine.specs.Platform.{Platform, MachineRow}
 use Rattle.def_step.specs.Events.{holder_by, holder, begun_since, begun, preempted, scheduled, one_more_step, run_on, told_of, happens, end_of}
 use Rattle.ct_sched.specs.Sched.{SchedRow}
-use Rattle.ct_threads.specs.Steps.{no_bank, is_word_of_ram}
+use Rattle.ct_threads.specs.Steps.{no_bank, finds_word}
 use Rattle.ct_engine.specs.Seen as engine
 use Rattle.ct_engine.specs.Seen.{Seen}
 use Rattle.ct_engine.specs.Steps.{HasWindow}
@@ -117,7 +117,7 @@ at_alike w s ram gs Nothing = refl
 
 goes_alike : (w : Thread) (s : Status) (ram : ℕ) (gs : List Granule) → goes_quietly (with_status w s) ram gs ≡ goes_quietly w ram gs
 goes_alike w s ram gs =
-    ap (λ (b : Bool). is_none (first_failed (fetch_checks w.pcc)) && (is_word_of_ram ram gs (cap_address w.pcc) && b))
+    ap (λ (b : Bool). finds_word w.pcc ram gs && b)
     (at_alike w s ram gs (next_at (space_of ram gs no_bank 0) (cap_address w.pcc)))
 
 module _ (i : Image) (e : Seen) (r : SchedRow) (k : DeviceStates) (pending : Bool) (time : ℕ) (c : Counts) where

@@ -13,6 +13,7 @@ use Rattle.def_step.specs.Devices.{DeviceStates}
 use Rattle.def_machine.specs.Platform.{MachineRow}
 use Rattle.def_image.specs.Parts.{ThreadRow, PartsRow}
 use Rattle.def_image.specs.Sound.{Sound}
+use Rattle.law_image.proofs.Limited.{few_threads}
 use Rattle.def_boot.specs.Gates.{entries_of}
 use Rattle.def_boot.specs.Entries as listed
 use Rattle.law_boot.proofs.Few.{few_entries}
@@ -143,7 +144,7 @@ first p = launched p (limits_of (entries_of p))
 
 kept : (p : PartsRow) → Sound p → ArePlaced (image_of p) (8 * length (first p).granules) (first p).areas → IsKept (image_of p) (first p) (rows_of p)
 kept p s placed =
-    let few = s.few.threads in
+    let few = few_threads p s.few in
     let count = statuses_count p in
     record {
       region = refl;

@@ -10,10 +10,14 @@ ghost use Rattle.def_machine.specs.Objects.{charges};
 ghost use Rattle.def_step.specs.declared.Event as events;
 ghost use Rattle.def_step.specs.declared.Event.TheVariants.{Step, Sweep};
 ghost use Rattle.def_events.specs.Upheld.{Upholds};
+ghost use Rattle.def_integrity.specs.Homes.{HomesKept, HomesStay};
+ghost use Rattle.def_integrity.specs.Integrity.{Integrity};
+ghost use Rattle.def_safety.specs.Attenuates.{LocalsInStacks};
 ghost use Rattle.def_safety.specs.Each.{EachEvent};
 ghost use Rattle.def_step.specs.Events.{happenings_of, happens, run, is_lawful, end_of, totals_of};
 ghost use Rattle.def_boot.specs.Booting.{empty_granules};
 ghost use Rattle.def_safety.specs.Chunks.{SweptBeforeReuse, UnusedAfterFree};
+ghost use Rattle.def_truly.specs.Exactly.{TellsExactly};
 ghost use Rattle.ct_machine.specs.Going.{silence, steps_quietly};
 ghost use Rattle.ct_machine.specs.Quiet.{goes_on_quietly, WentRounds};
 
@@ -29,7 +33,8 @@ use std::marker::Model;
 /// An image that runs, over some memory.
 ///
 /// Contracts see it as its board, which never changes, and its state. Its type keeps it guarded, whatever the
-/// code bytes are: the state is *Confined*, and what is hidden is zero (docs/claims/confinement.md).
+/// code bytes are: the state is *Confined*, what is hidden is zero, a thread that runs has a frame, and what is
+/// local stands in stacks (docs/claims/confinement.md).
 #[derive(Drop)]
 pub struct Machine<M: Memory + Drop> {
     parts: Parts<M>,
@@ -132,10 +137,10 @@ impl<M: Memory + Drop> Machine<M> {
         self.parts.step_quietly()
     }
 
-    /// Rounds, each a slice of a sweep and a step, as long as no sweep has work and the step is quiet, as `step_quietly`
-    /// says of it; at most `most`, which are lawful now: how many. They leave what `advance` leaves of these events, one
-    /// after another. Each tells nothing, and before each round the machine has come to no end. Where they are
-    /// fewer than `most`, a sweep has work then, or the next step isn't quiet. This call is for speed.
+    /// Rounds, each a slice of a sweep and a step, as long as no sweep has work and the step is quiet, as
+    /// `step_quietly` says of it; at most `most`, which are lawful now: how many. They leave what `advance` leaves of
+    /// these events, one after another. Each tells nothing, and before each round the machine has come to no end.
+    /// Where they are fewer than `most`, a sweep has work then, or the next step isn't quiet. This call is for speed.
     pub fn run_quietly(&mut self, most: u32) -> u32
         requires steps { self.old.state.counts.steps + most ≤ MOST_STEPS }
         requires sweeps { self.old.state.counts.sweeps + most ≤ MOST_STEPS }
@@ -147,17 +152,42 @@ impl<M: Memory + Drop> Machine<M> {
         self.parts.run_quietly(most)
     }
 
-    /// Whatever events come next, one after another: calls are clean, and each access goes through a capability
-    /// whose root's owner reaches the actor. No access goes through a capability of a freed object; a new object
-    /// reads as zero, and no other capability that isn't empty covers it. A frame's error handler is entered where a
-    /// trap is told that enters it, and only once. So much of each event; and each deed and each span with
-    /// interrupts off is licensed by the image's entries, after a free that is told no access goes through a
-    /// capability of its object, a chunk is handed out again only after a whole sweep that began after its free, and
-    /// no quota is charged with more than its limit. A law, told of the machine as it is now: nothing is done.
-    /// docs/claims/theorems.md.
+    /// Whatever events come next, one after another, whatever the code bytes are. A law, told of the machine as it is
+    /// now: nothing is done. docs/claims/claims.md.
+    ///
+    /// Of each event:
+    ///
+    /// - `safe`: calls are clean, and a frame's error handler is entered where a trap is told that enters it, and only
+    ///   once. Each access goes through a capability whose root's owner reaches the actor, and none through one of a
+    ///   freed object; a new object reads as zero, and no other capability that isn't empty covers it. A trap that is
+    ///   told is that of the first check that fails; charges follow the allocations and frees that are told; what the
+    ///   thread that carries on holds reaches RAM, devices and native entries alone; and keys and tokens are kept.
+    ///   Whatever stands anywhere comes of what stood, by the thread that carries on; loads attenuate, and what is
+    ///   local is stored through SL alone.
+    /// - `exact`: a deed that is told was done, by the thread that carries on, by the compartment of its innermost
+    ///   frame, and through the entry that is told. An access that reaches a device is told; and where devices change,
+    ///   but by an input, frames grow, objects or charges change or interrupts go off, that is told. A step of which a
+    ///   check fails does nothing but trap, a thread's only frame ends it, and the thread carries on whose turn it is.
+    /// - `integrity`: what it changes of RAM, of threads, of devices and of the heap's rows, it changes for a reason
+    ///   that is listed; and so (`homes`) globals, stacks, live objects and devices change by those alone who may.
+    ///
+    /// Of all of them: code stays as it is, and globals, stacks, threads, live objects and devices while none acts
+    /// who may change them (`stay`); a capability without GL stands in stacks alone (`locals`); each deed and each span
+    /// with interrupts off is licensed by the image's entries (`licensed`); after a free that is told no access goes through a capability of its object (`unused`); a chunk
+    /// is handed out again only after a whole sweep that began after its free (`swept`); and no quota is charged with
+    /// more than its limit (`quotas`).
     pub fn whatever_comes(&self)
         ensures safe { (es : List events.Event)
             → EachEvent (Upholds self.now.board) self.now.board self.now.state es }
+        ensures exact { (es : List events.Event)
+            → EachEvent (TellsExactly self.now.board) self.now.board self.now.state es }
+        ensures integrity { (es : List events.Event)
+            → EachEvent (Integrity self.now.board) self.now.board self.now.state es }
+        ensures homes { (es : List events.Event)
+            → EachEvent (HomesKept self.now.board) self.now.board self.now.state es }
+        ensures stay { (es : List events.Event) → HomesStay self.now.board self.now.state es }
+        ensures locals { (es : List events.Event) → LocalsInStacks self.now.board.image
+            (run self.now.board self.now.state es) }
         ensures licensed { (es : List events.Event) → AllLicensed self.now.board.image.entries
             (happenings_of self.now.board self.now.state es) }
         ensures unused { UnusedAfterFree self.now.board self.now.state }

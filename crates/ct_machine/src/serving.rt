@@ -1,7 +1,7 @@
 //! Native routines of the running thread.
 
 ghost use Rattle.std.specs.Prelude.{◌≡◌, ◌≤◌};
-ghost use Rattle.def_profile.specs.declared.native.TheConstants as numbers;
+ghost use Rattle.def_native.specs.declared.TheConstants as numbers;
 ghost use Rattle.def_step.specs.Instructions.{ran, served};
 ghost use Rattle.def_step.specs.Native.{native};
 ghost use Rattle.def_step.specs.Quotas as quotas;
@@ -18,7 +18,7 @@ use ct_services::{
     Called, allocate, free, remaining, rest, switch, token_free, token_key, token_new, token_open,
     wait, wake,
 };
-use def_profile::native::{
+use def_native::{
     ALLOCATE, FREE, REMAINING, SLEEP, SWITCH, TOKEN_KEY, TOKEN_NEW, TOKEN_OPEN, WAIT, WAKE, YIELD,
 };
 use def_words::Trap;

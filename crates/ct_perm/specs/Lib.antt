@@ -1,2 +1,2 @@
--- How this crate's enums name the permissions and the forms of def_words.
+-- How this crate's enum names the forms of def_words.
 pub mod Named

@@ -4,7 +4,8 @@ ghost use Rattle.std.specs.Prelude.{◌&&◌, ◌≡◌, bit_and, ℕ};
 ghost use Rattle.ct_perm.specs.Named.{written};
 ghost use Rattle.def_words.specs.Permissions.{bit, form_of, holds, set_where};
 
-use crate::{Permission, Perms};
+use crate::Perms;
+use bitflags::Flags;
 use def_profile::rights::{EX, GL, LD, LG, LM, MC, SD, SE, SL, SR, U0, US};
 
 /// What the executable form can hold.
@@ -38,15 +39,15 @@ pub(crate) enum Form {
 }
 
 /// The first form whose condition holds of a set.
-#[tactic(auto, unfolding(def_words::specs::Permissions::form_of))]
+#[tactic(auto, unfolding(def_words::specs::Permissions::form_of), using(crate::proofs::Tests::each_flag))]
 pub(crate) fn form_of(set: Perms) -> Form
     ensures { written result ≡ form_of set.0 }
 {
     match (
-        set.has(Permission::MemoryCapability),
-        set.has(Permission::LoadData),
-        set.has(Permission::StoreData),
-        set.has(Permission::Execute),
+        set.contains(Perms::MC),
+        set.contains(Perms::LD),
+        set.contains(Perms::SD),
+        set.contains(Perms::EX),
     ) {
         (true, true, _, true) => Form::Executable,
         (true, true, true, false) => Form::ReadWrite,

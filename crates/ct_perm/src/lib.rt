@@ -1,7 +1,8 @@
 //! Permission sets: the twelve permissions, and the six forms that a word can spell.
 //!
 //! The contracts are *Permission sets* of def_words, which speaks of sets and of the first form whose
-//! condition holds; the code works on the bits of a `u16` and on six packed bits.
+//! condition holds; the code asks by `contains` and `intersection` of bitflags' `Flags`, and spells by six
+//! packed bits. That `contains` of one permission is its bit is said for each of the twelve in proofs/Tests.antt.
 //! docs/use/capabilities.md tells the rules.
 #![tactic(auto)]
 
@@ -10,63 +11,11 @@ mod spelling;
 
 ghost use Rattle.std.specs.Prelude.{⊤, ◌<◌, ◌≡◌, ◌^◌, ◌↔◌, [], ◌∷◌, codes, IsTrue, bit_and};
 ghost use Rattle.def_profile.specs.declared.rights.TheConstants as bits;
-ghost use Rattle.ct_perm.specs.Named.{number_of};
-ghost use Rattle.def_words.specs.Permissions.{Within, bit, is_within, normal_set, packed, unpacked};
+ghost use Rattle.def_words.specs.Permissions.{Within, is_within, normal_set, packed, unpacked};
 
-use bitflags::{Flag, Flags, bitflag_items};
+pub use bitflags::Flags;
+use bitflags::{Flag, bitflag_items};
 use def_profile::rights;
-
-/// One of the twelve permissions.
-#[derive(Clone, Copy, PartialEq, Eq, Drop)]
-pub enum Permission {
-    /// GL: the capability may be stored anywhere that takes capabilities.
-    Global,
-    /// LG: what is loaded keeps GL and LG.
-    LoadGlobal,
-    /// SD: stores.
-    StoreData,
-    /// LM: what is loaded keeps SD and LM.
-    LoadMutable,
-    /// SL: capabilities without GL may be stored.
-    StoreLocal,
-    /// LD: loads.
-    LoadData,
-    /// MC: loads and stores of capabilities keep their tags.
-    MemoryCapability,
-    /// SR: system registers, which this profile has none of.
-    SystemRegisters,
-    /// EX: instructions may be fetched.
-    Execute,
-    /// US: unseals.
-    Unseal,
-    /// SE: seals.
-    Seal,
-    /// U0: for software.
-    User,
-}
-
-impl Permission {
-    /// The number of its bit.
-    fn number(self) -> u32
-        ensures value { result ≡ number_of self }
-        ensures small { result < 12 }
-    {
-        match self {
-            Permission::Global => 0,
-            Permission::LoadGlobal => 1,
-            Permission::StoreData => 2,
-            Permission::LoadMutable => 3,
-            Permission::StoreLocal => 4,
-            Permission::LoadData => 5,
-            Permission::MemoryCapability => 6,
-            Permission::SystemRegisters => 7,
-            Permission::Execute => 8,
-            Permission::Unseal => 9,
-            Permission::Seal => 10,
-            Permission::User => 11,
-        }
-    }
-}
 
 /// A set of permissions: bit p is set where permission p is in it. Bits above the twelve count for
 /// nothing but inclusion.
@@ -116,21 +65,13 @@ impl Flags for Perms {
 }
 
 impl Perms {
-    /// Whether a permission is in the set.
-    #[tactic(auto, unfolding(def_words::specs::Permissions::bit))]
-    pub fn has(self, permission: Permission) -> bool
-        ensures { result ≡ bit self.0 (number_of permission) }
-    {
-        (self.0 >> permission.number()) % 2 == 1
-    }
-
     /// The permissions of the set that a mask has too.
     #[tactic(auto, using(crate::proofs::Masks::mask_low, law_words::proofs::Narrowing::common_small))]
     pub fn masked(self, mask: u32) -> Perms
         ensures value { result.0 ≡ bit_and self.0 mask }
         ensures small { self.0 < 2 ^ 12 → result.0 < 2 ^ 12 }
     {
-        Perms(self.0 & (mask % (1 << 16)) as u16)
+        self.intersection(Perms::from_bits_retain((mask % (1 << 16)) as u16))
     }
 
     /// What the first form whose condition holds can spell of the set.
@@ -138,7 +79,7 @@ impl Perms {
         ensures value { result.0 ≡ normal_set self.0 }
         ensures small { result.0 < 2 ^ 12 }
     {
-        Perms(self.0 & forms::form_of(self).held())
+        self.intersection(Perms::from_bits_retain(forms::form_of(self).held()))
     }
 
     /// Whether each permission of the set is in the other.

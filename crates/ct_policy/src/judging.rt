@@ -69,7 +69,7 @@ fn add_entries(
 }
 
 /// The line of a path.
-fn add_path(text: &mut String, line: u32, parts: &Parts, owners: &[Owner]) -> Result<(), AllocError>
+fn add_path(text: &mut String, line: u32, parts: &Parts, owners: &[Owner]) -> Result<(), NoMemory>
     ensures { OnOk result
         (string_bytes text.new ≡ string_bytes text.old ++ path_line parts.now line owners.now) }
 {
@@ -94,7 +94,7 @@ fn add_reach(
         (Adds (Reaching parts.now line from to) (string_bytes text.old) (string_bytes text.new)) }
 {
     match graph.path(alloc, from, Comp(to))? {
-        Some(path) => Ok(add_path(text, line, parts, path.owners.as_slice())?),
+        Some(path) => add_path(text, line, parts, path.owners.as_slice()),
         None => Ok(()),
     }
 }

@@ -11,6 +11,7 @@ ghost use Rattle.ct_policy.specs.Words.{texts};
 use ct_entries::export_number;
 use ct_entry::{Device, Owner};
 use ct_image_parts::{Code, Compartment, Export, Parts, Shared};
+use def_refusals::NoMemory;
 use std::alloc::{AllocError, Global};
 
 /// What has a name.
@@ -145,8 +146,8 @@ pub(crate) fn name_of(parts: &Parts, owner: Owner) -> &str
     }
 }
 
-/// Adds the names of owners, each after a space, and the end of the line.
-pub fn add_names(text: &mut String, parts: &Parts, owners: &[Owner]) -> Result<(), AllocError>
+/// Adds the names of owners, each after a space, and the end of the line. An `Err` is want of memory.
+pub fn add_names(text: &mut String, parts: &Parts, owners: &[Owner]) -> Result<(), NoMemory>
     ensures { OnOk result
         (string_bytes text.new ≡ string_bytes text.old
         ++ ended (map (spec.name_of parts.now) owners.now)) }
@@ -155,7 +156,8 @@ pub fn add_names(text: &mut String, parts: &Parts, owners: &[Owner]) -> Result<(
         text.push(' ')?;
         text.push_str(name_of(parts, *owner))?;
     }
-    text.push('\n')
+    text.push('\n')?;
+    Ok(())
 }
 
 /// The owners of these names; none where one of them stands for nothing.

@@ -1,13 +1,14 @@
 -- What the program did: a call over the system's files, and the number that the process ends with.
 use Rattle.std.specs.Prelude.{◌≡◌, ◌⊎◌, ℕ, List, [], Some}
 use Rattle.def_image.specs.Parts.{PartsRow}
+use Rattle.def_image.specs.Sound.{Sound}
 use Rattle.def_port.specs.Bytes.{SinkView}
 use Rattle.def_port.specs.Told.{FolderView, Silent}
+use Rattle.def_program.specs.Allowing.{IsAllowed}
 use Rattle.def_program.specs.Answers.{Answers}
 use Rattle.def_program.specs.Calls.{CallRecord, call_record}
 use Rattle.def_program.specs.Codes.{code_of}
 use Rattle.def_program.specs.Commands.{Command, form_of}
-use Rattle.def_program.specs.Completing.{Completes, CompletesDemo, RefusesMisuse}
 use Rattle.def_program.specs.Deciding.{IsDecided}
 use Rattle.def_program.specs.Licences.{IsLicensedCommand, StandFor}
 use Rattle.def_program.specs.Safe.{IsSafeCommand}
@@ -23,14 +24,14 @@ untold = record { file = λ name. Silent; calls = []; faults = 0 }
 pub record IsCall (e : CallRecord) (s : Status) : Type 0 where
   pub answer : Answers e s
   pub decided : IsDecided e s
-  pub complete : Completes e s
-  pub demo : CompletesDemo e s
-  pub misuse : RefusesMisuse e s
   pub written : IsRunWritten e s
-  pub licensed : (asked : Command) (files : List (List ℕ)) (p : PartsRow)
-      → form_of e.words ≡ Some asked → StandFor asked files p → IsLicensedCommand asked p
-  pub safe : (asked : Command) (files : List (List ℕ)) (p : PartsRow)
-      → form_of e.words ≡ Some asked → StandFor asked files p → IsSafeCommand asked p
+  pub allowed : IsAllowed e s
+  pub sound : (asked : Command) (files : List (List ℕ)) (p : PartsRow)
+      → StandFor asked files p → Sound p
+  pub licensed : (asked : Command) (p : PartsRow)
+      → form_of e.words ≡ Some asked → Sound p → IsLicensedCommand asked p
+  pub safe : (asked : Command) (p : PartsRow)
+      → form_of e.words ≡ Some asked → Sound p → IsSafeCommand asked p
 
 -- the program ran on these words, over untold files
 pub record Ran (words : List (List ℕ)) (before after : SinkView) (s : Status) : Type 0 where

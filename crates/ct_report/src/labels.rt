@@ -12,7 +12,7 @@ use ct_entry::Mode;
 use ct_image_parts::{Code, Compartment, Export, Parts, Slot, Thread};
 use ct_tables::{ExportRow, ImportRow, SlotKind};
 use def_desc::tables::SERVICES;
-use def_profile::native::SWITCH;
+use def_native::SWITCH;
 use std::alloc::{AllocError, Global};
 
 /// What the report says of an entry beside its row: its owner's name, of a slot or an export its

@@ -37,6 +37,8 @@ pub(crate) fn pass<M: Memory>(mem: &mut M, ram: u32, low: u32, high: u32)
 }
 
 /// The capability of a granule passes the load filter.
+///
+/// Only one that loses its tag is written back. That is for speed alone: to write the others back changes nothing.
 fn pass_one<M: Memory>(mem: &mut M, ram: u32, at: u32)
     requires { IsPlace (8 * length (M.granules mem.old)) at }
     ensures { M.granules mem.new

@@ -7,7 +7,7 @@ ghost use Rattle.def_step.specs.Checks.{first_failed};
 ghost use Rattle.def_step.specs.Routines.{lies_in_ram, word_checks};
 ghost use Rattle.ct_services.specs.Served.{IfPasses, IsWord};
 
-use ct_cap::{Live, Permission, Trap};
+use ct_cap::{Flags, Live, Perms, Trap};
 use def_profile::traps::{BOUNDS_CODE, LOAD_CODE, MISALIGNED_LOAD, SEAL_CODE, TAG_CODE};
 
 /// The register that names the word.
@@ -23,6 +23,7 @@ fn lies_in_ram(ram: u32, size: u32, at: u32) -> bool
 }
 
 /// The first check that fails of a capability as one by which a word of RAM is loaded.
+#[tactic(auto, using(ct_perm::proofs::Tests::has_ld))]
 pub(crate) fn word_trap(ram: u32, size: u32, c: Live) -> Option<Trap>
     ensures is { (i : Image) (s : State) → i.ram ≡ ram → 8 * length s.granules ≡ size
         → result ≡ first_failed (word_checks i s c) }
@@ -35,7 +36,7 @@ pub(crate) fn word_trap(ram: u32, size: u32, c: Live) -> Option<Trap>
     if c.seal != 0 {
         return Some(Trap::capability(SEAL_CODE, WORD_REGISTER));
     }
-    if !c.perms.has(Permission::LoadData) {
+    if !c.perms.contains(Perms::LD) {
         return Some(Trap::capability(LOAD_CODE, WORD_REGISTER));
     }
     if !c.covers(at, 4) {

@@ -71,7 +71,8 @@ fn first_piece(text: &[u8]) -> (&[u8], &[u8])
     text.split_at(len)
 }
 
-/// How many tokens of a line are kept: one more than the longest line has.
+/// How many tokens of a line are kept: one more than the longest line has. Nine are `go: clc ca0, 8(csp)`; by the tenth
+/// a line that goes on after them is known.
 const MOST_TOKENS: usize = 10;
 
 /// Adds a token, unless there are enough.

@@ -4,7 +4,7 @@ ghost use Rattle.std.specs.Prelude.{◌≡◌, ◌++◌};
 ghost use Rattle.def_step.specs.Checks.{first_failed};
 ghost use Rattle.def_step.specs.Switch.{return_checks, gate_checks, stack_checks};
 
-use ct_cap::{Live, Permission, Trap};
+use ct_cap::{Flags, Live, Perms, Trap};
 use def_profile::seals::{EXPORT_TYPE, RETURN_DISABLE, RETURN_ENABLE};
 use def_profile::traps::{BOUNDS_CODE, SEAL_CODE, STORE_CODE, TAG_CODE};
 
@@ -36,6 +36,7 @@ fn gate_trap(c: Live) -> Option<Trap>
 }
 
 /// The first check of c2 that fails: it is the thread's stack from its base, at an address up to the frame's top.
+#[tactic(auto, using(ct_perm::proofs::Tests::has_sl))]
 pub fn stack_trap(base: u32, top: u32, c: Live) -> Option<Trap>
     ensures { result ≡ first_failed (stack_checks base top c) }
 {
@@ -45,7 +46,7 @@ pub fn stack_trap(base: u32, top: u32, c: Live) -> Option<Trap>
     if c.seal != 0 {
         return Some(Trap::capability(SEAL_CODE, 2));
     }
-    if !c.perms.has(Permission::StoreLocal) {
+    if !c.perms.contains(Perms::SL) {
         return Some(Trap::capability(STORE_CODE, 2));
     }
     let at = c.address();

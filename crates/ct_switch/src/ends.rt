@@ -146,7 +146,7 @@ pub fn unwind<M: Memory>(t: &mut Thread, mem: &mut M, e: &Entries) -> bool
         → IsOther t.old u (8 * length (M.granules mem.old))
         → thread_of (M.granules mem.new) runs u ≡ thread_of (M.granules mem.old) runs u }
 {
-    end_with(t, mem, e, 0xFFFF_FFFF)
+    end_with(t, mem, e, UNWOUND)
 }
 
 /// The end of a frame with a value, as its error handler says: the return with c10 = the value and c11 = 0. `false`

@@ -14,7 +14,8 @@ use crate::window::Window;
 use ct_cap::Live;
 use ct_isa::decode;
 use ct_mem::Memory;
-use def_profile::native::{LAST_NATIVE, NATIVE_BASE, NATIVE_UNIT, RETURN_ENTRY};
+use def_native::LAST_NATIVE;
+use def_profile::native::{NATIVE_BASE, NATIVE_UNIT, RETURN_ENTRY};
 use def_step::{LAST_ROUTINE, Next};
 
 /// The first address past the entries of native routines.
@@ -121,7 +122,7 @@ fn fetch_anew<M: Memory>(pcc: &Live, mem: &M, ram: u32) -> Option<u32>
 
 /// The word at a program counter capability's address, hidden or not, where each check of a fetch passes, the address
 /// lies past the native routines and is a multiple of 4, and a whole word of RAM stands there; else `None`. Where the
-/// address is one of the window's next to nothing is asked.
+/// address is one of the window's next to nothing is asked. That is for speed alone: to fetch anew each time answers alike.
 ///
 /// Conditions: RAM begins at a multiple of 16, and the window is one of the capability.
 #[inline(always)]

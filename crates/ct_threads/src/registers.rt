@@ -12,7 +12,7 @@ ghost use Rattle.ct_threads.specs.Windows.{Suits};
 
 use crate::window::Window;
 use ct_areas::Thread;
-use ct_cap::{Live, Permission, Posture, raise, turn};
+use ct_cap::{Flags, Live, Perms, Posture, raise, turn};
 use ct_loadstore::filter;
 use ct_mem::Memory;
 
@@ -112,6 +112,7 @@ pub fn filter_row<M: Memory>(t: &mut Thread, mem: &M)
 }
 
 /// Whether each check of a fetch passes.
+#[tactic(auto, using(ct_perm::proofs::Tests::has_ex))]
 #[inline(always)]
 pub(crate) fn may_fetch(pcc: &Live) -> bool
     ensures { result ≡ is_none (first_failed (fetch_checks pcc.now)) }
@@ -122,7 +123,7 @@ pub(crate) fn may_fetch(pcc: &Live) -> bool
     if pcc.seal != 0 {
         return false;
     }
-    if !pcc.perms.has(Permission::Execute) {
+    if !pcc.perms.contains(Perms::EX) {
         return false;
     }
     let at = pcc.address() as u64;

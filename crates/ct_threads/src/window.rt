@@ -4,7 +4,7 @@ ghost use Rattle.std.specs.Prelude.{◌≡◌, ◌*◌, length};
 ghost use Rattle.ct_threads.specs.Windows.{empty_window, may_run, window_holds, bounds_in_ram, window_of};
 
 use crate::fetching::FIRST_AFTER_NATIVE;
-use ct_cap::{Live, Permission};
+use ct_cap::{Flags, Live, Perms};
 use ct_mem::Memory;
 
 /// The first number past all addresses.
@@ -38,10 +38,11 @@ impl Window {
 }
 
 /// Whether a capability is unsealed and may be executed.
+#[tactic(auto, using(ct_perm::proofs::Tests::has_ex))]
 fn may_run(pcc: &Live) -> bool
     ensures { result ≡ may_run pcc.now }
 {
-    pcc.seal == 0 && pcc.perms.has(Permission::Execute)
+    pcc.seal == 0 && pcc.perms.contains(Perms::EX)
 }
 
 /// Whether a capability's bounds are in order, and lie in RAM past the native routines and before the last address.

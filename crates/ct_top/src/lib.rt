@@ -1,4 +1,4 @@
-//! The top call: words and files in, bytes and a status out (docs/use/run.md, docs/claims/headline.md).
+//! The top call: words and files in, bytes and a status out (docs/use/run.md, docs/claims/claims.md).
 //! Its clauses say, for each status, from what it comes and what was written; the definitions stand in
 //! def_program.
 #![tactic(auto)]
@@ -10,12 +10,13 @@ mod runs;
 
 ghost use Rattle.std.specs.Prelude.{◌≡◌, ℕ, List, Some, map, string_bytes};
 ghost use Rattle.def_image.specs.Parts.{PartsRow};
+ghost use Rattle.def_image.specs.Sound.{Sound};
+ghost use Rattle.def_program.specs.Allowing.{IsAllowed};
 ghost use Rattle.def_program.specs.Answers.{Answers};
 ghost use Rattle.def_program.specs.Commands.{Command, form_of as form_in};
 ghost use Rattle.def_program.specs.Calls.{call_record};
 ghost use Rattle.def_program.specs.Licences.{IsLicensedCommand, StandFor};
 ghost use Rattle.def_program.specs.Safe.{IsSafeCommand};
-ghost use Rattle.def_program.specs.Completing.{Completes, CompletesDemo, RefusesMisuse};
 ghost use Rattle.def_program.specs.Deciding.{IsDecided};
 ghost use Rattle.def_program.specs.Written.{IsRunWritten};
 
@@ -53,21 +54,26 @@ use std::alloc::Global;
 /// - `decided`: where no fault is counted and the folder tells the files that are due, the call ends with
 ///   the status that is due after them, a refusal or not, or wants memory; a file that is told to be too
 ///   large is `TooLarge`, and one that is told to be absent `ReadFault`.
-/// - `complete`: where no fault is counted, a command on told files that stand for an image is done, or
-///   wants memory; but names that stand for nothing are refused, and a policy may be denied. Of a script
-///   and of a policy the text must be one.
-/// - `demo`: where no fault is counted, `demo` of any number is done, or wants memory.
-/// - `misuse`: words that aren't a form are `Usage`, and never want memory.
 /// - `written`: a run that is done wrote the report line, the lines of a list of what happened, and the
 ///   summary; and each of that same list is licensed by the entries of the image that the files which
 ///   were read stand for, and the run of its events is safe, as the next two clauses say it.
+/// - `allowed`: a `check` that is done read the files that stand for an image, and a policy; and what each
+///   line of that policy means holds of every run of the image.
+/// - `sound`: the parts that files stand for are sound: what acceptance says of them, in plain facts.
 /// - `licensed`: each deed, and each span with interrupts off, of the run that the words ask for is
-///   licensed by the entries of the image that the files stand for, whatever the code bytes are and
+///   licensed by the entries of the image, whatever sound parts it has, whatever their code bytes are and
 ///   whatever the script says.
 /// - `safe`: of that run: calls are clean and accesses licensed; nothing is loaded, stored, waited for or
-///   woken through a capability of an object after its free; each allocation hands out a fresh object; a
-///   freed chunk is handed out again only after a whole sweep that began after the free; and the live
-///   charges on each quota are at most its limit after every event.
+///   woken through a capability of an object after its free; each allocation hands out a fresh object; a trap
+///   is that of the first check that fails; charges follow what is told; what the thread that carries on holds
+///   reaches RAM, devices and native entries alone; a frame's error handler is entered where a trap is told
+///   that enters it, and only once; keys and tokens are kept; a freed chunk is handed out again only after a
+///   whole sweep that began after the free; and the live charges on each quota are at most its limit after
+///   every event. What it tells is what was done, by the thread, the compartment and the entry that it names;
+///   what is done is told; and a step of which a check fails does nothing but trap. What an event changes it
+///   changes for a reason that is listed: code stays as it is, and globals, stacks, live objects and devices
+///   change by those alone who may. Whatever stands comes of what stood, loads attenuate, and a capability
+///   without GL is held by stacks alone, of all granules.
 ///
 /// What files hold and what was written is said of a folder and a sink that tell it. The system's
 /// tell nothing: there the clauses speak of statuses, names, limits and counts alone.
@@ -81,20 +87,16 @@ pub fn capfw<F: Folder, S: Sink>(
         (F.shows folder.old) (F.shows folder.new) (S.shows sink.old) (S.shows sink.new)) result }
     ensures decided { IsDecided (call_record (map string_bytes words.now)
         (F.shows folder.old) (F.shows folder.new) (S.shows sink.old) (S.shows sink.new)) result }
-    ensures complete { Completes (call_record (map string_bytes words.now)
-        (F.shows folder.old) (F.shows folder.new) (S.shows sink.old) (S.shows sink.new)) result }
-    ensures demo { CompletesDemo (call_record (map string_bytes words.now)
-        (F.shows folder.old) (F.shows folder.new) (S.shows sink.old) (S.shows sink.new)) result }
-    ensures misuse { RefusesMisuse (call_record (map string_bytes words.now)
-        (F.shows folder.old) (F.shows folder.new) (S.shows sink.old) (S.shows sink.new)) result }
     ensures written { IsRunWritten (call_record (map string_bytes words.now)
         (F.shows folder.old) (F.shows folder.new) (S.shows sink.old) (S.shows sink.new)) result }
-    ensures licensed { (asked : Command) (files : List (List ℕ)) (p : PartsRow)
-        → form_in (map string_bytes words.now) ≡ Some asked → StandFor asked files p
-        → IsLicensedCommand asked p }
-    ensures safe { (asked : Command) (files : List (List ℕ)) (p : PartsRow)
-        → form_in (map string_bytes words.now) ≡ Some asked → StandFor asked files p
-        → IsSafeCommand asked p }
+    ensures allowed { IsAllowed (call_record (map string_bytes words.now)
+        (F.shows folder.old) (F.shows folder.new) (S.shows sink.old) (S.shows sink.new)) result }
+    ensures sound { (asked : Command) (files : List (List ℕ)) (p : PartsRow)
+        → StandFor asked files p → Sound p }
+    ensures licensed { (asked : Command) (p : PartsRow)
+        → form_in (map string_bytes words.now) ≡ Some asked → Sound p → IsLicensedCommand asked p }
+    ensures safe { (asked : Command) (p : PartsRow)
+        → form_in (map string_bytes words.now) ≡ Some asked → Sound p → IsSafeCommand asked p }
 {
     command(alloc, words, folder, sink)
 }

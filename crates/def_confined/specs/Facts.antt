@@ -105,6 +105,8 @@ pub record Facts (i : Image) : Type 0 where
   pub gates : (n : ℕ) → (root i n).origin ≡ Listing kind.Export → GateFits i n
   -- calls: a callee's stack ends at a multiple of 16, and has bounds that a word can spell
   pub stacks : (n : ℕ) → (root i n).origin ≡ Listing kind.Stack → StackFits (root i n)
+  -- traps: the record of a trap lies in RAM
+  pub stacks_low : (n : ℕ) → (root i n).origin ≡ Listing kind.Stack → (root i n).top ≤ i.heap_end
   -- fetches: a native routine runs through a capability of its own alone
   pub natives : (n x : ℕ) → is_native (root i n).origin ≡ false → GrantsAccess (root i n)
       → LiesInRoot (root i n) x → (x < NATIVE_BASE) ⊎ (NATIVE_END ≤ x)

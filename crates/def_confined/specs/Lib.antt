@@ -13,7 +13,6 @@ pub mod Telling
 pub mod Facts
 pub mod Authorises
 pub mod Stale
-pub mod Returning
 pub mod Clock
 pub mod Filters
 pub mod Jumping

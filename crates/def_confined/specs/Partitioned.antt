@@ -17,11 +17,6 @@ use Rattle.def_profile.specs.declared.limits.TheConstants.{RAM_END}
 use Rattle.def_profile.specs.declared.rights.TheConstants.{STACK_RIGHTS}
 use Rattle.def_confined.specs.Capabilities.{Rooted, heap_cap, stack_cap}
 
--- a region that isn't as boot made it
-abbrev pub Open : Region → Type 0
-Open Fixed = ⊥
-Open _ = Unit {0}
-
 -- entry n is a compartment's globals, or its import with letter C of a shared object, or a thread's stack
 abbrev pub IsGlobalsOf : Image → ℕ → ℕ → Type 0
 IsGlobalsOf i n o = ((root i n).origin ≡ Listing kind.Globals) × ((root i n).owner ≡ Compartment o)
@@ -33,6 +28,18 @@ IsShareOf i n object =
 
 abbrev pub IsStackOfThread : Image → ℕ → ℕ → Type 0
 IsStackOfThread i n t = ((root i n).origin ≡ Listing kind.Stack) × (n ≡ stack_entry i t)
+
+-- What an entry reaches through which bytes may be stored: each region has entries of its own, and what boot made and
+-- the heap have none. What is bare is stored into through imports of sealed objects and of devices alone.
+abbrev pub StoresInto : Image → ℕ → Region → Type 0
+StoresInto i n Fixed = ⊥
+StoresInto i n (Globals o) = IsGlobalsOf i n o
+StoresInto i n (Shared object) =
+    ((root i n).origin ≡ Listing kind.Shared) × ((root i n).of ≡ object)
+StoresInto i n HeapRam = ⊥
+StoresInto i n (Stack t) = IsStackOfThread i n t
+StoresInto i n Bare =
+    ((root i n).origin ≡ Listing kind.Sealed) ⊎ ((root i n).origin ≡ Listing kind.Device)
 
 -- what an entry reaches through which capabilities may be stored
 abbrev pub Carries : Image → ℕ → Region → Type 0
@@ -77,7 +84,7 @@ pub record IsOwnEntry (i : Image) (b n : ℕ) (k : Kind) : Type 0 where
 
 pub record Partitioned (i : Image) : Type 0 where
   pub stores : (n x : ℕ) → i.ram ≤ x → bit (root i n).rights store_data ≡ true → (root i n).base ≤ x
-      → x < (root i n).top → Open (region i (granule_of i x))
+      → x < (root i n).top → StoresInto i n (region i (granule_of i x))
   pub carries : (n x : ℕ) → bit (root i n).rights store_data ≡ true
       → bit (root i n).rights memory_capability ≡ true → (root i n).base ≤ x → x < (root i n).top
       → (i.ram ≤ x) × Carries i n (region i (granule_of i x))

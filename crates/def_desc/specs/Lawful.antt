@@ -7,7 +7,8 @@ use Rattle.ct_entry.specs.declared.rows.Mode.TheVariants.{Inherit}
 use Rattle.def_profile.specs.declared.layout.TheConstants.{REGION_UNIT, DEVICE_SIZE}
 use Rattle.def_profile.specs.declared.limits.TheConstants as most
 use Rattle.def_profile.specs.declared.limits.TheConstants.{LEAST_RAM, LEAST_STACK, RAM_END}
-use Rattle.def_profile.specs.declared.native.TheConstants.{NATIVE_BASE, NATIVE_END, YIELD}
+use Rattle.def_native.specs.declared.TheConstants.{YIELD}
+use Rattle.def_profile.specs.declared.native.TheConstants.{NATIVE_BASE, NATIVE_END}
 use Rattle.def_profile.specs.declared.seals.TheConstants.{FIRST_KEY_TYPE, LAST_KEY_TYPE}
 use Rattle.def_profile.specs.Versions.{most_ram, least_sweep, most_sweep}
 use Rattle.def_texts.specs.Names.{is_name}

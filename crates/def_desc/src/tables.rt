@@ -4,13 +4,13 @@
 
 use crate::PartWord;
 use ct_entry::{DeviceKind, Mode};
+use def_native as native;
 use def_profile::limits::{
     LAST_VERSION, LEAST_RAM, LEAST_STACK, MOST_ARGUMENTS, MOST_BYTES, MOST_COMPARTMENTS,
     MOST_DEVICES, MOST_EXPORTS, MOST_FRAMES, MOST_IMPORTS, MOST_KEYS, MOST_LIBRARIES, MOST_OBJECTS,
     MOST_PRIORITY, MOST_QUANTUM, MOST_QUOTA, MOST_QUOTAS, MOST_RAM_2, MOST_STACK, MOST_SWEEP_RATE,
     MOST_THREADS_2, RAM_END,
 };
-use def_profile::native;
 use def_profile::seals::{FIRST_KEY_TYPE, LAST_KEY_TYPE};
 
 /// The lists of texts of which one stands at a member.

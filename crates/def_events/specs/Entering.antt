@@ -1,4 +1,4 @@
--- *Handler law*, of one event: which frames of threads are marked as handling, and where an error handler is entered.
+-- *Handler law*, of one event: which frames of threads are handling, and where an error handler is entered.
 use Rattle.std.specs.Prelude.{ℕ, ◌≡◌, true, false, List, [], ◌∷◌, Option, Some}
 use Rattle.ct_entry.specs.declared.acts.Act.TheVariants.{Trap}
 use Rattle.ct_entry.specs.declared.acts.Deed.{Deed}
@@ -8,11 +8,11 @@ use Rattle.def_step.specs.declared.Event.{Event}
 use Rattle.def_step.specs.Events.{happens}
 use Rattle.def_safety.specs.Calls.{enters_handler}
 use Rattle.def_safety.specs.Each.{ready}
-use Rattle.def_safety.specs.Marks.{MarksGo, OneMarked, marks}
+use Rattle.def_safety.specs.Handling.{HandlingGoes, OneHandles, handling}
 
--- of every thread a frame that goes takes its mark along, and none is marked that was marked before
-abbrev pub MarksOnce : Platform → State → Event → Type 0
-MarksOnce b s e = (t : ℕ) → MarksGo (marks s t) (marks (happens b s e).0 t)
+-- of every thread the innermost frame alone comes to be handling, which wasn't before, and stops by its end alone
+abbrev pub HandlesOnce : Platform → State → Event → Type 0
+HandlesOnce b s e = (t : ℕ) → HandlingGoes (handling s t) (handling (happens b s e).0 t)
 
 -- a trap of thread t is told, and enters the error handler of the compartment of its innermost frame
 pub record TrapEnters (b : Platform) (s : State) (told : Option Deed) (t : ℕ) : Type 0 where
@@ -28,15 +28,15 @@ pub record TrapEnters (b : Platform) (s : State) (told : Option Deed) (t : ℕ) 
   pub frames_are : (thread s t).frames ≡ frame ∷ below
   pub enters : enters_handler b s t frame ≡ true
 
--- a frame is marked by nothing else
-abbrev pub MarkedByTraps : Platform → State → Event → Type 0
-MarkedByTraps b s e =
-    (t : ℕ) → OneMarked (marks s t) (marks (happens b s e).0 t)
+-- a frame comes to be handling by nothing else
+abbrev pub HandlesByTraps : Platform → State → Event → Type 0
+HandlesByTraps b s e =
+    (t : ℕ) → OneHandles (handling s t) (handling (happens b s e).0 t)
     → TrapEnters b (ready b s) (happens b s e).1.deed t
 
--- a trap that is told, and enters an error handler, finds its frame without a mark
-abbrev pub EntersUnmarked : Platform → State → Event → Type 0
-EntersUnmarked b s e =
+-- a trap that is told, and enters an error handler, is of a frame that wasn't handling
+abbrev pub EntersFresh : Platform → State → Event → Type 0
+EntersFresh b s e =
     (d : Deed) (cause code register : ℕ) (f : Frame) (fs : List Frame)
     → (happens b s e).1.deed ≡ Some d → d.act ≡ Trap cause code register
     → (thread (ready b s) d.thread).frames ≡ f ∷ fs

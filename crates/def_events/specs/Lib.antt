@@ -1,8 +1,10 @@
+pub mod Running
 pub mod Guarded
 pub mod Entering
 pub mod Tokens
 pub mod Upheld
 pub mod Opened
+pub mod Holdings
 pub mod Kinds
 pub mod Alike
 pub mod Causes

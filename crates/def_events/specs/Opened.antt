@@ -25,7 +25,7 @@ pub record IsOpenedBy (b : Platform) (P : Cap → Type 0) (s : State) (t : ℕ) 
 -- As Comes of def_safety says it, but a token is opened by a step alone, which carries out token_open and is given the
 -- token with its key.
 pub data ComesOpened (b : Platform) (P : Cap → Type 0) (s : State) (e : Event) (d : Cap) : Type 0 where
-  derived : Derives b.image P d → ComesOpened b P s e d
+  derived : Derives b P s e d → ComesOpened b P s e d
   object : (r : Object) → IsNew s (happens b s e).0 r → d ≡ object_cap r → ComesOpened b P s e d
   sealed : (r : Object) → IsNew s (happens b s e).0 r → d ≡ sealed_token r → ComesOpened b P s e d
   token : e ≡ Step → (t : ℕ) → IsOpenedBy b P (ready b s) t d → ComesOpened b P s e d

@@ -1,6 +1,6 @@
 //! The firmware that is generated from a number, for demonstration: a chain of compartments, each of
 //! which takes and frees memory, calls the next one and writes its index to a serial port
-//! (docs/use/demo.md).
+//! (docs/use/run.md).
 //!
 //! The definitions stand in specs/: Numbers has what is chosen by the number, Description the
 //! description as a JSON value, Sources the text of each compartment.

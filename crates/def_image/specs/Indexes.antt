@@ -1,7 +1,8 @@
 -- I5: what imports and threads name is there, and slots stand in their order.
 use Rattle.std.specs.Prelude.{ℕ, ◌+◌, ◌==◌, ◌&&◌, ◌||◌, Bool, true, false, not, nat_lt, List, [], ◌∷◌, ◌++◌, length, map, Option, Some, None, slice_get, if◌then◌else◌}
 use Rattle.std.specs.List.{list_any}
-use Rattle.def_profile.specs.declared.native.TheConstants.{SWITCH, RETURN}
+use Rattle.def_native.specs.declared.TheConstants.{SWITCH}
+use Rattle.def_profile.specs.declared.native.TheConstants.{RETURN}
 use Rattle.def_image.specs.declared.Check.{Check}
 use Rattle.def_image.specs.declared.ImportRow.{ImportRow}
 use Rattle.def_image.specs.declared.SlotKind.{SlotKind}

@@ -1,12 +1,14 @@
--- What acceptance says of an image, in plain facts by index, which the laws of images take as their premise. Its bounds
--- are those of the last version of the format, whatever part of it is taken.
+-- What acceptance says of an image, in plain facts by index, which the laws of images take as their premise. Limits that
+-- differ from version to version are those of the image's own.
 use Rattle.std.specs.Prelude.{ℕ, zero, suc, ◌+◌, ◌*◌, ◌%◌, ◌≡◌, ◌≤◌, ◌<◌, ◌⊎◌, true, false, length, Some, slice_get}
 use Rattle.ct_entry.specs.Listed.{DeviceRow}
 use Rattle.ct_entry.specs.declared.rows.Mode.TheVariants.{Inherit}
 use Rattle.def_profile.specs.declared.layout.TheConstants.{REGION_UNIT, SLOT_SIZE, DEVICE_SIZE, TRUSTED_HEAD}
 use Rattle.def_profile.specs.declared.limits.TheConstants as most
 use Rattle.def_profile.specs.declared.limits.TheConstants.{LEAST_RAM, RAM_END, LEAST_STACK, LAST_VERSION}
-use Rattle.def_profile.specs.declared.native.TheConstants.{NATIVE_BASE, NATIVE_END, LAST_NATIVE}
+use Rattle.def_profile.specs.Versions.{least_sweep, most_ram, most_sweep, most_threads}
+use Rattle.def_native.specs.declared.TheConstants.{LAST_NATIVE}
+use Rattle.def_profile.specs.declared.native.TheConstants.{NATIVE_BASE, NATIVE_END}
 use Rattle.def_profile.specs.declared.seals.TheConstants.{FIRST_KEY_TYPE, LAST_KEY_TYPE}
 use Rattle.def_image.specs.declared.ImportRow.{ImportRow}
 use Rattle.def_image.specs.declared.ExportRow.{ExportRow}
@@ -31,7 +33,7 @@ IsAway base size low high = (base + size ≤ low) ⊎ (high ≤ base)
 pub record RamFits (p : PartsRow) : Type 0 where
   pub base : p.ram % REGION_UNIT ≡ 0
   pub size : p.size % REGION_UNIT ≡ 0
-  pub sized : IsWithin LEAST_RAM most.MOST_RAM_2 p.size
+  pub sized : IsWithin LEAST_RAM (most_ram p.version) p.size
   pub end : p.ram + p.size ≤ RAM_END
   pub native : IsAway p.ram p.size NATIVE_BASE NATIVE_END
 
@@ -53,7 +55,7 @@ pub record DeviceFits (p : PartsRow) (d : DeviceRow) : Type 0 where
 pub record SealedFits (s : SealedRow) : Type 0 where
   pub size : IsWithin 1 most.MOST_BYTES s.length
   pub seal : IsWithin FIRST_KEY_TYPE LAST_KEY_TYPE s.seal
-  pub bytes : length s.bytes ≤ s.length
+  pub bytes : IsWithin 1 s.length (length s.bytes)
 
 -- ---- slots
 
@@ -151,11 +153,11 @@ pub record AreFew (p : PartsRow) : Type 0 where
   pub sealed : length p.sealed ≤ most.MOST_OBJECTS
   pub compartments : length p.compartments ≤ most.MOST_COMPARTMENTS
   pub libraries : length p.libraries ≤ most.MOST_LIBRARIES
-  pub threads : length p.threads ≤ most.MOST_THREADS_2
+  pub threads : length p.threads ≤ most_threads p.version
 
 pub record Sound (p : PartsRow) : Type 0 where
   pub version : IsWithin 1 LAST_VERSION p.version
-  pub sweep : IsWithin 1 most.MOST_SWEEP_RATE p.sweep
+  pub sweep : IsWithin (least_sweep p.version) (most_sweep p.version) p.sweep
   pub quantum : IsWithin 1 most.MOST_QUANTUM p.quantum
   pub few : AreFew p
   pub ram : RamFits p

@@ -1,8 +1,8 @@
 //! How much of the format is taken: all of it. Images and descriptions cite these numbers, and
 //! nothing else says them.
 
+use def_native::LAST_NATIVE;
 use def_profile::limits::{LAST_VERSION, MOST_THREADS_2};
-use def_profile::native::LAST_NATIVE;
 
 /// The last version whose images are taken.
 pub const VERSIONS_TAKEN: u32 = LAST_VERSION;

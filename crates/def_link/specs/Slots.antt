@@ -2,7 +2,7 @@
 -- index; a well-formed description names nothing that isn't there.
 use Rattle.std.specs.Prelude.{ℕ, ◌+◌, List, [], ◌∷◌, ◌++◌, map, length, Bool, true, false, nat_lt, Option, Some, None, unwrap_or, bytes_eq, if◌then◌else◌, codes}
 use Rattle.std.specs.List.{position_or_len}
-use Rattle.def_profile.specs.declared.native.TheConstants.{SWITCH}
+use Rattle.def_native.specs.declared.TheConstants.{SWITCH}
 use Rattle.def_profile.specs.declared.rights.TheConstants.{GL, SD, LG, LM, LD, MC, SERVICE_RIGHTS, SEALED_RIGHTS, EXPORT_RIGHTS, CODE_RIGHTS, QUOTA_RIGHTS, KEY_RIGHTS}
 use Rattle.def_words.specs.Permissions.{packed}
 use Rattle.def_image.specs.declared.ImportRow.{ImportRow as SlotImport}

@@ -24,7 +24,7 @@ use Rattle.def_policy.specs.declared.Subject.{Subject}
 use Rattle.def_policy.specs.declared.Subject.TheVariants.{Apart, Call, Data, Device, Disabled, Quota, Service, Shared, Total}
 use Rattle.def_reach.specs.Roots.{Listing, is_owned, root_of}
 use Rattle.def_reach.specs.Sharing.{Reaches}
-use Rattle.def_safety.specs.Clean.{CleanEntry}
+use Rattle.def_safety.specs.Clean.{CleanEntry, TakesNone}
 use Rattle.def_safety.specs.Each.{EachEvent, ready}
 use Rattle.def_step.specs.Events.{happens, run, happenings_of}
 use Rattle.def_step.specs.declared.Event.{Event}
@@ -61,11 +61,12 @@ IsListedCall e r export h =
     → ((root_of e d.entry).origin ≡ Listing kind.Call) × ((root_of e d.entry).of ≡ export)
     × IsListedFor e r (root_of e d.entry).owner d.actor
 
--- a call of the export enters its callee clean: it takes no capability of the caller's along
+-- a call of the export enters its callee clean, and takes no capability of the caller's along
 abbrev pub EntersClean : ℕ → Platform → State → Event → Type 0
 EntersClean export b s e =
     (d : Deed) → (happens b s e).1.deed ≡ Some d → d.act ≡ act.Call export
     → CleanEntry b.image (ready b s) d.thread export (happens b s e).0
+    × TakesNone (happens b s e).0 d.thread
 
 -- ---- spans with interrupts off
 

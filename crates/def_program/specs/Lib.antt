@@ -19,3 +19,5 @@ pub mod Accesses
 pub mod AllowedLines
 pub mod Named
 pub mod AllowedRuns
+pub mod Allowing
+pub mod Owners

@@ -1,5 +1,7 @@
 -- What holds of a run that a command asks for, beside the licences of its deeds: of each of its events what `Upholds`
--- says, and of all of them that no freed object is used, chunks are swept before reuse and quotas hold.
+-- says, that what is told is what was done, and that what changes changes for a reason that is listed; and of all of
+-- them that what nobody may change stays, what is local stands in stacks, no freed object is used, chunks are swept
+-- before reuse and quotas hold.
 use Rattle.std.specs.Prelude.{ℕ, ◌≡◌, ◌≤◌, ◌++◌, List, ◌∷◌, take, Some}
 use Rattle.ct_entry.specs.declared.acts.Act.TheVariants.{Allocate, Free}
 use Rattle.ct_entry.specs.declared.acts.Deed.{Deed}
@@ -15,11 +17,20 @@ use Rattle.def_step.specs.Events.{happens, run}
 use Rattle.def_step.specs.declared.Event.{Event}
 use Rattle.def_step.specs.declared.Event.TheVariants.{Step}
 use Rattle.def_events.specs.Upheld.{Upholds}
+use Rattle.def_integrity.specs.Homes.{HomesKept, HomesStay}
+use Rattle.def_integrity.specs.Integrity.{Integrity}
+use Rattle.def_safety.specs.Attenuates.{LocalsInStacks}
 use Rattle.def_safety.specs.Chunks.{ChunksMeet, IsNotOf}
 use Rattle.def_safety.specs.Each.{EachEvent}
 use Rattle.def_safety.specs.Reuse.{SweepsWhole}
 use Rattle.def_safety.specs.Temporal.{UsesOnly}
+use Rattle.def_truly.specs.Exactly.{TellsExactly}
 use Rattle.def_program.specs.Within.{state_after}
+
+-- after so many of the events a granule that holds a capability without GL is of a thread's stack
+abbrev pub StacksHoldLocals : PartsRow → List Event → Type 0
+StacksHoldLocals p events =
+    (count : ℕ) → LocalsInStacks (image_of p) (state_after p (take count events))
 
 -- after so many of the events the live charges on each quota are at most its limit
 abbrev pub WithinLimits : PartsRow → List Event → Type 0
@@ -42,7 +53,8 @@ SweptBeforeReuseIn p events =
     → made.act ≡ Allocate other from size total → ChunksMeet from size base bytes
     → SweepsWhole (platform_of p) (happens (platform_of p) (state_after p before) Step).0 between
 
--- where one step tells a free, no event after it loads, stores, waits or wakes through a capability of the freed object
+-- where one step tells a free, no event after it loads, stores, waits or wakes through a capability of the freed
+-- object
 abbrev pub UnusedAfterFreeIn : PartsRow → List Event → Type 0
 UnusedAfterFreeIn p events =
     (before between rest : List Event) (freed : Deed) (number base bytes charged : ℕ)
@@ -55,6 +67,11 @@ UnusedAfterFreeIn p events =
 
 pub record IsSafeRun (p : PartsRow) (es : List Event) : Type 0 where
   pub events : EachEvent (Upholds (platform_of p)) (platform_of p) (boot_state p) es
+  pub exact : EachEvent (TellsExactly (platform_of p)) (platform_of p) (boot_state p) es
+  pub integrity : EachEvent (Integrity (platform_of p)) (platform_of p) (boot_state p) es
+  pub homes : EachEvent (HomesKept (platform_of p)) (platform_of p) (boot_state p) es
+  pub stay : HomesStay (platform_of p) (boot_state p) es
+  pub locals : StacksHoldLocals p es
   pub unused : UnusedAfterFreeIn p es
   pub swept : SweptBeforeReuseIn p es
   pub quotas : WithinLimits p es

@@ -53,10 +53,10 @@ pub record NumberedFault : Type 0 where
   pub place : ℕ
 
 -- the turn is the refusal of a fault of this kind
-pub record Refuses {A : Type 0} (IsPolicyFault : A → Type 0) (refusal : A → Turn) (turn : Turn)
+pub record Refuses {A : Type 0} (IsSuchFault : A → Type 0) (refusal : A → Turn) (turn : Turn)
     : Type 0 where
   pub fault : A
-  pub is : IsPolicyFault fault
+  pub is : IsSuchFault fault
   pub due : turn ≡ refusal fault
 
 abbrev pub RefusesDescription : List ℕ → Turn → Type 0

@@ -3,7 +3,7 @@ use Rattle.std.specs.Prelude.{ℕ, ◌==◌, false, List, [], ◌∷◌, ◌++�
 use Rattle.std.specs.List.{flat_map}
 use Rattle.ct_entry.specs.declared.rows.Mode.TheVariants.{Inherit}
 use Rattle.ct_entry.specs.Listed.{DeviceRow}
-use Rattle.def_profile.specs.declared.native.TheConstants.{SWITCH}
+use Rattle.def_native.specs.declared.TheConstants.{SWITCH}
 use Rattle.def_desc.specs.declared.tables.TheConstants.{SERVICES}
 use Rattle.def_desc.specs.References.{export_name}
 use Rattle.def_image.specs.declared.ImportRow.{ImportRow}

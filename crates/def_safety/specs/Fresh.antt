@@ -1,6 +1,6 @@
 -- *Fresh objects*: what an allocation hands out.
 use Rattle.std.specs.Prelude.{ℕ, ◌≡◌, ◌+◌, ◌≤◌, ◌<◌, ◌⊎◌, true, Some, None}
-use Rattle.def_profile.specs.declared.native.TheConstants.{ALLOCATE, TOKEN_KEY, TOKEN_NEW}
+use Rattle.def_native.specs.declared.TheConstants.{ALLOCATE, TOKEN_KEY, TOKEN_NEW}
 use Rattle.def_words.specs.declared.Cap.{Cap}
 use Rattle.def_words.specs.Authority.{cap_base, cap_top}
 use Rattle.def_memory.specs.Granules.{plain}

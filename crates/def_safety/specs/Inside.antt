@@ -1,6 +1,7 @@
 -- Where the authority of a board's roots lies.
 use Rattle.std.specs.Prelude.{ℕ, ◌≡◌, ◌+◌, ◌≤◌, ◌<◌, ◌⊎◌, true, is_some}
-use Rattle.def_profile.specs.declared.native.TheConstants.{NATIVE_LENGTH, LAST_NATIVE}
+use Rattle.def_native.specs.declared.TheConstants.{LAST_NATIVE}
+use Rattle.def_profile.specs.declared.native.TheConstants.{NATIVE_LENGTH}
 use Rattle.def_reach.specs.Roots.{is_root}
 use Rattle.def_machine.specs.Image.{root}
 use Rattle.def_confined.specs.Facts.{GrantsAccess}

@@ -7,11 +7,12 @@ pub mod Clean
 pub mod Handlers
 pub mod Calls
 pub mod Accesses
+pub mod Attenuates
 pub mod Fresh
 pub mod Temporal
 pub mod Reuse
 pub mod Chunks
-pub mod Marks
+pub mod Handling
 pub mod Charges
 pub mod Traps
 pub mod Within
@@ -19,7 +20,8 @@ pub mod Safety
 pub mod Everywhere
 pub mod Tokened
 pub mod Opening
+pub mod Calling
+pub mod Gives
 pub mod Comes
 pub mod Results
-pub mod Calling
 pub mod HiddenSteps

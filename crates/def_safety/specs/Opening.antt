@@ -1,7 +1,7 @@
 -- What token_open finds and answers, and that nothing else takes a token's seal away.
 use Rattle.std.specs.Prelude.{ℕ, ◌≡◌, ◌+◌, ◌<◌, ◌⊎◌, ◌↔◌, true, Some, None}
 use Rattle.def_profile.specs.declared.answers.TheConstants.{NO_KEY, NO_TOKEN}
-use Rattle.def_profile.specs.declared.native.TheConstants.{TOKEN_OPEN}
+use Rattle.def_native.specs.declared.TheConstants.{TOKEN_OPEN}
 use Rattle.def_profile.specs.declared.seals.TheConstants.{TOKEN_TYPE}
 use Rattle.def_words.specs.declared.Cap.{Cap}
 use Rattle.def_words.specs.Authority.{cap_address, cap_base, cap_top}

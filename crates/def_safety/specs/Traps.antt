@@ -2,7 +2,7 @@
 use Rattle.std.specs.Prelude.{ℕ, ◌≡◌, ◌==◌, ◌||◌, ◌++◌, Bool, true, false, List, [], ◌∷◌, Some, if◌then◌else◌}
 use Rattle.ct_entry.specs.declared.acts.Act.TheVariants as acts
 use Rattle.ct_entry.specs.declared.acts.Deed.{Deed}
-use Rattle.def_profile.specs.declared.native.TheConstants.{SWITCH, WAIT, WAKE}
+use Rattle.def_native.specs.declared.TheConstants.{SWITCH, WAIT, WAKE}
 use Rattle.def_profile.specs.declared.traps.TheConstants.{ILLEGAL_INSTRUCTION, BREAKPOINT, ENVIRONMENT_CALL, SYSTEM_REGISTER_CODE, PCC_REGISTER}
 use Rattle.def_words.specs.declared.Cap.{Cap}
 use Rattle.def_words.specs.declared.Trap.{Trap}
@@ -31,9 +31,9 @@ use Rattle.def_safety.specs.Used.{authority_of, value_of, access_start}
 
 -- ---- the lists
 
--- what never holds
-abbrev pub always : Trap → List Check
-always why = (false, why) ∷ []
+-- the list whose check never holds
+abbrev pub fails_always : Trap → List Check
+fails_always why = (false, why) ∷ []
 
 -- where a branch is taken, its target is checked
 abbrev pub branch_checks : Bool → ℕ → List Check
@@ -67,14 +67,14 @@ jump_checks _ x y pcc = []
 abbrev pub class_checks : Class → Instr → State → ℕ → List Check
 class_checks class.Integer k s t = []
 class_checks class.Capability k s t = []
-class_checks class.System k s t = always (capability_trap SYSTEM_REGISTER_CODE PCC_REGISTER)
+class_checks class.System k s t = fails_always (capability_trap SYSTEM_REGISTER_CODE PCC_REGISTER)
 class_checks class.Jump k s t =
     jump_checks k (authority_of s t k) (value_of s t k) (thread s t).pcc
 class_checks class.Access k s t =
     access_checks (access_of k) (authority_of s t k) (value_of s t k) (access_start s t k)
 class_checks class.Fence k s t = []
-class_checks class.Call k s t = always (plain_trap ENVIRONMENT_CALL)
-class_checks class.Break k s t = always (plain_trap BREAKPOINT)
+class_checks class.Call k s t = fails_always (plain_trap ENVIRONMENT_CALL)
+class_checks class.Break k s t = fails_always (plain_trap BREAKPOINT)
 
 -- of a native routine that thread t runs, by its number
 abbrev pub routine_checks : Image → State → ℕ → ℕ → List Check
@@ -90,7 +90,7 @@ abbrev pub next_checks : Image → State → ℕ → Next → List Check
 next_checks i s t Returning = []
 next_checks i s t (Instruction k) = class_checks (class_of k) k s t
 next_checks i s t (Native n) = routine_checks i s t n
-next_checks i s t Nothing = always (plain_trap ILLEGAL_INSTRUCTION)
+next_checks i s t Nothing = fails_always (plain_trap ILLEGAL_INSTRUCTION)
 
 -- of a step of thread t: the fetch's, then those of what stands there
 abbrev pub step_checks : Platform → State → ℕ → List Check

@@ -4,7 +4,7 @@
 #![tactic(auto)]
 
 use def_instr::Instr;
-use def_profile::native::TOKEN_FREE;
+use def_native::TOKEN_FREE;
 
 /// The greatest number of a native routine that the machine carries out. Of those after it each is
 /// nothing that is carried out.

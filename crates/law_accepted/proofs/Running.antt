@@ -31,6 +31,13 @@ use Rattle.def_events.specs.Upheld.{Upholds}
 use Rattle.def_safety.specs.Chunks.{ChunksMeet, UnusedAfterFree}
 use Rattle.law_history.proofs.Running.{run_upholds, run_unused, run_charges, run_reuses}
 use Rattle.law_started.proofs.Starting.{no_rows}
+use Rattle.def_integrity.specs.Homes.{HomesKept, HomesStay}
+use Rattle.def_integrity.specs.Integrity.{Integrity}
+use Rattle.def_safety.specs.Attenuates.{LocalsInStacks}
+use Rattle.def_truly.specs.Exactly.{TellsExactly}
+use Rattle.law_history.proofs.Locals.{image_local}
+use Rattle.law_integrity.proofs.Whole.{events_kept, each_homes_kept, homes_stay}
+use Rattle.law_truly.proofs.Whole.{images_exact}
 
 pub partitioned : (p : PartsRow) → IsFaultless p → Partitioned (image_of p)
 partitioned p f = booted.partitioned p (sound p f)
@@ -51,19 +58,34 @@ confined p es f = (kept p es (sound p f)).confined
 pub licensed : (p : PartsRow) (es : List Event) → IsFaultless p → AllLicensed (image_of p).entries (happenings_of (platform_of p) (boot_state p) es)
 licensed p es f = all_licensed p es (sound p f)
 
--- ---- what runs do
+-- ---- what runs of sound parts do
 
-pub upheld : (p : PartsRow) (es : List Event) → IsFaultless p → EachEvent (Upholds (platform_of p)) (platform_of p) (boot_state p) es
-upheld p es f = run_upholds (platform_of p) (partitioned p f) (holds p (sound p f)) (wired p (sound p f)) (boot_state p) es (inside p (sound p f)) (shut p (sound p f)) (keeps p (sound p f)) (blank p (sound p f)) (no_rows p) (boot_tokened p (sound p f))
+pub upheld : (p : PartsRow) (es : List Event) → Sound p → EachEvent (Upholds (platform_of p)) (platform_of p) (boot_state p) es
+upheld p es s = run_upholds (platform_of p) (booted.partitioned p s) (holds p s) (wired p s) (boot_state p) es (inside p s) (shut p s) (keeps p s) (blank p s) (no_rows p) (boot_tokened p s)
 
-pub unused : (p : PartsRow) → IsFaultless p → UnusedAfterFree (platform_of p) (boot_state p)
-unused p f = run_unused (platform_of p) (partitioned p f) (holds p (sound p f)) (wired p (sound p f)) (boot_state p) (keeps p (sound p f))
+pub exact : (p : PartsRow) (es : List Event) → Sound p → EachEvent (TellsExactly (platform_of p)) (platform_of p) (boot_state p) es
+exact p es s = images_exact p es s
 
-pub swept : (p : PartsRow) (es fs : List Event) (d : Deed) (n base long live : ℕ) (c : Deed) (number from size left : ℕ) → IsFaultless p → (happens (platform_of p) (run (platform_of p) (boot_state p) es) Step).1.deed ≡ Some d → d.act ≡ acts.Free n base long live
+pub integrity : (p : PartsRow) (es : List Event) → Sound p → EachEvent (Integrity (platform_of p)) (platform_of p) (boot_state p) es
+integrity p es s = events_kept (platform_of p) (boot_state p) es (booted.partitioned p s) (holds p s) (wired p s) (keeps p s)
+
+pub homes : (p : PartsRow) (es : List Event) → Sound p → EachEvent (HomesKept (platform_of p)) (platform_of p) (boot_state p) es
+homes p es s = each_homes_kept (platform_of p) (boot_state p) es (booted.partitioned p s) (holds p s) (wired p s) (keeps p s)
+
+pub stay : (p : PartsRow) (es : List Event) → Sound p → HomesStay (platform_of p) (boot_state p) es
+stay p es s = homes_stay (platform_of p) (boot_state p) es (booted.partitioned p s) (holds p s) (wired p s) (keeps p s)
+
+pub locals : (p : PartsRow) (es : List Event) → Sound p → LocalsInStacks (image_of p) (run (platform_of p) (boot_state p) es)
+locals p es s = image_local p es s
+
+pub unused : (p : PartsRow) → Sound p → UnusedAfterFree (platform_of p) (boot_state p)
+unused p s = run_unused (platform_of p) (booted.partitioned p s) (holds p s) (wired p s) (boot_state p) (keeps p s)
+
+pub swept : (p : PartsRow) (es fs : List Event) (d : Deed) (n base long live : ℕ) (c : Deed) (number from size left : ℕ) → Sound p → (happens (platform_of p) (run (platform_of p) (boot_state p) es) Step).1.deed ≡ Some d → d.act ≡ acts.Free n base long live
     → (happens (platform_of p) (run (platform_of p) (happens (platform_of p) (run (platform_of p) (boot_state p) es) Step).0 fs) Step).1.deed ≡ Some c → c.act ≡ acts.Allocate number from size left → ChunksMeet from size base long
     → SweepsWhole (platform_of p) (happens (platform_of p) (run (platform_of p) (boot_state p) es) Step).0 fs
-swept p es fs d n base long live c number from size left f =
-    run_reuses (platform_of p) (partitioned p f) (holds p (sound p f)) (wired p (sound p f)) (boot_state p) es fs d n base long live c number from size left (shut p (sound p f)) (keeps p (sound p f)) (blank p (sound p f))
+swept p es fs d n base long live c number from size left s =
+    run_reuses (platform_of p) (booted.partitioned p s) (holds p s) (wired p s) (boot_state p) es fs d n base long live c number from size left (shut p s) (keeps p s) (blank p s)
 
-pub quotas : (p : PartsRow) (es : List Event) (q : ℕ) → IsFaultless p → charges q (run (platform_of p) (boot_state p) es).objects ≤ (root (image_of p) q).limit
-quotas p es q f = run_charges (platform_of p) (partitioned p f) (holds p (sound p f)) (wired p (sound p f)) (boot_state p) es q (keeps p (sound p f))
+pub quotas : (p : PartsRow) (es : List Event) (q : ℕ) → Sound p → charges q (run (platform_of p) (boot_state p) es).objects ≤ (root (image_of p) q).limit
+quotas p es q s = run_charges (platform_of p) (booted.partitioned p s) (holds p s) (wired p s) (boot_state p) es q (keeps p s)

@@ -34,6 +34,7 @@ use Rattle.def_reach.specs.Roots.{Listing, TrustedPart, Unknown, gate_for, is_ow
 use Rattle.def_reach.specs.Sharing.{Reaches}
 use Rattle.def_safety.specs.Accesses.{UsesReach}
 use Rattle.def_safety.specs.Each.{EachEvent, ready}
+use Rattle.law_events.proofs.Cleans.{takes_none}
 use Rattle.def_step.specs.Events.{happens, run, happenings_of}
 use Rattle.def_step.specs.declared.Event.{Event}
 use Rattle.ct_policy.specs.Kept.{IsUntrusted}
@@ -157,7 +158,7 @@ module _ (p : PartsRow) (es : List Event) (f : IsFaultless p) where
   all_told = running.licensed p es f
 
   reaches : EachEvent (λ s x. UsesReach (platform_of p) s) (platform_of p) (boot_state p) es
-  reaches = each_so (Upholds (platform_of p)) (λ s x. UsesReach (platform_of p) s) (λ s x u. u.safe.accesses) (platform_of p) (boot_state p) es (running.upheld p es f)
+  reaches = each_so (Upholds (platform_of p)) (λ s x. UsesReach (platform_of p) s) (λ s x u. u.safe.accesses) (platform_of p) (boot_state p) es (running.upheld p es (sound p f))
 
   module _ (r : Ruling) where
     -- the owner of an import that a register's authority is of reaches the compartment that runs
@@ -209,12 +210,13 @@ module _ (p : PartsRow) (es : List Event) (f : IsFaultless p) where
   unfolding image_of
   enters_so n are s x l u d is call =
       let named = named_export n d d.act (l.deed d is) call in
-      u.safe.calls.enters d n is call (plain e n are n refl named)
+      let clean = u.safe.calls.enters d n is call in
+      (clean, takes_none (platform_of p).image (ready (platform_of p) s) (happens (platform_of p) s x).0 d.thread n (plain e n are n refl named) clean)
 
   data_over : (n : ℕ) → PassesData e n → EachEvent (EntersClean n (platform_of p)) (platform_of p) (boot_state p) es
   data_over n are =
       both_each (λ s x. IsLicensedEvent e (happens (platform_of p) s x).1) (Upholds (platform_of p)) (EntersClean n (platform_of p)) (enters_so n are) (platform_of p) (boot_state p) es
-      (licensed_each e (platform_of p) (boot_state p) es all_told) (running.upheld p es f)
+      (licensed_each e (platform_of p) (boot_state p) es all_told) (running.upheld p es (sound p f))
 
   -- ---- quotas
 
@@ -224,7 +226,7 @@ module _ (p : PartsRow) (es : List Event) (f : IsFaultless p) where
   each_within : (k i : ℕ) (x : Entry) (at : ℕ) → slice_get e.rows i ≡ Some x → at ≡ 1 + i → charges at (objects_after k) ≤ x.limit
   unfolding image_of
   each_within k i x at there is =
-      let limit : charges at (run (platform_of p) (boot_state p) (take k es)).objects ≤ (root_of e at).limit = running.quotas p (take k es) at f in
+      let limit : charges at (run (platform_of p) (boot_state p) (take k es)).objects ≤ (root_of e at).limit = running.quotas p (take k es) at (sound p f) in
       let place : at ≡ suc i = omega (arith, is) in
       subst (λ m. charges at (run (platform_of p) (boot_state p) (take k es)).objects ≤ m) (ap (λ z. (root_of e z).limit) place ∙ row_limit e i x there) limit
 

@@ -1,5 +1,6 @@
-//! The machine of every accepted image, whatever its code bytes, and so of every image that lawful rows and sources are
-//! linked to; and what a policy that holds says of its runs. Functions with empty bodies whose contracts are the laws.
+//! The machine of every accepted image, whatever its code bytes, and so of every image that lawful rows and sources
+//! are linked to; and what a policy that holds says of its runs. Functions with empty bodies whose contracts are the
+//! laws.
 #![tactic(auto)]
 
 mod allowed;
@@ -20,7 +21,11 @@ ghost use Rattle.def_machine.specs.Objects.{charges};
 ghost use Rattle.def_step.specs.Events.{run, happenings_of};
 ghost use Rattle.def_step.specs.declared.Event.{Event};
 ghost use Rattle.def_events.specs.Upheld.{Upholds};
+ghost use Rattle.def_integrity.specs.Homes.{HomesKept, HomesStay};
+ghost use Rattle.def_integrity.specs.Integrity.{Integrity};
+ghost use Rattle.def_safety.specs.Attenuates.{LocalsInStacks};
 ghost use Rattle.def_safety.specs.Chunks.{SweptBeforeReuse, UnusedAfterFree};
+ghost use Rattle.def_truly.specs.Exactly.{TellsExactly};
 ghost use Rattle.def_safety.specs.Each.{EachEvent};
 ghost use Rattle.law_image_samples.specs.Tiny.{tiny};
 ghost use Rattle.def_link.specs.Links.{RowsLinkTo};
@@ -51,14 +56,33 @@ pub fn accepted_images_run()
         → AllLicensed (image_of p).entries (happenings_of (platform_of p) (boot_state p) es) }
 {}
 
-/// Whatever events come from its boot: calls are clean; each access is licensed; nothing is loaded, stored,
-/// waited for or woken through a capability of an object after its free; an allocation hands out a fresh
-/// object; a frame's error handler is entered where a trap is told that enters it, and only once; a chunk that
-/// was freed is handed out again only after a whole sweep that began after its free; and the live charges on
-/// each quota are at most its limit.
+/// Whatever events come from the boot of any bytes that are an image. Of each: calls are clean; each access is
+/// licensed; nothing is loaded, stored, waited for or woken through a capability of an object after its free; an
+/// allocation hands out a fresh object; a trap that is told is that of the first check that fails; charges follow
+/// what is told; what the thread that carries on holds reaches RAM, devices and native entries alone; a frame's error
+/// handler is entered where a trap is told that enters it, and only once; keys and tokens are kept; whatever stands
+/// comes of what stood, and loads attenuate (`safe`). What is told is what was done, what is done is told, and a step
+/// of which a check fails does nothing but trap (`exact`). What changes of RAM, threads, devices and the heap's rows
+/// changes for a reason that is listed (`integrity`), and globals, stacks, live objects and devices by those alone
+/// who may (`homes`).
+///
+/// Of all of them: code stays, and globals, stacks, threads, live objects and devices while none acts who may change
+/// them (`stay`); a capability without GL stands in a stack alone, of all granules (`locals`); no access goes through
+/// a capability of an object after its free (`unused`); a chunk that was freed is handed out again only after a whole
+/// sweep that began after its free (`swept`); and the live charges on each quota are at most its limit (`quotas`).
 pub fn accepted_images_are_safe()
     ensures safe { (bytes : List ℕ) (p : PartsRow) (es : List Event) → IsImage bytes p
         → EachEvent (Upholds (platform_of p)) (platform_of p) (boot_state p) es }
+    ensures exact { (bytes : List ℕ) (p : PartsRow) (es : List Event) → IsImage bytes p
+        → EachEvent (TellsExactly (platform_of p)) (platform_of p) (boot_state p) es }
+    ensures integrity { (bytes : List ℕ) (p : PartsRow) (es : List Event) → IsImage bytes p
+        → EachEvent (Integrity (platform_of p)) (platform_of p) (boot_state p) es }
+    ensures homes { (bytes : List ℕ) (p : PartsRow) (es : List Event) → IsImage bytes p
+        → EachEvent (HomesKept (platform_of p)) (platform_of p) (boot_state p) es }
+    ensures stay { (bytes : List ℕ) (p : PartsRow) (es : List Event) → IsImage bytes p
+        → HomesStay (platform_of p) (boot_state p) es }
+    ensures locals { (bytes : List ℕ) (p : PartsRow) (es : List Event) → IsImage bytes p
+        → LocalsInStacks (image_of p) (run (platform_of p) (boot_state p) es) }
     ensures unused { (bytes : List ℕ) (p : PartsRow) → IsImage bytes p
         → UnusedAfterFree (platform_of p) (boot_state p) }
     ensures swept { (bytes : List ℕ) (p : PartsRow) → IsImage bytes p

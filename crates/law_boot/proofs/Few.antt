@@ -7,6 +7,7 @@ use Rattle.def_profile.specs.declared.layout.TheConstants.{TABLE_HEAD}
 use Rattle.def_profile.specs.declared.limits.TheConstants.{MOST_COMPARTMENTS, MOST_EXPORTS, MOST_LIBRARIES, MOST_SLOTS, MOST_THREADS_2}
 use Rattle.def_image.specs.Parts.{GateRow, CodeRow, CompartmentRow, ThreadRow, PartsRow}
 use Rattle.def_image.specs.Sound.{Sound}
+use Rattle.law_image.proofs.Limited.{few_threads}
 use Rattle.def_boot.specs.Entries.{slot_rows, export_rows, library_export_row, compartment_rows, library_rows, stack_row, rows_from, entry_rows}
 use Rattle.law_boot.proofs.Standing.{slots_count, exports_count}
 
@@ -70,4 +71,4 @@ pub few_entries : (p : PartsRow) → Sound p → length (entry_rows p) ≤ 32766
 few_entries p s = few_rows p
     (λ k c is. let f = s.compartment k c is in (f.slots.1, f.code.exports))
     (λ k c is. let f = s.library k c is in let few = f.slots in (omega (arith, few), f.code.exports))
-    s.few.compartments s.few.libraries s.few.threads
+    s.few.compartments s.few.libraries (few_threads p s.few)

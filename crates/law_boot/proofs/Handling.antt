@@ -40,7 +40,7 @@ own_export p b (Some c) (Some j) is found some =
 own_handler : (p : PartsRow) (b : ℕ) → (handler_number p b ≡ 0 → ⊥) → OwnExport p b (handler_number p b)
 own_handler p b some = own_export p b (slice_get p.compartments b) (position is_handler (exports_in (slice_get p.compartments b))) refl refl some
 
-entry_is : (p : PartsRow) (b : ℕ) → (handler_entry (image_of p) b ≡ 0 → ⊥) → handler_entry (image_of p) b ≡ handler_number p b
+pub entry_is : (p : PartsRow) (b : ℕ) → (handler_entry (image_of p) b ≡ 0 → ⊥) → handler_entry (image_of p) b ≡ handler_number p b
 entry_is p b some = elim (lt_tells b (length p.compartments)) [ inl less ↦ handler_entry_is p b less.1 | inr past ↦ absurd (some (no_handler_entry p b past.1)) ]
 
 own_entry : (p : PartsRow) (b : ℕ) → (handler_entry (image_of p) b ≡ 0 → ⊥) → OwnExport p b (handler_entry (image_of p) b)

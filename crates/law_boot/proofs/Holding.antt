@@ -243,6 +243,18 @@ module _ (p : PartsRow) (s : Sound p) where
   unfolding image_of
   stacks n is = stack_fits n (entry_of p n) is
 
+  -- a stack lies before the heap
+  below_heap : (o : Origin) (base top : ℕ) → LiesAs p o base top → o ≡ Listing kind.Stack → top ≤ p.ram + p.size
+  below_heap o base top (of_nothing no_key none) is = omega (arith, none)
+  below_heap o base top (in_ram no_key from to) is = let inside = s.heap.inside in omega (arith, to, inside)
+  below_heap o base top (native no_key own entry) is = no_way (sym (ap is_native is) ∙ own)
+  below_heap o base top (device its at) is = no_way (sym (ap is_stack its) ∙ ap is_stack is)
+  below_heap o base top (of_key its from to) is = no_way (sym (ap is_stack its) ∙ ap is_stack is)
+
+  stacks_low : (n : ℕ) → (root (image_of p) n).origin ≡ Listing kind.Stack → (root (image_of p) n).top ≤ (image_of p).heap_end
+  unfolding image_of
+  stacks_low n is = below_heap _ _ _ (told_at p s n).lies is
+
   natives : (n x : ℕ) → is_native (root (image_of p) n).origin ≡ false → GrantsAccess (root (image_of p) n) → LiesInRoot (root (image_of p) n) x → (x < NATIVE_BASE) ⊎ (NATIVE_END ≤ x)
   natives n x other reads inside = native_away _ _ _ x (told_at p s n).lies other inside.0 inside.1
 
@@ -256,6 +268,7 @@ module _ (p : PartsRow) (s : Sound p) where
     gates = gates;
     handlers = handler_fits p;
     stacks = stacks;
+    stacks_low = stacks_low;
     natives = natives;
     heap = heap_away;
     away = roots_away p s;

@@ -17,6 +17,7 @@ pub mod Own
 pub mod Wiring
 pub mod Ranges
 pub mod Handling
+pub mod NamedHandlers
 pub mod Holding
 pub mod Lists
 pub mod Found

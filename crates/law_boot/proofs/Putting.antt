@@ -134,7 +134,7 @@ puts_initial p sound b c there w lt =
 
 pub puts_sealed : (p : PartsRow) → Sound p → (n : ℕ) (s : SealedRow) → slice_get p.sealed n ≡ Some s → PutsBytes p s.base s.bytes
 puts_sealed p sound n s there w lt =
-    let fits = (sound.sealed n s there).bytes in
+    let fits = (sound.sealed n s there).bytes.1 in
     puts_as p _ _ _ _ refl (ap (λ (d : SealedRow). plain (word_from_bytes d.bytes (8 * w))) (sealed_is p n s there))
     (at_offset p sound (SealedOf n) s.base s.length (8 * w) (sealed_there p n s there) (omega (arith, fits, lt)) (omega arith))
 

@@ -83,7 +83,7 @@ abbrev pub Each : (ℕ → Type 0) → List ℕ → Type 0
 Each Q [] = Unit {0}
 Each Q (x ∷ xs) = Q x × Each Q xs
 
-one_of : (Q : ℕ → Type 0) (s : ℕ) (xs : List ℕ) → is_one_of s xs ≡ true → Each Q xs → Q s
+pub one_of : (Q : ℕ → Type 0) (s : ℕ) (xs : List ℕ) → is_one_of s xs ≡ true → Each Q xs → Q s
 one_of Q s [] is each = no_way is
 one_of Q s (x ∷ xs) is each = elim (eq_tells s x) [
   | inl same ↦ subst Q (sym same.1) each.0

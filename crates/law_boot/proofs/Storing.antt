@@ -12,7 +12,7 @@ use Rattle.def_words.specs.Permissions.{bit, store_data, memory_capability}
 use Rattle.def_reach.specs.Roots.{Root, root_of, no_gate}
 use Rattle.def_machine.specs.Image.{Region, Shared, root, granule_of}
 use Rattle.def_machine.specs.Image as image
-use Rattle.def_confined.specs.Partitioned.{Open, Carries}
+use Rattle.def_confined.specs.Partitioned.{StoresInto, Carries}
 use Rattle.def_image.specs.declared.ImportRow.{ImportRow}
 use Rattle.def_image.specs.declared.SlotKind.{SlotKind}
 use Rattle.def_image.specs.declared.SlotKind.TheVariants as slot
@@ -89,22 +89,22 @@ abbrev pub Part : PartsRow → ℕ → Region
 Part p x = image.region (image_of p) (granule_of (image_of p) x)
 
 pub record Stores (p : PartsRow) (n : ℕ) (z : Root) : Type 0 where
-  pub opens : (x : ℕ) → p.ram ≤ x → bit z.rights store_data ≡ true → z.base ≤ x → x < z.top → Open (Part p x)
+  pub into : (x : ℕ) → p.ram ≤ x → bit z.rights store_data ≡ true → z.base ≤ x → x < z.top → StoresInto (image_of p) n (Part p x)
   pub carries : (x : ℕ) → bit z.rights store_data ≡ true → bit z.rights memory_capability ≡ true → z.base ≤ x → x < z.top → (p.ram ≤ x) × Carries (image_of p) n (Part p x)
 
 keeps : (p : PartsRow) (n : ℕ) (z : Root) → bit z.rights store_data ≡ false → Stores p n z
 keeps p n z none = record {
-  opens = λ x from stores low high. clash_of (bit z.rights store_data) stores none;
+  into = λ x from stores low high. clash_of (bit z.rights store_data) stores none;
   carries = λ x stores carries low high. clash_of (bit z.rights store_data) stores none;
 }
 
 -- through an entry of a region
 in_region : (p : PartsRow) → Sound p → (n : ℕ) (z : Root) (h : Holder) (base size : ℕ) → Among (regions_of p) h base size → z.base ≡ base → z.top ≡ base + size
-    → ((k : ℕ) → Open (part_of h k)) → ((k : ℕ) → bit z.rights memory_capability ≡ true → Carries (image_of p) n (part_of h k)) → Stores p n z
-in_region p s n z h base size a starts ends opens carries = record {
-  opens = λ x from stores low high.
+    → ((k : ℕ) → StoresInto (image_of p) n (part_of h k)) → ((k : ℕ) → bit z.rights memory_capability ≡ true → Carries (image_of p) n (part_of h k)) → Stores p n z
+in_region p s n z h base size a starts ends into carries = record {
+  into = λ x from stores low high.
       let found = of_address p s x a.index (region h a.place base size) a.is (omega (arith, starts, low), omega (arith, ends, high)) in
-      subst (λ r. Open r) (sym found.1) (opens found.0);
+      subst (λ r. StoresInto (image_of p) n r) (sym found.1) (into found.0);
   carries = λ x stores mc low high.
       let found = of_address p s x a.index (region h a.place base size) a.is (omega (arith, starts, low), omega (arith, ends, high)) in
       let laid = (s.laid.each a.index (region h a.place base size) a.is).low in
@@ -123,9 +123,9 @@ module _ (p : PartsRow) (s : Sound p) where
       let base = ap (λ (z : Root). z.base) h.root_is ∙ device_base_is p s r.first names.0 names.1 in
       let top = ap (λ (z : Root). z.top) h.root_is ∙ ap (λ a. a + 16) (device_base_is p s r.first names.0 names.1) in
       record {
-        opens = λ x from stores low high. elim (s.device r.first names.0 names.1).ram [
+        into = λ x from stores low high. elim (s.device r.first names.0 names.1).ram [
           | inl a ↦ absurd (omega (arith, a, top, high, from))
-          | inr a ↦ subst (λ q. Open q) (sym (past_address p s x (omega (arith, a, base, low)))) tt
+          | inr a ↦ subst (λ q. StoresInto (image_of p) n q) (sym (past_address p s x (omega (arith, a, base, low)))) (inr (ap (λ (z : Root). z.origin) h.root_is))
         ];
         carries = λ x stores mc low high. clash_of (bit (root_of (entries_of p) n).rights memory_capability) mc (ap (λ (z : Root). bit z.rights memory_capability) h.root_is ∙ device_carries (rights_of r) fits);
       }
@@ -134,7 +134,7 @@ module _ (p : PartsRow) (s : Sound p) where
       let whose = owned refl in
       in_region p s n (root_of (entries_of p) n) (SharedOf r.first) names.0.base names.0.length (shared_there p r.first names.0 names.1)
       (ap (λ (z : Root). z.base) h.root_is ∙ ap (λ (c : SharedRow). c.base) same) (ap (λ (z : Root). z.top) h.root_is ∙ ap (λ (c : SharedRow). c.base + c.length) same)
-      (λ k. tt)
+      (λ k. (ap (λ (z : Root). z.origin) h.root_is, ap (λ (z : Root). z.of) h.root_is))
       (λ k mc. (
         ap (λ (z : Root). z.origin) h.root_is,
         (
@@ -147,7 +147,7 @@ module _ (p : PartsRow) (s : Sound p) where
       let same : sealed p r.first ≡ names.0 = ap (λ z. unwrap_or z no_sealed) names.1 in
       in_region p s n (root_of (entries_of p) n) (SealedOf r.first) names.0.base names.0.length (sealed_there p r.first names.0 names.1)
       (ap (λ (z : Root). z.base) h.root_is ∙ ap (λ (c : SealedRow). c.base) same) (ap (λ (z : Root). z.top) h.root_is ∙ ap (λ (c : SealedRow). c.base + c.length) same)
-      (λ k. tt)
+      (λ k. inl (ap (λ (z : Root). z.origin) h.root_is))
       (λ k mc. clash_of (bit (root_of (entries_of p) n).rights memory_capability) mc
       (ap (λ (z : Root). bit z.rights memory_capability) h.root_is ∙ ap (λ a. bit a memory_capability) (eqb-true (rights_of r) SEALED_RIGHTS fits) ∙ sealed_carries))
   slot_stores n o at r slot.Call names fits owned h = kept n _ _ h (ap (λ a. bit a store_data) (eqb-true (rights_of r) EXPORT_RIGHTS fits) ∙ export_keeps)
@@ -165,7 +165,8 @@ module _ (p : PartsRow) (s : Sound p) where
   in_case n (is_code b c h number) = at n _ number (kept _ _ _ h.code code_keeps)
   in_case n (is_globals b c h number) =
       at n _ number (in_region p s _ _ (GlobalsOf b) c.globals c.globals_length (globals_there p b c h.there)
-      (ap (λ (z : Root). z.base) h.globals.root_is) (ap (λ (z : Root). z.top) h.globals.root_is) (λ k. tt)
+      (ap (λ (z : Root). z.base) h.globals.root_is) (ap (λ (z : Root). z.top) h.globals.root_is)
+      (λ k. (ap (λ (z : Root). z.origin) h.globals.root_is, ap (λ (z : Root). z.owner) h.globals.root_is))
       (λ k mc. (ap (λ (z : Root). z.origin) h.globals.root_is, ap (λ (z : Root). z.owner) h.globals.root_is)))
   in_case n (is_slot b c j x h is number) =
       let own = ((s.compartment b c h.there).slot j x is).fits in
@@ -178,12 +179,13 @@ module _ (p : PartsRow) (s : Sound p) where
   in_case n (is_library_export l c j x h is number) = at n _ number (kept _ _ _ (h.export j x is) code_keeps)
   in_case n (is_stack t x h number) =
       at n _ number (in_region p s _ _ (StackOf t) x.stack x.stack_length (stack_there p t x h.there)
-      (ap (λ (z : Root). z.base) h.row.root_is) (ap (λ (z : Root). z.top) h.row.root_is) (λ k. tt)
+      (ap (λ (z : Root). z.base) h.row.root_is) (ap (λ (z : Root). z.top) h.row.root_is)
+      (λ k. (ap (λ (z : Root). z.origin) h.row.root_is, sym (stack_entry_is p t (slice_get_within p.threads t x h.there))))
       (λ k mc. (ap (λ (z : Root). z.origin) h.row.root_is, sym (stack_entry_is p t (slice_get_within p.threads t x h.there)))))
 
-  pub opens : (n x : ℕ) → (image_of p).ram ≤ x → bit (root (image_of p) n).rights store_data ≡ true → (root (image_of p) n).base ≤ x → x < (root (image_of p) n).top → Open (Part p x)
+  pub into : (n x : ℕ) → (image_of p).ram ≤ x → bit (root (image_of p) n).rights store_data ≡ true → (root (image_of p) n).base ≤ x → x < (root (image_of p) n).top → StoresInto (image_of p) n (Part p x)
   unfolding image_of
-  opens n x from stores low high = (in_case n (entry_of p n)).opens x from stores low high
+  into n x from stores low high = (in_case n (entry_of p n)).into x from stores low high
 
   pub carries : (n x : ℕ) → bit (root (image_of p) n).rights store_data ≡ true → bit (root (image_of p) n).rights memory_capability ≡ true → (root (image_of p) n).base ≤ x → x < (root (image_of p) n).top
       → ((image_of p).ram ≤ x) × Carries (image_of p) n (Part p x)

@@ -11,7 +11,8 @@ use Rattle.ct_entry.specs.declared.rows.Mode.{Mode}
 use Rattle.ct_entry.specs.declared.rows.Mode.TheVariants.{Inherit, Disabled, Enabled}
 use Rattle.ct_entry.specs.declared.rows.Kind.TheVariants as kind
 use Rattle.def_profile.specs.declared.layout.TheConstants.{SLOT_SIZE, DEVICE_SIZE}
-use Rattle.def_profile.specs.declared.native.TheConstants.{NATIVE_BASE, NATIVE_END, NATIVE_LENGTH, LAST_NATIVE, RETURN, RETURN_ENTRY}
+use Rattle.def_native.specs.declared.TheConstants.{LAST_NATIVE}
+use Rattle.def_profile.specs.declared.native.TheConstants.{NATIVE_BASE, NATIVE_END, NATIVE_LENGTH, RETURN, RETURN_ENTRY}
 use Rattle.def_profile.specs.declared.rights.TheConstants.{KEY_RIGHTS}
 use Rattle.def_profile.specs.declared.seals.TheConstants.{FIRST_KEY_TYPE, RETURN_ENABLE, EXPORT_TYPE, QUOTA_TYPE, TOKEN_TYPE, SENTRY_INHERIT, SENTRY_DISABLE, SENTRY_ENABLE, RETURN_DISABLE, LAST_KEY_TYPE}
 use Rattle.def_words.specs.declared.Cap.{Cap}

@@ -14,7 +14,7 @@ use Rattle.law_boot.proofs.Loading.{loads}
 
 pub partitioned : (p : PartsRow) → Sound p → Partitioned (image_of p)
 partitioned p s = record {
-  stores = storing.opens p s;
+  stores = storing.into p s;
   carries = storing.carries p s;
   loads = loads p s;
   heap = stacks.heap p s;

@@ -5,7 +5,8 @@ use Rattle.law_lists.proofs.Tests.{le_tells, lt_tells}
 use Rattle.ct_entry.specs.Listed.{DeviceRow}
 use Rattle.ct_entry.specs.declared.rows.Kind.TheVariants as kind
 use Rattle.def_profile.specs.declared.layout.TheConstants.{DEVICE_SIZE}
-use Rattle.def_profile.specs.declared.native.TheConstants.{NATIVE_BASE, NATIVE_END, NATIVE_UNIT, LAST_NATIVE, RETURN_ENTRY}
+use Rattle.def_native.specs.declared.TheConstants.{LAST_NATIVE}
+use Rattle.def_profile.specs.declared.native.TheConstants.{NATIVE_BASE, NATIVE_END, NATIVE_UNIT, RETURN_ENTRY}
 use Rattle.def_words.specs.Authority.{cap_address}
 use Rattle.def_words.specs.Permissions.{bit, load_data, store_data}
 use Rattle.def_reach.specs.Roots.{Origin, Listing, is_native}

@@ -4,6 +4,7 @@
 
 mod facts;
 mod first_states;
+mod handlers;
 mod listed;
 mod partitioned;
 mod parts;
@@ -12,6 +13,7 @@ mod words;
 
 pub use facts::facts_hold;
 pub use first_states::{boot_partition, images_partitioned};
+pub use handlers::handlers_named;
 pub use listed::entries_are;
 pub use partitioned::rows_partition;
 pub use parts::{makes_stand, parts_lie};

@@ -8,6 +8,7 @@ mod wellformed;
 
 pub use answers::one_or_the_other;
 pub use samples::{
-    board_is_well_formed, faults_of_form, faults_of_meaning, great_numbers, small_descriptions,
+    board_is_well_formed, faults_of_form, faults_of_meaning, great_numbers, numbers_left_out,
+    small_descriptions,
 };
 pub use wellformed::well_formed_is_lawful;

@@ -1,9 +1,10 @@
 //! Descriptions that are judged by computing the definitions.
 
-ghost use Rattle.std.specs.Prelude.{◌≡◌, [], ◌∷◌, codes, None, Some};
+ghost use Rattle.std.specs.Prelude.{◌≡◌, ℕ, [], ◌∷◌, codes, None, Some};
 ghost use Rattle.serde_json.specs.Data.{string};
 ghost use Rattle.law_desc.specs.Samples.{at, empty, tiny, tiny_of, tiny_importing, tiny_on, tiny_in, tiny_run_by, altered, with, all, num, app, words, export, import, uart, ram, thread, text, service_of, board};
 ghost use Rattle.def_desc.specs.declared.faults.PartWord.TheVariants as part;
+ghost use Rattle.def_desc.specs.Reading.{at_of, description_of};
 ghost use Rattle.def_desc.specs.WellFormed.{IsFaulty, fault_of};
 
 /// Small descriptions, and what is wrong with them.
@@ -19,7 +20,8 @@ pub fn small_descriptions()
 {}
 
 /// A number from 2^32 on isn't cut before it is judged: an export may begin anywhere, as far as a
-/// description goes, and a key's number is outside its limit before 0 is the second such number.
+/// description goes, and a key's number is outside its limit before 0 is the second such number. The place
+/// of an export is the file's number, whatever its size.
 pub fn great_numbers()
     ensures at { fault_of
         (tiny_of
@@ -29,6 +31,16 @@ pub fn great_numbers()
     ensures keys { fault_of
         (tiny_of (with app (codes "keys") (all (num 4294967296 ∷ num 0 ∷ []))))
         ≡ Some (at 6 part.Key 0 0) }
+    ensures place { (n : ℕ) → (at_of (with empty (codes "at") (num n))).offset ≡ n }
+{}
+
+/// What a description means that leaves a number out: version 1, a rate of 64 granules, which the second
+/// version has too, and a quantum of 100 steps.
+pub fn numbers_left_out()
+    ensures version { (description_of empty).version ≡ 1 }
+    ensures rate { (description_of empty).sweep ≡ 64 }
+    ensures rate_2 { (description_of (with empty (codes "version") (num 2))).sweep ≡ 64 }
+    ensures quantum { (description_of empty).quantum ≡ 100 }
 {}
 
 /// Of each other rule a description that breaks it, and where: an open brace alone, members that

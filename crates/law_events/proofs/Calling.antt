@@ -33,13 +33,13 @@ use Rattle.law_routines.proofs.Places.{least, never}
 -- ---- the room of a callee's stack
 
 -- the least exponent from 4 on at which a length has at most 511 units
-record RoomIs (n e : ℕ) : Type 0 where
+pub record RoomIs (n e : ℕ) : Type 0 where
   pub low : 4 ≤ e
   pub high : e ≤ LAST_EXPONENT
   pub few : n / 2 ^ e ≤ MOST_UNITS
   pub least : (k : ℕ) → 4 ≤ k → k < e → MOST_UNITS < n / 2 ^ k
 
-room_is : (n : ℕ) → n ≤ MOST_STACK_REGION → RoomIs n (room_exponent n)
+pub room_is : (n : ℕ) → n ≤ MOST_STACK_REGION → RoomIs n (room_exponent n)
 room_is n small = by_found (find (λ e. nat_le (n / 2 ^ e) MOST_UNITS) (range_with_len 4 11)) refl
   where
     -- at 7 there are few enough

@@ -18,7 +18,8 @@ use Rattle.def_reach.specs.Roots.{is_native}
 use Rattle.def_machine.specs.Image.{Image, root, made_cap}
 use Rattle.def_machine.specs.State.{State, Frame, Object, thread, register}
 use Rattle.def_profile.specs.declared.traps.TheConstants.{TAG_CODE, SEAL_CODE, EXECUTE_CODE, MISALIGNED_FETCH}
-use Rattle.def_profile.specs.declared.native.TheConstants.{NATIVE_BASE, NATIVE_UNIT, LAST_NATIVE}
+use Rattle.def_native.specs.declared.TheConstants.{LAST_NATIVE}
+use Rattle.def_profile.specs.declared.native.TheConstants.{NATIVE_BASE, NATIVE_UNIT}
 use Rattle.def_profile.specs.declared.seals.TheConstants.{SENTRY_INHERIT, SENTRY_ENABLE, RETURN_DISABLE, RETURN_ENABLE}
 use Rattle.def_step.specs.Accesses.{unless}
 use Rattle.def_step.specs.Jumps.{register_target, register_jump_checks, register_jumped}

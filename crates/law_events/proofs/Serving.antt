@@ -33,9 +33,9 @@ use Rattle.def_step.specs.Routines.{tells, code, switched_to, switch, stops, yie
 use Rattle.law_moves.proofs.Moves.{untagged_puts}
 use Rattle.law_moves.proofs.Entering.{given_enters}
 use Rattle.law_moves.proofs.Threads.{push_keeps}
-use Rattle.def_safety.specs.Clean.{high_of}
+use Rattle.def_safety.specs.Clean.{callee_of, high_of}
 use Rattle.def_events.specs.Stands.{RoutineKeeps}
-use Rattle.law_events.proofs.Switching.{callee_of, checks_say, caller_of}
+use Rattle.law_events.proofs.Switching.{checks_say, caller_of}
 use Rattle.law_events.proofs.Answering.{Returning, return_says, return_tells, failed_tells, checked_stands, answers_keeps, stops_keeps}
 
 -- ---- the room of a callee's stack

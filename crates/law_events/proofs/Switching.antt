@@ -1,6 +1,6 @@
 -- What the switch comes to where it tells a call: its checks passed, and it entered the export.
 use Rattle.std.proofs.Common.{ℕ, ◌≡◌, ◌-◌, ◌==◌, ◌≤◌, true, inl, inr, nat_le, nat_lt, List, ◌∷◌, length, Option, Some, None, refl, sym, ap, ◌∙◌, subst, arith}
-use Rattle.std.proofs.lemmas.Bool.{eqb-true, eqb-false, leb-true, and_parts, cases_eq}
+use Rattle.std.proofs.lemmas.Bool.{eqb-true, eqb-false, leb-true, ltb-false, and_parts, cases_eq}
 use Rattle.std.specs.Int.{is_in_range}
 use Rattle.law_lists.proofs.Tests.{chosen}
 use Rattle.ct_entry.specs.declared.acts.Act.{Act}
@@ -25,10 +25,7 @@ use Rattle.def_step.specs.Routines.{Ran, Traps, Leaves, tells, code, enters, swi
 use Rattle.law_moves.proofs.Checks.{AllPass, all_pass}
 use Rattle.law_moves.proofs.JumpsMoves.{in_rooted}
 use Rattle.law_moves.proofs.Authorities.{headed}
-use Rattle.def_safety.specs.Clean.{high_of}
-
-abbrev pub callee_of : Image → ℕ → ℕ
-callee_of i export = compartment_of (root i export).owner
+use Rattle.def_safety.specs.Clean.{callee_of, high_of}
 
 abbrev pub entered_state : Image → State → ℕ → ℕ → State
 entered_state i s t export = switched i s t (high_of i s t) (entered i (thread s t) (callee_of i export) export (high_of i s t) (callee_start i (thread s t) t (callee_of i export) export (high_of i s t))) s.running
@@ -37,6 +34,7 @@ entered_state i s t export = switched i s t (high_of i s t) (entered i (thread s
 pub record Told (i : Image) (s : State) (t entry export : ℕ) (after : State) : Type 0 where
   pub passes : first_failed (switch_checks (stack_base i t) (frame_top (thread s t).frames) (thread s t)) ≡ None
   pub room : length (thread s t).frames ≡ frames_most i t → ⊥
+  pub enough : (gate_for i.entries.gates export).stack ≤ high_of i s t - stack_base i t
   pub export_is : export ≡ called i.entries (thread s t)
   pub entry_is : entry ≡ (register (thread s t) 6).shadow.root
   pub after_is : after ≡ entered_state i s t export
@@ -69,8 +67,8 @@ pub switch_told : (i : Image) (s after : State) (t entry export : ℕ) → switc
 switch_told i s after t entry export e = by_failed (first_failed (switch_checks (stack_base i t) (frame_top (thread s t).frames) (thread s t))) refl e
   where
     entering : (x : ℕ) (high : ℕ) → x ≡ called i.entries (thread s t) → high ≡ high_of i s t → first_failed (switch_checks (stack_base i t) (frame_top (thread s t).frames) (thread s t)) ≡ None
-        → (length (thread s t).frames ≡ frames_most i t → ⊥) → enters i s t (callee_of i x) x high ≡ Leaves after (Some (entry, Call export)) → Told i s t entry export after
-    entering x high x_is high_is none room same =
+        → (length (thread s t).frames ≡ frames_most i t → ⊥) → (gate_for i.entries.gates x).stack ≤ high - stack_base i t → enters i s t (callee_of i x) x high ≡ Leaves after (Some (entry, Call export)) → Told i s t entry export after
+    entering x high x_is high_is none room enough same =
         let deeds : Some ((register (thread s t) 6).shadow.root, Call x) ≡ Some (entry, Call export) = ap told_by same in
         let exports : x ≡ export = ap (export_told 0) deeds in
         let entries : (register (thread s t) 6).shadow.root ≡ entry = ap (entry_told 0) deeds in
@@ -79,6 +77,7 @@ switch_told i s after t entry export e = by_failed (first_failed (switch_checks 
         record {
           passes = none;
           room = room;
+          enough = subst (λ h. (gate_for i.entries.gates export).stack ≤ h - stack_base i t) high_is (subst (λ z. (gate_for i.entries.gates z).stack ≤ high - stack_base i t) exports enough);
           export_is = sym exports ∙ x_is;
           entry_is = sym entries;
           after_is = subst Q exports (subst P high_is (sym (ap (state_of s) same)));
@@ -95,7 +94,7 @@ switch_told i s after t entry export e = by_failed (first_failed (switch_checks 
         (nat_lt (high_of i s t - stack_base i t) (gate_for i.entries.gates (called i.entries (thread s t))).stack)
         NoStack (Enters (called i.entries (thread s t)) (high_of i s t))
         (λ is told. absurd (none_told s after t (code 11) (entry, Call export) told))
-        (λ fits told. entering (called i.entries (thread s t)) (high_of i s t) refl refl none (eqb-false (length (thread s t).frames) (frames_most i t) not) told)
+        (λ fits told. entering (called i.entries (thread s t)) (high_of i s t) refl refl none (eqb-false (length (thread s t).frames) (frames_most i t) not) (ltb-false (high_of i s t - stack_base i t) (gate_for i.entries.gates (called i.entries (thread s t))).stack fits) told)
         told)
         same
 

@@ -37,7 +37,7 @@ pub handler_keeps : (i : Image) (s : State) (t : ℕ) (why : Trap) (f : Frame) (
 handler_keeps i s t why f fs p facts k runs frames is = entered_keeps i s t why f fs p facts (stack_in_ram i s t f fs p k.confined frames (says i s t f is)) k runs frames is
 
 pub handler_begins : (i : Image) (s : State) (t : ℕ) (why : Trap) (f : Frame) (fs : List Frame) → Partitioned i → Facts i → Keeps i s → (thread s t).frames ≡ f ∷ fs
-    → is_handled i (stack_base i t) (thread s t) f ≡ true → HandlerBegins i s t f fs (handler_entered i s t why f fs)
+    → is_handled i (stack_base i t) (thread s t) f ≡ true → HandlerBegins i s t why f fs (handler_entered i s t why f fs)
 handler_begins i s t why f fs p facts k frames is =
     begins i s t why f fs p facts (stack_in_ram i s t f fs p k.confined frames (says i s t f is)) k.confined frames (says i s t f is)
 

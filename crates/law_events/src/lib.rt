@@ -25,7 +25,7 @@ ghost use Rattle.def_confined.specs.Telling.{AllLicensed};
 
 pub use blank::{events_blank, heap_reads_zero};
 pub use fresh::fresh_objects;
-pub use handlers::{handler_move, handlers_begin};
+pub use handlers::{handler_move, handlers_begin, handlers_due};
 pub use natives::{entries_clean, objects_fresh, returns_clean, routines_stand};
 pub use shut::accesses_seen;
 

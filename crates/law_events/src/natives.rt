@@ -1,19 +1,19 @@
 //! Laws of native routines, as they are written: *Clean calls* of the switch and of returns, *Fresh objects* of an
 //! allocation, and that the routines of switcher and heap keep a state confined, with all that stands beside.
 
-ghost use Rattle.std.specs.Prelude.{◌≡◌, ℕ, List, ◌∷◌, Some, None, false};
+ghost use Rattle.std.specs.Prelude.{◌≡◌, ℕ, List, ◌∷◌, Some, None};
 ghost use Rattle.ct_entry.specs.declared.acts.Act.TheVariants.{Call, Allocate};
 ghost use Rattle.def_confined.specs.Keeps.{Keeps};
 ghost use Rattle.def_confined.specs.Partitioned.{Partitioned};
 ghost use Rattle.def_hidden.specs.Hidden.{Blank};
 ghost use Rattle.def_machine.specs.Frames.{ended_with, returned, unwound};
-ghost use Rattle.def_machine.specs.Image.{Image, root};
+ghost use Rattle.def_machine.specs.Image.{Image};
 ghost use Rattle.def_machine.specs.State.{State, Frame, thread};
 ghost use Rattle.def_step.specs.Quotas.{allocate, free, remaining};
 ghost use Rattle.def_step.specs.Routines.{Leaves, switch, sleep, yield, wait, wake};
 ghost use Rattle.def_step.specs.Tokens.{token_key, token_new, token_open, token_free};
 ghost use Rattle.def_confined.specs.Facts.{Facts, RootsAway};
-ghost use Rattle.def_safety.specs.Clean.{CleanEntry, CleanReturn};
+ghost use Rattle.def_safety.specs.Clean.{Answers, CleanEntry, CleanReturn, HandsBack, minus_one};
 ghost use Rattle.def_safety.specs.Fresh.{HandsOut, AsMade, AsKey, AsToken};
 ghost use Rattle.def_events.specs.Stands.{RoutineKeeps};
 
@@ -52,26 +52,29 @@ pub fn routines_stand()
         → RoutineKeeps i s t (token_free i s t) }
 {}
 
-/// A call through an export that passes plain values enters its callee clean.
+/// A call enters its callee clean.
 pub fn entries_clean()
     ensures { (i : Image) (s after : State) (t entry export : ℕ)
         → Partitioned i → Facts i → Keeps i s → s.running ≡ Some t
-        → switch i s t ≡ Leaves after (Some (entry, Call export)) → (root i export).passes ≡ false
+        → switch i s t ≡ Leaves after (Some (entry, Call export))
         → CleanEntry i s t export after }
 {}
 
-/// A return of a frame whose export passes plain values, and the end of any frame with a value or by an unwind, lead to
-/// its caller clean.
+/// A return of a frame, its end with a value, and an unwind, lead to its caller clean: with what the export lets
+/// through, with the value and 0, with -1 and 0.
 pub fn returns_clean()
     ensures back { (i : Image) (s : State) (t : ℕ) (f g : Frame) (gs : List Frame)
-        → (thread s t).frames ≡ f ∷ g ∷ gs → (root i f.export).passes ≡ false
-        → CleanReturn i s t f (returned i s t (f ∷ g ∷ gs)) }
+        → (thread s t).frames ≡ f ∷ g ∷ gs
+        → CleanReturn i s t f (g ∷ gs) (returned i s t (f ∷ g ∷ gs))
+        × HandsBack i s t f (returned i s t (f ∷ g ∷ gs)) }
     ensures value { (i : Image) (s : State) (t value : ℕ) (f g : Frame) (gs : List Frame)
         → (thread s t).frames ≡ f ∷ g ∷ gs
-        → CleanReturn i s t f (ended_with i s t value (f ∷ g ∷ gs)) }
+        → CleanReturn i s t f (g ∷ gs) (ended_with i s t value (f ∷ g ∷ gs))
+        × Answers (ended_with i s t value (f ∷ g ∷ gs)) t value }
     ensures unwind { (i : Image) (s : State) (t : ℕ) (f g : Frame) (gs : List Frame)
         → (thread s t).frames ≡ f ∷ g ∷ gs
-        → CleanReturn i s t f (unwound i s t (f ∷ g ∷ gs)) }
+        → CleanReturn i s t f (g ∷ gs) (unwound i s t (f ∷ g ∷ gs))
+        × Answers (unwound i s t (f ∷ g ∷ gs)) t minus_one }
 {}
 
 /// An allocation that tells its deed hands out a fresh object, at the least lawful place: as it is, as a key

@@ -23,7 +23,7 @@ use Rattle.def_reach.specs.Roots.{Origin, TrustedPart, Listing, root_of, gate_fo
 use Rattle.def_reach.specs.Sharing.{SharesC, Brings, Imports, Reaches}
 use Rattle.def_machine.specs.Image.{Region, Fixed, HeapRam, Stack, root, made_cap, region, booted, granule_of, address_of, stack_entry, stack_base, stack_top, code_entry, globals_entry}
 use Rattle.def_confined.specs.Capabilities.{Rooted, heap_cap}
-use Rattle.def_confined.specs.Partitioned.{Partitioned, Open, Carries, Loads, AwayFromHeap, BootHeld, BootMade, IsOwnEntry}
+use Rattle.def_confined.specs.Partitioned.{Partitioned, StoresInto, Carries, Loads, AwayFromHeap, BootHeld, BootMade, IsOwnEntry}
 use Rattle.law_moves.proofs.Boots.{no_source}
 use Rattle.law_examples.specs.Small.{small, made_1, made_3, made_4, made_5, made_6, made_7, made_8, made_9, made_11, made_13, made_14, gate}
 use Rattle.law_lists.proofs.Tests.{by_test, implied}
@@ -57,28 +57,28 @@ boot_held n m d s stack owner off =
 not_four : (k : ℕ) (d : Cap) → cap_seal d ≡ k → (k ≡ 4 → ⊥) → cap_seal d ≡ 4 → ⊥
 not_four k d is other four = other (sym is ∙ four)
 
-stores : (n : ℕ) → (x : ℕ) → 0x80000000 ≤ x → bit (root small n).rights 2 ≡ true → (root small n).base ≤ x → x < (root small n).top → Open (region small (granule_of small x))
+stores : (n : ℕ) → (x : ℕ) → 0x80000000 ≤ x → bit (root small n).rights 2 ≡ true → (root small n).base ≤ x → x < (root small n).top → StoresInto small n (region small (granule_of small x))
 unfolding root_of gate_for bit
-stores = by_entry (λ n. (x : ℕ) → 0x80000000 ≤ x → bit (root small n).rights 2 ≡ true → (root small n).base ≤ x → x < (root small n).top → Open (region small (granule_of small x)))
+stores = by_entry (λ n. (x : ℕ) → 0x80000000 ≤ x → bit (root small n).rights 2 ≡ true → (root small n).base ≤ x → x < (root small n).top → StoresInto small n (region small (granule_of small x)))
     (λ x r h low high. absurd (let clash : false ≡ true = h in cc))
     (λ x r h low high. absurd (let clash : false ≡ true = h in cc))
-    (λ x r h low high. span (λ k. Open (region small k)) 12 2 x (omega (arith, low)) (omega (arith, high)) (upto_2 (λ j. Open (region small (12 + j))) tt tt))
+    (λ x r h low high. span (λ k. StoresInto small 2 (region small k)) 12 2 x (omega (arith, low)) (omega (arith, high)) (upto_2 (λ j. StoresInto small 2 (region small (12 + j))) (refl, refl) (refl, refl)))
     (λ x r h low high. absurd (let clash : false ≡ true = h in cc))
     (λ x r h low high. absurd (omega (arith, r, high)))
-    (λ x r h low high. span (λ k. Open (region small k)) 26 2 x (omega (arith, low)) (omega (arith, high)) (upto_2 (λ j. Open (region small (26 + j))) tt tt))
+    (λ x r h low high. span (λ k. StoresInto small 5 (region small k)) 26 2 x (omega (arith, low)) (omega (arith, high)) (upto_2 (λ j. StoresInto small 5 (region small (26 + j))) (refl, refl) (refl, refl)))
     (λ x r h low high. absurd (let clash : false ≡ true = h in cc))
     (λ x r h low high. absurd (let clash : false ≡ true = h in cc))
     (λ x r h low high. absurd (let clash : false ≡ true = h in cc))
     (λ x r h low high. absurd (let clash : false ≡ true = h in cc))
     (λ x r h low high. absurd (let clash : false ≡ true = h in cc))
     (λ x r h low high. absurd (let clash : false ≡ true = h in cc))
-    (λ x r h low high. span (λ k. Open (region small k)) 22 2 x (omega (arith, low)) (omega (arith, high)) (upto_2 (λ j. Open (region small (22 + j))) tt tt))
+    (λ x r h low high. span (λ k. StoresInto small 12 (region small k)) 22 2 x (omega (arith, low)) (omega (arith, high)) (upto_2 (λ j. StoresInto small 12 (region small (22 + j))) (refl, refl) (refl, refl)))
     (λ x r h low high. absurd (let clash : false ≡ true = h in cc))
-    (λ x r h low high. span (λ k. Open (region small k)) 26 2 x (omega (arith, low)) (omega (arith, high)) (upto_2 (λ j. Open (region small (26 + j))) tt tt))
+    (λ x r h low high. span (λ k. StoresInto small 14 (region small k)) 26 2 x (omega (arith, low)) (omega (arith, high)) (upto_2 (λ j. StoresInto small 14 (region small (26 + j))) (refl, refl) (refl, refl)))
     (λ x r h low high. absurd (let clash : false ≡ true = h in cc))
     (λ x r h low high. absurd (let clash : false ≡ true = h in cc))
     (λ x r h low high. absurd (let clash : false ≡ true = h in cc))
-    (λ x r h low high. span (λ k. Open (region small k)) 28 4 x (omega (arith, low)) (omega (arith, high)) (upto_4 (λ j. Open (region small (28 + j))) tt tt tt tt))
+    (λ x r h low high. span (λ k. StoresInto small 18 (region small k)) 28 4 x (omega (arith, low)) (omega (arith, high)) (upto_4 (λ j. StoresInto small 18 (region small (28 + j))) (refl, refl) (refl, refl) (refl, refl) (refl, refl)))
     (λ n. λ x r h low high. absurd (let clash : false ≡ true = h in cc))
 
 carries : (n : ℕ) → (x : ℕ) → bit (root small n).rights 2 ≡ true → bit (root small n).rights 6 ≡ true → (root small n).base ≤ x → x < (root small n).top → (0x80000000 ≤ x) × Carries small n (region small (granule_of small x))

@@ -4,11 +4,12 @@ use Rattle.std.proofs.Math.ListN.{get_or}
 use Rattle.law_lists.proofs.Sets.{after_set}
 use Rattle.def_words.specs.declared.Trap.{Trap}
 use Rattle.def_sched.specs.declared.Status.{Status}
-use Rattle.def_machine.specs.Image.{Image}
+use Rattle.def_machine.specs.Image.{Image, root}
+use Rattle.def_words.specs.declared.Cap.{Cap}
 use Rattle.def_words.specs.Capability.{integer}
 use Rattle.def_machine.specs.Memory.{filtered}
-use Rattle.def_machine.specs.State.{State, Thread, Frame, Object, thread, nobody}
-use Rattle.def_machine.specs.Frames.{returned, ended_with, unwound}
+use Rattle.def_machine.specs.State.{State, Thread, Frame, Object, register, thread, nobody}
+use Rattle.def_machine.specs.Frames.{returned, ended_with}
 use Rattle.def_machine.specs.Threads.{jumped, with_statuses}
 use Rattle.def_machine.specs.Heap.{with_object, quarantined}
 use Rattle.def_step.specs.Instructions.{Effect, put_done, executed}
@@ -20,8 +21,8 @@ use Rattle.law_routines.proofs.Leaving.{Moves}
 use Rattle.law_routines.proofs.Stepping.{Steps, IfDone, carried, executed_left}
 use Rattle.def_step.specs.Handlers.{handled, handler_entered}
 use Rattle.def_safety.specs.Calls.{HandsPlain}
-use Rattle.def_safety.specs.Clean.{CleanReturn}
-use Rattle.law_events.proofs.Cleans.{back_clean, value_clean, unwind_clean}
+use Rattle.def_safety.specs.Clean.{Answers, AnswersPlainly, CleanReturn, HandsBack, LetsThrough, plainly, whole}
+use Rattle.law_events.proofs.Cleans.{back_clean, value_clean}
 
 -- the thread has at least so many frames
 abbrev pub Deep : ℕ → ℕ → State → Type 0
@@ -60,25 +61,45 @@ record Ended (s : State) (t : ℕ) (f g : Frame) (gs : List Frame) (z : State) :
   pub before : (thread s t).frames ≡ f ∷ g ∷ gs
   pub after : (thread z t).frames ≡ g ∷ gs
 
+-- its caller goes on clean, with untagged results where the frame hands back plain values
+abbrev pub Left : Platform → State → ℕ → Frame → List Frame → State → Type 0
+Left b s t f fs z = CleanReturn b.image s t f fs z × (HandsPlain b f → AnswersPlainly z t)
+
 abbrev EndsClean : Platform → State → ℕ → State → Type 0
-EndsClean b s t z = (f g : Frame) (gs : List Frame) → Ended s t f g gs z → HandsPlain b f → CleanReturn b.image s t f z
+EndsClean b s t z = (f g : Frame) (gs : List Frame) → Ended s t f g gs z → Left b s t f (g ∷ gs) z
 
 -- none ended
 deep_ends : (b : Platform) (s : State) (t : ℕ) (z : State) → Deep (length (thread s t).frames) t z → EndsClean b s t z
-deep_ends b s t z deep f g gs ended plain_one =
+deep_ends b s t z deep f g gs ended =
     let before = ap (λ (fs : List Frame). length fs) ended.before in
     let after = ap (λ (fs : List Frame). length fs) ended.after in
     absurd (omega (arith, deep, before, after))
 
-pub unwound_is_clean : (i : Image) (s : State) (t : ℕ) (f g : Frame) (gs : List Frame) → (thread s t).frames ≡ f ∷ g ∷ gs → CleanReturn i s t f (unwound i s t (thread s t).frames)
-unwound_is_clean i s t f g gs frames = subst (λ (fs : List Frame). CleanReturn i s t f (unwound i s t fs)) (sym frames) (unwind_clean i s t f g gs frames)
+-- an integer and 0 are untagged
+answered : (b : Platform) (s : State) (t value : ℕ) (f g : Frame) (gs : List Frame) (z : State) → CleanReturn b.image s t f (g ∷ gs) z × Answers z t value → Left b s t f (g ∷ gs) z
+answered b s t value f g gs z h = (h.0, λ plain_one. (ap (λ (c : Cap). c.tag) h.1.0, ap (λ (c : Cap). c.tag) h.1.1))
+
+-- what an export lets through that passes plain values is untagged
+let_plainly : (i : Image) (export : ℕ) (from to : Cap) → (root i export).passes ≡ false → LetsThrough i export from to → to.tag ≡ false
+let_plainly i export from to not (whole is same) = absurd (let clash : true ≡ false = sym is ∙ not in cc)
+let_plainly i export from to not (plainly none same) = ap (λ (c : Cap). c.tag) same
 
 ended_ends : (b : Platform) (s : State) (t value : ℕ) → EndsClean b s t (ended_with b.image s t value (thread s t).frames)
-ended_ends b s t value f g gs ended plain_one = subst (λ (fs : List Frame). CleanReturn b.image s t f (ended_with b.image s t value fs)) (sym ended.before) (value_clean b.image s t value f g gs ended.before)
+ended_ends b s t value f g gs ended = subst (λ (fs : List Frame). Left b s t f (g ∷ gs) (ended_with b.image s t value fs)) (sym ended.before)
+    (answered b s t value f g gs (ended_with b.image s t value (f ∷ g ∷ gs)) (value_clean b.image s t value f g gs ended.before))
 
 returned_ends : (b : Platform) (s : State) (t : ℕ) → ((f : Frame) (fs : List Frame) → (thread s t).frames ≡ f ∷ fs → f.handling ≡ false) → EndsClean b s t (returned b.image s t (thread s t).frames)
-returned_ends b s t unmarked f g gs ended (inl plain_one) = subst (λ (fs : List Frame). CleanReturn b.image s t f (returned b.image s t fs)) (sym ended.before) (back_clean b.image s t f g gs ended.before plain_one)
-returned_ends b s t unmarked f g gs ended (inr marked) = absurd (let clash : true ≡ false = sym marked ∙ unmarked f (g ∷ gs) ended.before in cc)
+returned_ends b s t unmarked f g gs ended = subst (λ (fs : List Frame). Left b s t f (g ∷ gs) (returned b.image s t fs)) (sym ended.before) (both.0, results)
+  where
+    both : CleanReturn b.image s t f (g ∷ gs) (returned b.image s t (f ∷ g ∷ gs)) × HandsBack b.image s t f (returned b.image s t (f ∷ g ∷ gs))
+    both = back_clean b.image s t f g gs ended.before
+
+    results : HandsPlain b f → AnswersPlainly (returned b.image s t (f ∷ g ∷ gs)) t
+    results (inl plain_one) = (
+      let_plainly b.image f.export (register (thread s t) 10) (register (thread (returned b.image s t (f ∷ g ∷ gs)) t) 10) plain_one both.1.0,
+      let_plainly b.image f.export (register (thread s t) 11) (register (thread (returned b.image s t (f ∷ g ∷ gs)) t) 11) plain_one both.1.1,
+    )
+    results (inr marked) = absurd (let clash : true ≡ false = sym marked ∙ unmarked f (g ∷ gs) ended.before in cc)
 
 done_ends : (b : Platform) (s : State) (t : ℕ) (r : Result Effect Trap) → IfDone (EndsClean b s t) s t r
 done_ends b s t (Err why) = tt
@@ -108,5 +129,5 @@ steps_end b s t =
       };
     }
 
-pub executed_ends : (b : Platform) (s : State) (t : ℕ) (f g : Frame) (gs : List Frame) → (thread s t).frames ≡ f ∷ g ∷ gs → (thread (executed b s t).0 t).frames ≡ g ∷ gs → HandsPlain b f → CleanReturn b.image s t f (executed b s t).0
+pub executed_ends : (b : Platform) (s : State) (t : ℕ) (f g : Frame) (gs : List Frame) → (thread s t).frames ≡ f ∷ g ∷ gs → (thread (executed b s t).0 t).frames ≡ g ∷ gs → Left b s t f (g ∷ gs) (executed b s t).0
 executed_ends b s t f g gs before after = executed_left (EndsClean b s t) b s t (steps_end b s t) f g gs (record { before = before; after = after })

@@ -24,7 +24,7 @@ use Rattle.law_moves.proofs.Rows.{any_map, among_any}
 use Rattle.law_history.proofs.Everywheres.{each_there}
 use Rattle.law_history.proofs.Keying.{among_row, left_row}
 use Rattle.law_history.proofs.Made.{Fresh, fresh, sealed_whole, opened_seal}
-use Rattle.law_history.proofs.Passing.{fits_pass}
+use Rattle.law_history.proofs.Passing.{fits_kinds, fits_pass}
 use Rattle.law_moves.proofs.Objects.{each_unit}
 
 abbrev pub AllFit : Image → State → Type 0
@@ -88,7 +88,7 @@ regular_fit i s z r =
 
 pub executed_fit : (b : Platform) (s : State) (t : ℕ) → Partitioned b.image → Facts b.image → Confined b.image s → AllFit b.image s → AllFit b.image (executed b s t).0
 executed_fit b s t parts facts held h =
-    executed_has b (TokenFits b.image s.objects s.tokens) (TokenFits b.image s.objects s.tokens) (fits_pass b.image s.objects s.tokens) s t parts facts held h (λ z. AllFit b.image z) (λ z r. regular_fit b.image s z r) (record {
+    executed_has b (TokenFits b.image s.objects s.tokens) (TokenFits b.image s.objects s.tokens) (fits_pass b.image s.objects s.tokens) (fits_kinds b.image s.objects s.tokens) s t parts facts held h (λ z. AllFit b.image z) (λ z r. regular_fit b.image s z r) (record {
       hands = λ quota size r is. handed_fit b.image s t r (fresh b.image s t size r parts facts held quota is) h;
       frees = λ r is. gone_fit b.image s t r h;
       gives = λ key r is. gone_fit b.image s t r h;

@@ -1,5 +1,5 @@
 -- What is shut stays shut until it is opened, and a key stays a key.
-use Rattle.std.proofs.Common.{ℕ, ◌≡◌, ◌+◌, ◌<◌, ◌⊎◌, ◌&&◌, inl, inr, true, false, List, [], ◌∷◌, Option, Some, None, refl, sym, ◌∙◌, subst, arith}
+use Rattle.std.proofs.Common.{ℕ, ◌≡◌, ◌+◌, ◌<◌, ◌⊎◌, inl, inr, true, false, List, [], ◌∷◌, Option, Some, None, refl, sym, ◌∙◌, subst, arith}
 use Rattle.law_lists.proofs.Tests.{eq_tells}
 use Rattle.def_words.specs.Capability.{integer}
 use Rattle.def_machine.specs.Platform.{Platform}
@@ -29,8 +29,8 @@ use Rattle.law_history.proofs.TokensEvents.{event_fit, ready_fit}
 use Rattle.law_history.proofs.Keying.{among_row, left_row}
 use Rattle.law_history.proofs.Made.{Fresh, fresh, sealed_type}
 use Rattle.law_history.proofs.Openings.{leaves_opened, step_tells_none}
-use Rattle.law_history.proofs.Naming.{freed_no_key, given_no_key, nothing_held, nothing_passes}
-use Rattle.law_history.proofs.Passing.{fits_pass, shut_passes}
+use Rattle.law_history.proofs.Naming.{freed_no_key, given_no_key, nothing_held, nothing_kinds, nothing_passes}
+use Rattle.law_history.proofs.Passing.{fits_pass, shut_kinds, shut_passes}
 use Rattle.law_history.proofs.Shutting.{Standing, opened_object}
 use Rattle.law_history.proofs.Sweeps.{swept_has, swept_rows}
 use Rattle.law_history.proofs.Whole.{event_tokened, ready_tokened}
@@ -72,7 +72,7 @@ module _ (b : Platform) (s : State) (t : ℕ) (g : Standing b s t) (n : ℕ) (be
   ]
 
   executed_stays : Stays (executed b s t).0
-  executed_stays = executed_has b (ShutTo b.image n) (ShutTo b.image n) (shut_passes b.image n) s t g.parts g.facts g.held h Stays (λ z r. inr r.has) (record {
+  executed_stays = executed_has b (ShutTo b.image n) (ShutTo b.image n) (shut_passes b.image n) (shut_kinds b.image n) s t g.parts g.facts g.held h Stays (λ z r. inr r.has) (record {
     hands = λ quota size r is. handed_stays r (fresh b.image s t size r g.parts g.facts g.held quota is);
     frees = λ r is. gone_stays r;
     gives = λ key r is. gone_stays r;
@@ -115,7 +115,7 @@ HasKey n z = Any (IsKeyRow n) z.tokens
 
 executed_lasts : (b : Platform) (s : State) (t n : ℕ) → Standing b s t → Tokened b.image s → HasKey n s → HasKey n (executed b s t).0
 executed_lasts b s t n g h key =
-    executed_has b (λ c. Unit {0}) (λ c. Unit {0}) (nothing_passes b.image) s t g.parts g.facts g.held (nothing_held s) (HasKey n)
+    executed_has b (λ c. Unit {0}) (λ c. Unit {0}) (nothing_passes b.image) (nothing_kinds b.image) s t g.parts g.facts g.held (nothing_held s) (HasKey n)
     (λ z r. subst (λ ks. Any (IsKeyRow n) ks) (sym r.tokens) key) (record {
       hands = λ quota size r is. key;
       frees = λ r is. left_row (IsKeyRow n) r.number s.tokens (λ k own same. freed_no_key b s t g h.some h.keys r is (subst (λ m. Any (IsKeyRow m) s.tokens) (sym own.0 ∙ same) key)) key;

@@ -1,5 +1,5 @@
 -- Rows among others, and those that are left where one goes.
-use Rattle.std.proofs.Common.{ℕ, ◌≡◌, ◌==◌, Bool, true, false, not, nat_lt, List, [], ◌∷◌, refl, sym}
+use Rattle.std.proofs.Common.{ℕ, ◌==◌, not, nat_lt, List, [], ◌∷◌, sym}
 use Rattle.std.proofs.lemmas.Bool.{eqb-false, not-true}
 use Rattle.law_lists.proofs.Tests.{chosen}
 use Rattle.def_machine.specs.State.{Token}

@@ -19,8 +19,9 @@ use Rattle.def_safety.specs.Everywhere.{FrameHas, Everywhere}
 use Rattle.def_safety.specs.Tokened.{IsKeyRow, IsTokenRow, KeysNamed}
 use Rattle.law_moves.proofs.Quarantines.{quarantine_each}
 use Rattle.law_moves.proofs.JumpsMoves.{in_rooted}
-use Rattle.def_events.specs.Passes.{Passes}
+use Rattle.def_events.specs.Passes.{PassesOn}
 use Rattle.law_history.proofs.Events.{executed_has}
+use Rattle.law_history.proofs.Given.{GivenKinds}
 use Rattle.law_moves.proofs.Rows.{among_each, each_take}
 use Rattle.law_routines.proofs.Leaving.{IsKeyOf}
 use Rattle.law_routines.proofs.Tokens.{token_says}
@@ -62,16 +63,16 @@ pub record Named (objects : List Object) (tokens : List Token) : Type 0 where
   pub some : Each (λ (r : Object). 0 < r.length) objects
   pub named : KeysNamed tokens
 
-pub nothing_passes : (i : Image) → Passes i (λ c. Unit {0}) (λ c. Unit {0})
+pub nothing_passes : (i : Image) → PassesOn i (λ c. Unit {0}) (λ c. Unit {0})
 nothing_passes i = record {
   widens = record { none = λ c off. tt; stays = λ c h. tt };
   result = λ c d r h. tt;
   opened = λ c d o h. tt;
   linked = λ c d before runs links h. tt;
-  own = λ b d o. tt;
-  back = λ d o. tt;
-  stack = λ t high d o. tt;
 }
+
+pub nothing_kinds : (i : Image) → GivenKinds i (λ c. Unit {0})
+nothing_kinds i = record { own = λ a d o. tt; back = λ d o. tt; stack = λ t high d o. tt }
 
 pub nothing_held : (s : State) → Everywhere (λ c. Unit {0}) s
 nothing_held s = record { granules = λ k. tt; threads = λ t. record { pcc = tt; registers = λ n. tt; frames = frames (thread s t).frames } }
@@ -151,7 +152,7 @@ module _ (b : Platform) (s : State) (t : ℕ) (g : Standing b s t) (some : Each 
 
   pub executed_named : AllShut b.image s → Named s.objects s.tokens → Named (executed b s t).0.objects (executed b s t).0.tokens
   executed_named shut h =
-      executed_has b (λ c. Unit {0}) (λ c. Unit {0}) (nothing_passes b.image) s t g.parts g.facts g.held (nothing_held s) (λ z. Named z.objects z.tokens)
+      executed_has b (λ c. Unit {0}) (λ c. Unit {0}) (nothing_passes b.image) (nothing_kinds b.image) s t g.parts g.facts g.held (nothing_held s) (λ z. Named z.objects z.tokens)
       (λ z r. subst (λ os. Named os z.tokens) (sym r.objects) (subst (λ ks. Named s.objects ks) (sym r.tokens) h)) (record {
         hands = λ quota size r is. handed_named r s.objects s.tokens (fresh b.image s t size r g.parts g.facts g.held quota is).some h;
         frees = λ r is. gone_named r.number s.objects s.tokens (freed_no_key shut r is) h;

@@ -15,9 +15,10 @@ use Rattle.def_confined.specs.Confined.{IsPcc}
 use Rattle.def_confined.specs.Made.{IsOwn, Links}
 use Rattle.def_safety.specs.Tokened.{IsWhole, TokenFits, ShutTo, KeysShut}
 use Rattle.def_safety.specs.Results.{Keyed, IsResult}
-use Rattle.def_events.specs.Passes.{Passes}
+use Rattle.def_events.specs.Passes.{PassesOn}
 use Rattle.law_moves.proofs.Rows.{any_map}
 use Rattle.law_moves.proofs.Derives.{of_heap, code_no_heap}
+use Rattle.law_history.proofs.Given.{GivenKinds}
 
 pub no_tag : (c : Cap) (G : Type 0) → c.tag ≡ false → c.tag ≡ true → G
 no_tag c G off tagged = absurd (let clash : true ≡ false = sym tagged ∙ off in cc)
@@ -62,15 +63,12 @@ link_no_token c d before G links tagged is = elim (bool_tells before.off) [
 
 -- ---- a capability of an object that is shut
 
-pub shut_passes : (i : Image) (n : ℕ) → Passes i (ShutTo i n) (ShutTo i n)
+pub shut_passes : (i : Image) (n : ℕ) → PassesOn i (ShutTo i n) (ShutTo i n)
 shut_passes i n = record {
   widens = record { none = λ c off tagged. no_tag c _ off tagged; stays = λ c h. h };
   result = λ c d r h tagged heap some source. result c d (r tagged) h heap some source;
   opened = λ c d o h tagged heap. no_source i d _ (o tagged).source heap;
   linked = λ c d before runs links h tagged heap. link_no_heap i c d before _ runs links tagged heap;
-  own = λ b d o tagged heap. own_no_heap i b d _ (o tagged) heap;
-  back = λ d o tagged heap. no_heap i d _ (ap is_quota (o tagged).kind) heap;
-  stack = λ t high d o tagged heap. no_heap i d _ (ap is_quota (o tagged).kind) heap;
 }
   where
     result : (c d : Cap) → IsResult c d → ShutTo i n c → heap_cap i d ≡ true → cap_base d < cap_top d → d.shadow.source ≡ n → cap_seal d ≡ 11
@@ -78,15 +76,26 @@ shut_passes i n = record {
         let before : cap_seal c ≡ 11 = h r.narrows.tagged (same_heap i c d r.narrows.shadows heap) (let low = r.narrows.low in let high = r.narrows.high in omega (arith, low, high, some)) (sym (ap (λ (z : Shadow). z.source) r.narrows.shadows) ∙ source) in
         elim r.seal [ inl keyed ↦ keyed_no_token (cap_seal c) _ keyed.0 before | inr same ↦ same.kind ∙ before ]
 
-pub keys_pass : (i : Image) (tokens : List Token) → Passes i (KeysShut i tokens) (KeysShut i tokens)
+pub shut_kinds : (i : Image) (n : ℕ) → GivenKinds i (ShutTo i n)
+shut_kinds i n = record {
+  own = λ b d o tagged heap. own_no_heap i b d _ (o tagged) heap;
+  back = λ d o tagged heap. no_heap i d _ (ap is_quota (o tagged).kind) heap;
+  stack = λ t high d o tagged heap. no_heap i d _ (ap is_quota (o tagged).kind) heap;
+}
+
+pub keys_pass : (i : Image) (tokens : List Token) → PassesOn i (KeysShut i tokens) (KeysShut i tokens)
 keys_pass i tokens = record {
   widens = record { none = λ c off n key. (shut_passes i n).widens.none c off; stays = λ c h. h };
   result = λ c d r h n key. (shut_passes i n).result c d r (h n key);
   opened = λ c d o h n key. (shut_passes i n).opened c d o (h n key);
   linked = λ c d before runs links h n key. (shut_passes i n).linked c d before runs links (h n key);
-  own = λ b d o n key. (shut_passes i n).own b d o;
-  back = λ d o n key. (shut_passes i n).back d o;
-  stack = λ t high d o n key. (shut_passes i n).stack t high d o;
+}
+
+pub keys_kinds : (i : Image) (tokens : List Token) → GivenKinds i (KeysShut i tokens)
+keys_kinds i tokens = record {
+  own = λ b d o n key. (shut_kinds i n).own b d o;
+  back = λ d o n key. (shut_kinds i n).back d o;
+  stack = λ t high d o n key. (shut_kinds i n).stack t high d o;
 }
 
 -- ---- a token
@@ -102,20 +111,17 @@ whole_of_same tokens c d r shadows low high w =
       row = w.row;
     }
 
-pub fits_pass : (i : Image) (objects : List Object) (tokens : List Token) → Passes i (TokenFits i objects tokens) (TokenFits i objects tokens)
+no_token : {G : Type 0} (n k : ℕ) → n ≡ k → n ≡ 11 → k < 11 → G
+no_token n k is token small = absurd (omega (arith, is, token, small))
+
+pub fits_pass : (i : Image) (objects : List Object) (tokens : List Token) → PassesOn i (TokenFits i objects tokens) (TokenFits i objects tokens)
 fits_pass i objects tokens = record {
   widens = record { none = λ c off tagged. no_tag c _ off tagged; stays = λ c h. h };
   result = λ c d r h tagged is. result c d (r tagged) h is;
   opened = λ c d o h tagged is. no_token (cap_seal d) 0 (o tagged).unsealed is (omega arith);
   linked = λ c d before runs links h tagged is. link_no_token c d before _ links tagged is;
-  own = λ b d o tagged is. no_token (cap_seal d) 0 (o tagged).unsealed is (omega arith);
-  back = λ d o tagged is. no_token (cap_seal d) 5 (o tagged).sealed is (omega arith);
-  stack = λ t high d o tagged is. no_token (cap_seal d) 0 (o tagged).unsealed is (omega arith);
 }
   where
-    no_token : {G : Type 0} (n k : ℕ) → n ≡ k → n ≡ 11 → k < 11 → G
-    no_token n k is token small = absurd (omega (arith, is, token, small))
-
     result : (c d : Cap) → IsResult c d → TokenFits i objects tokens c → cap_seal d ≡ 11 → (heap_cap i d ≡ true) × Any (IsWhole tokens d) objects
     result c d r h is = elim r.seal [
       | inl keyed ↦ keyed_no_token (cap_seal d) _ keyed.1 is
@@ -123,3 +129,10 @@ fits_pass i objects tokens = record {
           let before = h r.narrows.tagged (sym same.kind ∙ is) in
           (heap_same i c d r.narrows.shadows before.0, any_map (IsWhole tokens c) (IsWhole tokens d) objects (λ q w. whole_of_same tokens c d q r.narrows.shadows same.same_base same.same_top w) before.1)
     ]
+
+pub fits_kinds : (i : Image) (objects : List Object) (tokens : List Token) → GivenKinds i (TokenFits i objects tokens)
+fits_kinds i objects tokens = record {
+  own = λ b d o tagged is. no_token (cap_seal d) 0 (o tagged).unsealed is (omega arith);
+  back = λ d o tagged is. no_token (cap_seal d) 5 (o tagged).sealed is (omega arith);
+  stack = λ t high d o tagged is. no_token (cap_seal d) 0 (o tagged).unsealed is (omega arith);
+}

@@ -1,6 +1,6 @@
 -- *Licensed accesses*, of one event: what the running thread's capabilities are of, and what it does through them.
 use Rattle.std.proofs.Common.{ℕ, ◌≡◌, ◌+◌, ◌-◌, ◌≤◌, ◌<◌, ◌&&◌, cond, inl, inr, Bool, true, false, List, ◌∷◌, Option, Some, None, refl, sym, ap, ◌∙◌, subst, arith}
-use Rattle.std.proofs.lemmas.Bool.{and_parts}
+use Rattle.std.proofs.lemmas.Bool.{and_parts, eqb-true}
 use Rattle.law_lists.proofs.Tests.{chosen}
 use Rattle.ct_entry.specs.declared.rows.Kind.TheVariants as kind
 use Rattle.def_profile.specs.declared.rights.TheConstants.{HEAP_RIGHTS}
@@ -17,18 +17,21 @@ use Rattle.def_machine.specs.Image.{Image, root}
 use Rattle.def_machine.specs.Memory.{filtered_in, is_marked_in}
 use Rattle.def_machine.specs.State.{State, Frame, Object, register, thread}
 use Rattle.def_machine.specs.Platform.{Platform}
-use Rattle.def_confined.specs.Capabilities.{heap_cap}
+use Rattle.def_confined.specs.Capabilities.{heap_cap, stack_cap}
 use Rattle.def_confined.specs.Confined.{IsPcc}
 use Rattle.def_confined.specs.Keeps.{Keeps}
 use Rattle.def_confined.specs.Partitioned.{Partitioned}
-use Rattle.def_confined.specs.Places.{LiveCovers, Covers}
+use Rattle.def_confined.specs.Places.{LiveCovers, Covers, InFrames, WithinRun}
 use Rattle.def_step.specs.declared.Access.{Access}
 use Rattle.def_step.specs.Accesses.{MemoryAndDevices, Accessed, access_of, access_checks, load_checks, store_checks, accessed, ram_value, device_value, widened}
-use Rattle.def_step.specs.Checks.{Check}
+use Rattle.def_step.specs.Checks.{Check, first_failed}
+use Rattle.def_instr.specs.declared.Instr.{Instr}
+use Rattle.def_words.specs.Seals.{cap_seal, is_unsealed}
 use Rattle.def_step.specs.Devices.{bank_value}
 use Rattle.def_step.specs.Instructions.{fetch_checks, space_of}
 use Rattle.def_step.specs.Operands.{operands_of}
 use Rattle.def_step.specs.Routines.{word_checks, lies_in_ram}
+use Rattle.law_moves.proofs.Derives.{within_less}
 use Rattle.law_moves.proofs.Rows.{any_map}
 use Rattle.law_boot.proofs.Imports.{reaches_library}
 use Rattle.law_moves.proofs.Results.{attenuated_carries}
@@ -40,7 +43,7 @@ use Rattle.law_events.proofs.Accesses.{load_passes, store_passes, width_of, rang
 use Rattle.law_events.proofs.Events.{ready_keeps}
 use Rattle.def_safety.specs.Accesses.{IsUse, IsUseAt, SpansLive, RunsFor, UsesReach, root_rights}
 use Rattle.def_safety.specs.Each.{ready}
-use Rattle.def_safety.specs.Used.{authority_of, value_of, access_start, used_right, moves_capability}
+use Rattle.def_safety.specs.Used.{AccessPasses, authority_of, value_of, access_start, used_right, moves_capability}
 
 -- ---- a use of so many bytes
 
@@ -52,9 +55,12 @@ module _ (i : Image) (objects : List Object) (t actor : ℕ) (c : Cap) (u : IsUs
       (λ not. u.rights not p may)
 
   -- what lies in its bounds lies in its root's range, or in its object
-  use_at : (at width needed : ℕ) → 0 < width → cap_base c ≤ at → at + width ≤ cap_top c → has c needed ≡ true → IsUseAt i objects t actor c at width needed
-  use_at at width needed some low high may = record {
+  use_at : (at width needed : ℕ) → 0 < width → is_unsealed c ≡ true → cap_base c ≤ at → at + width ≤ cap_top c → has c needed ≡ true → IsUseAt i objects t actor c at width needed
+  use_at at width needed some open_one low high may = record {
     uses = u;
+    unsealed = eqb-true (cap_seal c) 0 open_one;
+    allows = may;
+    inside = (low, high);
     right = held_right needed may;
     range = λ other. (let r = u.range other in (omega (arith, r.0, low), omega (arith, r.1, high)));
     object = λ heap. any_map (LiveCovers c) (SpansLive c at width) objects spans (u.live heap (omega (arith, low, high, some)));
@@ -79,19 +85,23 @@ access_used : (i : Image) (objects : List Object) (t actor : ℕ) (a : Access) (
 access_used i objects t actor a x y at some use_of =
     let Used : ℕ → Type 0 = λ p. IsUseAt i objects t actor x at a.width p in
     chosen (λ (cs : List Check). AllPass cs → IsUseAt i objects t actor x at a.width (used_right a)) a.loads (load_checks a x at) (store_checks a x at (a.whole && y.tag))
-    (λ loads h. (let p = load_passes a x at h in subst Used (sym (load_right a loads)) (use_at i objects t actor x (use_of p.tagged) at a.width load_data some p.low p.high p.loads)))
-    (λ stores h. (let p = store_passes a x at (a.whole && y.tag) h in subst Used (sym (store_right a stores)) (use_at i objects t actor x (use_of p.tagged) at a.width store_data some p.low p.high p.stores)))
+    (λ loads h. (let p = load_passes a x at h in subst Used (sym (load_right a loads)) (use_at i objects t actor x (use_of p.tagged) at a.width load_data some h.1.0 p.low p.high p.loads)))
+    (λ stores h. (let p = store_passes a x at (a.whole && y.tag) h in subst Used (sym (store_right a stores)) (use_at i objects t actor x (use_of p.tagged) at a.width store_data some h.1.0 p.low p.high p.stores)))
+
+-- checks that pass begin with the tag
+access_tagged : (a : Access) (x y : Cap) (at : ℕ) → AllPass (access_checks a x y at) → x.tag ≡ true
+access_tagged a x y at = chosen (λ (cs : List Check). AllPass cs → x.tag ≡ true) a.loads (load_checks a x at) (store_checks a x at (a.whole && y.tag)) (λ loads h. h.0) (λ stores h. h.0)
 
 word_used : (i : Image) (s : State) (t actor : ℕ) (c : Cap) → (c.tag ≡ true → IsUse i s.objects t actor c) → AllPass (word_checks i s c) → IsUseAt i s.objects t actor c (cap_address c) 4 load_data
 word_used i s t actor c use_of h =
     let both = and_parts (is_range_inside c (cap_address c) (cap_address c + 4)) (lies_in_ram i s (cap_address c) 4) h.1.1.1.0 in
     let range = range_says c (cap_address c) (cap_address c + 4) both.0 in
-    use_at i s.objects t actor c (use_of h.0) (cap_address c) 4 load_data (omega arith) range.0 range.1 h.1.1.0
+    use_at i s.objects t actor c (use_of h.0) (cap_address c) 4 load_data (omega arith) h.1.0 range.0 range.1 h.1.1.0
 
 fetch_used : (i : Image) (objects : List Object) (t actor : ℕ) (c : Cap) → (c.tag ≡ true → IsUse i objects t actor c) → AllPass (fetch_checks c) → IsUseAt i objects t actor c (cap_address c) 4 execute
 fetch_used i objects t actor c use_of h =
     let range = range_says c (cap_address c) (cap_address c + 4) h.1.1.1.0 in
-    use_at i objects t actor c (use_of h.0) (cap_address c) 4 execute (omega arith) range.0 range.1 h.1.1.0
+    use_at i objects t actor c (use_of h.0) (cap_address c) 4 execute (omega arith) h.1.0 range.0 range.1 h.1.1.0
 
 -- ---- a capability is moved
 
@@ -164,11 +174,13 @@ uses_reach b s parts k = record {
   counter = λ t f fs runs frames tagged. of_counter t f fs frames tagged;
   runs = λ t f fs runs frames tagged. (let u = of_counter t f fs frames tagged in runs_for b.image (thread (ready b s) t).pcc.shadow.root f.actor (root b.image (thread (ready b s) t).pcc.shadow.root).origin parts refl u.1.code u.0.owner);
   fetch = λ t f fs runs frames passes. fetch_used b.image (ready b s).objects t f.actor (thread (ready b s) t).pcc (λ tagged. (of_counter t f fs frames tagged).0) (all_pass (fetch_checks (thread (ready b s) t).pcc) passes);
-  access = λ t k f fs runs frames passes. access_used b.image (ready b s).objects t f.actor (access_of k) (authority_of (ready b s) t k) (value_of (ready b s) t k) (access_start (ready b s) t k) (width_of k).some
-      (of_register t (operands_of k).first f fs runs frames) (all_pass (access_checks (access_of k) (authority_of (ready b s) t k) (value_of (ready b s) t k) (access_start (ready b s) t k)) passes);
+  access = accessed;
   moves = λ t k f fs runs frames passes moved. (let says = access_moved (access_of k) (authority_of (ready b s) t k) (value_of (ready b s) t k) (access_start (ready b s) t k) (space_of b (ready b s)) (all_pass (access_checks (access_of k) (authority_of (ready b s) t k) (value_of (ready b s) t k) (access_start (ready b s) t k)) passes) moved in
-      held_right b.image (ready b s).objects t f.actor (authority_of (ready b s) t k) (of_register t (operands_of k).first f fs runs frames says.0) memory_capability says.1);
-  word = λ t f fs runs frames passes. word_used b.image (ready b s) t f.actor (register (thread (ready b s) t) 10) (of_register t 10 f fs runs frames) (all_pass (word_checks b.image (ready b s) (register (thread (ready b s) t) 10)) passes);
+      (says.1, held_right b.image (ready b s).objects t f.actor (authority_of (ready b s) t k) (of_register t (operands_of k).first f fs runs frames says.0) memory_capability says.1));
+  run = λ t k f fs runs frames passes is. (let used = accessed t k f fs runs frames passes in within_less b.image (f ∷ fs) (cap_top (authority_of (ready b s) t k)) (access_start (ready b s) t k + (access_of k).width) used.inside.1 (in_run t (operands_of k).first f fs frames (access_tagged (access_of k) (authority_of (ready b s) t k) (value_of (ready b s) t k) (access_start (ready b s) t k) (all_pass (access_checks (access_of k) (authority_of (ready b s) t k) (value_of (ready b s) t k) (access_start (ready b s) t k)) passes)) is));
+  word = worded;
+  word_run = λ t f fs runs frames passes is. (let used = worded t f fs runs frames passes in
+      within_less b.image (f ∷ fs) (cap_top (register (thread (ready b s) t) 10)) (cap_address (register (thread (ready b s) t) 10) + 4) used.inside.1 (in_run t 10 f fs frames (all_pass (word_checks b.image (ready b s) (register (thread (ready b s) t) 10)) passes).0 is));
 }
   where
     of_register : (t n : ℕ) (f : Frame) (fs : List Frame) → (ready b s).running ≡ Some t → (thread (ready b s) t).frames ≡ f ∷ fs → (register (thread (ready b s) t) n).tag ≡ true → IsUse b.image (ready b s).objects t f.actor (register (thread (ready b s) t) n)
@@ -176,3 +188,16 @@ uses_reach b s parts k = record {
 
     of_counter : (t : ℕ) (f : Frame) (fs : List Frame) → (thread (ready b s) t).frames ≡ f ∷ fs → (thread (ready b s) t).pcc.tag ≡ true → IsUse b.image (ready b s).objects t f.actor (thread (ready b s) t).pcc × IsPcc b.image (thread (ready b s) t).pcc
     of_counter t f fs frames tagged = pcc_used b.image (ready b s) t f fs (ready_keeps b s parts k).confined frames tagged
+
+    accessed : (t : ℕ) (k : Instr) (f : Frame) (fs : List Frame) → (ready b s).running ≡ Some t → (thread (ready b s) t).frames ≡ f ∷ fs → AccessPasses (ready b s) t k → IsUseAt b.image (ready b s).objects t f.actor (authority_of (ready b s) t k) (access_start (ready b s) t k) (access_of k).width (used_right (access_of k))
+    accessed t k f fs runs frames passes = access_used b.image (ready b s).objects t f.actor (access_of k) (authority_of (ready b s) t k) (value_of (ready b s) t k) (access_start (ready b s) t k) (width_of k).some
+        (of_register t (operands_of k).first f fs runs frames) (all_pass (access_checks (access_of k) (authority_of (ready b s) t k) (value_of (ready b s) t k) (access_start (ready b s) t k)) passes)
+
+    worded : (t : ℕ) (f : Frame) (fs : List Frame) → (ready b s).running ≡ Some t → (thread (ready b s) t).frames ≡ f ∷ fs → first_failed (word_checks b.image (ready b s) (register (thread (ready b s) t) 10)) ≡ None → IsUseAt b.image (ready b s).objects t f.actor (register (thread (ready b s) t) 10) (cap_address (register (thread (ready b s) t) 10)) 4 load_data
+    worded t f fs runs frames passes = word_used b.image (ready b s) t f.actor (register (thread (ready b s) t) 10) (of_register t 10 f fs runs frames) (all_pass (word_checks b.image (ready b s) (register (thread (ready b s) t) 10)) passes)
+
+    -- a stack's capability ends no further than the run goes
+    in_run : (t n : ℕ) (f : Frame) (fs : List Frame) → (thread (ready b s) t).frames ≡ f ∷ fs → (register (thread (ready b s) t) n).tag ≡ true → stack_cap b.image (register (thread (ready b s) t) n) ≡ true → WithinRun b.image (f ∷ fs) (cap_top (register (thread (ready b s) t) n))
+    in_run t n f fs frames tagged is =
+        let held : InFrames b.image (ready b s).objects t (f ∷ fs) (register (thread (ready b s) t) n) = subst (λ (gs : List Frame). InFrames b.image (ready b s).objects t gs (register (thread (ready b s) t) n)) frames ((ready_keeps b s parts k).confined.registers t n) in
+        ((held tagged).own is).1

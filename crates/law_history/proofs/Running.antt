@@ -25,11 +25,14 @@ use Rattle.def_events.specs.Tokens.{KeepsTokens}
 use Rattle.def_events.specs.Upheld.{Upholds}
 use Rattle.def_machine.specs.Rows.{RowsFit}
 use Rattle.def_safety.specs.Tokened.{Tokened}
+use Rattle.law_history.proofs.Attenuating.{loads_attenuate, stores_local}
+use Rattle.law_history.proofs.Deriving.{all_opened}
+use Rattle.law_history.proofs.Holdings.{running_holds}
 use Rattle.law_history.proofs.TokensEvents.{event_fit}
 use Rattle.law_history.proofs.Lasting.{key_lasts, stays_shut}
 use Rattle.law_history.proofs.Openings.{finds_sealed, opens_tokens}
 use Rattle.law_history.proofs.Whole.{event_tokened, ready_tokened}
-use Rattle.law_history.proofs.Marking.{marks_go, marked_by, enters_unmarked}
+use Rattle.law_history.proofs.HandlesOnce.{handling_goes, handles_by, enters_fresh}
 use Rattle.def_safety.specs.Accesses.{UsesReach}
 use Rattle.def_safety.specs.Temporal.{UsesLive, AllocatesFresh}
 use Rattle.def_safety.specs.Chunks.{ChunksMeet, SweptBeforeReuse, UnusedAfterFree}
@@ -80,11 +83,15 @@ module _ (b : Platform) (parts : Partitioned b.image) (facts : Facts b.image) (w
       charged = charges_follow b z e parts k;
       within = ready_within b z inside parts k;
     };
-    marks = marks_go b z e;
-    marked = marked_by b z e;
-    unmarked = enters_unmarked b z e;
+    once = handling_goes b z e;
+    by_traps = handles_by b z e;
+    fresh = enters_fresh b z e;
     last = last_ends b z e;
     tokens = keeps_tokens z e k h.rows h.tokened;
+    derives = all_opened b z e parts facts k h.tokened;
+    holds = running_holds b z parts facts k;
+    attenuates = loads_attenuate b z;
+    local = stores_local b z;
   }
 
   next_upheld : Shut b.image → (z : State) (e : Event) → IsUpheld b z → IsUpheld b (happens b z e).0

@@ -28,7 +28,7 @@ use Rattle.law_routines.proofs.Tokens.{token_says}
 use Rattle.law_history.proofs.Everywheres.{OfObject, both, each_there, objects_everywhere}
 use Rattle.law_history.proofs.Keying.{row_of_among, row_left, row_there, key_or_token}
 use Rattle.law_history.proofs.Made.{Fresh, fresh, sealed_type, opened_as}
-use Rattle.law_history.proofs.Passing.{keys_pass, same_heap}
+use Rattle.law_history.proofs.Passing.{keys_kinds, keys_pass, same_heap}
 
 -- ---- numbers
 
@@ -124,7 +124,7 @@ module _ (b : Platform) (s : State) (t : ℕ) (g : Standing b s t) where
 
   pub executed_shut : AllShut b.image s → AllShut b.image (executed b s t).0
   executed_shut h =
-      executed_has b (KeysShut b.image s.tokens) (KeysShut b.image s.tokens) (keys_pass b.image s.tokens) s t g.parts g.facts g.held h (λ z. AllShut b.image z) (λ z r. subst (λ ks. Everywhere (KeysShut b.image ks) z) (sym r.tokens) r.has) (record {
+      executed_has b (KeysShut b.image s.tokens) (KeysShut b.image s.tokens) (keys_pass b.image s.tokens) (keys_kinds b.image s.tokens) s t g.parts g.facts g.held h (λ z. AllShut b.image z) (λ z r. subst (λ ks. Everywhere (KeysShut b.image ks) z) (sym r.tokens) r.has) (record {
         hands = λ quota size r is. handed_shut r (fresh b.image s t size r g.parts g.facts g.held quota is) h;
         frees = λ r is. gone_shut r h;
         gives = λ key r is. gone_shut r h;

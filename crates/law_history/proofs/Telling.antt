@@ -5,7 +5,8 @@ use Rattle.law_lists.proofs.Tests.{chosen}
 use Rattle.ct_entry.specs.declared.acts.Act.{Act}
 use Rattle.ct_entry.specs.declared.acts.Act.TheVariants as acts
 use Rattle.ct_entry.specs.declared.acts.Deed.{Deed}
-use Rattle.def_profile.specs.declared.native.TheConstants.{RETURN, ALLOCATE, TOKEN_KEY, TOKEN_NEW}
+use Rattle.def_native.specs.declared.TheConstants.{ALLOCATE, TOKEN_KEY, TOKEN_NEW}
+use Rattle.def_profile.specs.declared.native.TheConstants.{RETURN}
 use Rattle.def_words.specs.declared.Cap.{Cap}
 use Rattle.def_words.specs.declared.Trap.{Trap}
 use Rattle.def_words.specs.Authority.{cap_address}

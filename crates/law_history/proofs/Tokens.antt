@@ -1,5 +1,5 @@
 -- What token_key, token_new and token_free answer.
-use Rattle.std.proofs.Common.{ℕ, ◌≡◌, ◌==◌, inl, inr, Option, Some, None, ap, ◌∙◌, if◌then◌else◌}
+use Rattle.std.proofs.Common.{ℕ, ◌≡◌, inl, inr, Option, Some, None, ap, ◌∙◌, if◌then◌else◌}
 use Rattle.std.proofs.lemmas.Bool.{eq-eqb}
 use Rattle.law_lists.proofs.Tests.{eq_tells}
 use Rattle.def_events.specs.Causes.{HasQuota, MayReturn}

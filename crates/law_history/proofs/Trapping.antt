@@ -5,7 +5,8 @@ use Rattle.law_lists.proofs.Tests.{chosen}
 use Rattle.ct_entry.specs.declared.acts.Act.{Act}
 use Rattle.ct_entry.specs.declared.acts.Act.TheVariants as acts
 use Rattle.ct_entry.specs.declared.acts.Deed.{Deed}
-use Rattle.def_profile.specs.declared.native.TheConstants.{SWITCH, RETURN, YIELD, SLEEP, WAIT, WAKE, ALLOCATE, FREE, REMAINING, TOKEN_KEY, TOKEN_NEW, TOKEN_OPEN, TOKEN_FREE}
+use Rattle.def_native.specs.declared.TheConstants.{SWITCH, YIELD, SLEEP, WAIT, WAKE, ALLOCATE, FREE, REMAINING, TOKEN_KEY, TOKEN_NEW, TOKEN_OPEN, TOKEN_FREE}
+use Rattle.def_profile.specs.declared.native.TheConstants.{RETURN}
 use Rattle.def_profile.specs.declared.traps.TheConstants.{ILLEGAL_INSTRUCTION}
 use Rattle.def_words.specs.declared.Cap.{Cap}
 use Rattle.def_words.specs.declared.Trap.{Trap}

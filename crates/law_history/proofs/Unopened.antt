@@ -6,7 +6,7 @@ use Rattle.def_words.specs.Narrows.{IsOpened}
 use Rattle.def_words.specs.Seals.{cap_seal}
 use Rattle.def_memory.specs.declared.Granule.{Granule}
 use Rattle.def_machine.specs.Platform.{Platform}
-use Rattle.def_machine.specs.Image.{Image, Region, Fixed, Globals, Shared, HeapRam, Stack, Bare, region, root, address_of}
+use Rattle.def_machine.specs.Image.{Image, Region, Fixed, Globals, Shared, HeapRam, Stack, Bare, region, address_of}
 use Rattle.def_machine.specs.State.{State, Frame, Object, Token, thread, register, granule}
 use Rattle.def_machine.specs.Objects.{Any, Each}
 use Rattle.def_safety.specs.Wired.{Wired}

@@ -1,14 +1,15 @@
 //! Laws of what events do one after another, whatever list of them comes: calls are clean, what is accessed is
 //! licensed, a trap names the first check that fails, no freed object is used, what is handed out is fresh and comes
 //! after a whole sweep, charges follow what is told and no quota is exceeded, what threads hold stays inside the
-//! platform, a frame's error handler is entered at most once, and keys and tokens are kept. They speak of the written
-//! machine alone.
+//! platform, a frame's error handler is entered at most once, loads attenuate, and keys and tokens are kept. They
+//! speak of the written machine alone.
 #![tactic(auto)]
 
+mod attenuation;
 mod causes;
 mod derived;
+mod handling;
 mod keys;
-mod marks;
 mod reuse;
 mod shadows;
 mod token_rows;
@@ -38,20 +39,21 @@ ghost use Rattle.def_events.specs.Upheld.{Upholds};
 ghost use Rattle.def_machine.specs.Rows.{RowsFit};
 ghost use Rattle.def_safety.specs.Tokened.{Tokened};
 
+pub use attenuation::{events_attenuate, local_capabilities_stay};
 pub use causes::{
     allocations_refused, services_answer, sleeps_last, tokens_answer, wakes_in_order,
 };
-pub use derived::{events_derive, events_derive_opened};
+pub use derived::{events_derive, events_derive_opened, running_threads_hold};
+pub use handling::handlers_enter_once;
 pub use keys::{events_fit, events_tokened, keys_last, tokens_opened, tokens_stay_shut};
-pub use marks::handlers_enter_once;
 pub use reuse::{sweep_before_reuse, sweeps_paint};
 pub use shadows::shadows_unread;
 pub use token_rows::rows_last;
 
 /// Each event upholds what a record says of it: calls are clean, accesses are licensed, no freed object is used, what
-/// is handed out is fresh, a trap names the first check that fails, charges follow what is told, what threads hold stays
-/// inside the board, a frame's error handler is entered where a trap is told that enters it, and only once, and keys and
-/// tokens are kept.
+/// is handed out is fresh, a trap names the first check that fails, charges follow what is told, what threads hold
+/// stays inside the board, a frame's error handler is entered where a trap is told that enters it, and only once,
+/// keys and tokens are kept, capabilities come from capabilities of the running thread, and loads attenuate.
 pub fn events_safe()
     ensures { (b : Platform) (s : State) (es : List Event)
         → Partitioned b.image → Facts b.image → Wired b → Inside b → Shut b.image
@@ -59,12 +61,15 @@ pub fn events_safe()
         → EachEvent (Upholds b) b s es }
 {}
 
-/// Clean calls. On entry through an export that passes plain values the tagged registers are exactly the
-/// program counter, c1, c2 and c3, as the switcher gives them, and the callee's stack is zero and untagged.
-/// On its return or unwind, and at the end of its error handler, c10 and c11 are untagged, the other tagged
-/// registers are the caller's saved ones, and the stack is zero and untagged from its base up to the frame's
-/// top. A trap that enters an error handler begins it with its own code, the way back, the stack from the
-/// record of the trap on and its compartment's globals, and nothing else tagged.
+/// Clean calls. A call, by whatever export, begins its callee with pcc, c1, c2 and c3 as the switcher gives them,
+/// with what the export lets through of the arguments that it declares, and zero in every other register; the
+/// callee's stack is zero and untagged, and its frame keeps the caller's c1, c2, c3, c8 and c9. Where a frame ends
+/// that isn't its thread's only one, its caller goes on with the frames below, with pcc, posture and those registers
+/// as kept, zero in all others but the results, and the stack zero and untagged up to the frame's top. The results
+/// are what the export lets through; -1 and 0 of an unwind; an integer and 0 of an error handler. A trap that enters
+/// an error handler begins it with its own code, the way back, the stack at the record of the trap, its compartment's
+/// globals, and cause, code and register; the record lies in the frame's stack and says the registers, pcc and the
+/// trap.
 pub fn calls_clean()
     ensures { (b : Platform) (s : State) (es : List Event)
         → Partitioned b.image → Facts b.image → Wired b → Keeps b.image s
@@ -72,19 +77,21 @@ pub fn calls_clean()
 {}
 
 /// Licensed accesses. Each tagged register and program counter of the running thread is authority of a root whose
-/// owner reaches the actor, or of the thread's own stack, within the root's range and rights, and the code that runs is
-/// of a compartment or a library that reaches the actor, or a native routine. Where the checks of a fetch, of a load or
-/// store, or of the word of a wait or wake pass, the bytes that it meets lie in the range of that root, or of a heap
-/// capability in a live object; and the root's rights hold what is used: execute, load or store, and the right to move
-/// capabilities where one is moved.
+/// owner reaches the actor, or of the thread's own stack, within the root's range and rights, and the code that runs
+/// is of a compartment or a library that reaches the actor, or a native routine. Where the checks of a fetch, of a
+/// load or store, or of the word of a wait or wake pass, the capability that it goes through is unsealed and has the
+/// right that is used, and the bytes that it meets lie in its own bounds, so in the range of that root, or of a heap
+/// capability in a live object; through a stack's capability they end no further than the run of frames goes to which
+/// the actor's belongs. And the capability's rights and the root's hold what is used: execute, load or store, and the
+/// right to move capabilities where one is moved.
 pub fn accesses_licensed()
     ensures { (b : Platform) (s : State) (es : List Event)
         → Partitioned b.image → Facts b.image → Wired b → Keeps b.image s
         → EachEvent (λ z e. UsesReach b z) b s es }
 {}
 
-/// Traps. A trap that a step tells is that of the first check that fails, of the list that is written for what stands at
-/// the program counter: each check before it holds, and it doesn't.
+/// Traps. A trap that a step tells is that of the first check that fails, of the list that is written for what stands
+/// at the program counter: each check before it holds, and it doesn't.
 pub fn traps_first()
     ensures { (b : Platform) (s : State) (es : List Event) → EachEvent (TrapsFirst b) b s es }
 {}

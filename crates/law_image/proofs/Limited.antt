@@ -21,35 +21,32 @@ use Rattle.law_image.proofs.Members.{map_at, map_taken}
 
 -- ---- the header
 
-pub threads_most : (v : ℕ) → most_threads v ≤ 64
+threads_taken : (v : ℕ) → most_threads v ≤ version.most_threads v
+threads_taken v = by (nat_eq v 1)
+  where
+    by : (b : Bool) → cond (nat_le THREADS_TAKEN (cond b 16 64)) THREADS_TAKEN (cond b 16 64) ≤ cond b 16 64
+    by true = omega arith
+    by false = omega arith
+
+-- of any version
+pub threads_most : (v : ℕ) → version.most_threads v ≤ 64
 threads_most v = by (nat_eq v 1)
   where
-    by : (b : Bool) → cond (nat_le THREADS_TAKEN (cond b 16 64)) THREADS_TAKEN (cond b 16 64) ≤ 64
+    by : (b : Bool) → cond b 16 64 ≤ 64
     by true = omega arith
     by false = omega arith
 
-ram_most : (v : ℕ) → version.most_ram v ≤ 67108864
-ram_most v = by (nat_eq v 1)
-  where
-    by : (b : Bool) → cond b 8388608 67108864 ≤ 67108864
-    by true = omega arith
-    by false = omega arith
-
-sweep_within : (v n : ℕ) → IsWithin (version.least_sweep v) (version.most_sweep v) n → IsWithin 1 65536 n
-sweep_within v n = by (nat_eq v 1)
-  where
-    by : (b : Bool) → IsWithin (cond b 64 1) (cond b 64 65536) n → IsWithin 1 65536 n
-    by true h = let a = h.0 in let b = h.1 in (omega (arith, a), omega (arith, b))
-    by false h = h
+pub few_threads : (p : PartsRow) → AreFew p → length p.threads ≤ 64
+few_threads p few = let a = few.threads in let b = threads_most p.version in omega (arith, a, b)
 
 pub record HeaderFits (p : PartsRow) : Type 0 where
   pub few : AreFew p
   pub quantum : IsWithin 1 1000000 p.quantum
   pub ram : p.ram % 16 ≡ 0
   pub size : p.size % 16 ≡ 0
-  pub sized : IsWithin 256 67108864 p.size
+  pub sized : IsWithin 256 (version.most_ram p.version) p.size
   pub end : p.ram + p.size ≤ RAM_END
-  pub sweep : IsWithin 1 65536 p.sweep
+  pub sweep : IsWithin (version.least_sweep p.version) (version.most_sweep p.version) p.sweep
 
 few_of : {A B : Type 0} (f : A → B) (xs : List A) (n : ℕ) → nat_lt n (length (map f xs)) ≡ false → length xs ≤ n
 few_of f xs n e = subst (λ k. k ≤ n) (length-map xs f) (ltb-false n (length (map f xs)) e)
@@ -72,14 +69,14 @@ header_fits p e =
         sealed = few_of raw_sealed p.sealed 64 h.1.1.0;
         compartments = few_of raw_compartment p.compartments 64 h.1.1.1.0;
         libraries = few_of raw_code p.libraries 32 h.1.1.1.1.0;
-        threads = (let a = few_of raw_thread p.threads (most_threads p.version) h.1.1.1.1.1.0 in let b = threads_most p.version in omega (arith, a, b));
+        threads = (let a = few_of raw_thread p.threads (most_threads p.version) h.1.1.1.1.1.0 in let b = threads_taken p.version in omega (arith, a, b));
       };
       quantum = within_is 1 1000000 p.quantum h.1.1.1.1.1.1.0;
       ram = eqb-true (p.ram % 16) 0 (not-false (nat_eq (p.ram % 16) 0) h.1.1.1.1.1.1.1.0);
       size = eqb-true (p.size % 16) 0 (not-false (nat_eq (p.size % 16) 0) (or_parts s1 s2 both).1);
-      sized = (let low = within.0 in let high = within.1 in let m = ram_most p.version in (low, omega (arith, high, m)));
+      sized = within;
       end = ltb-false RAM_END (p.ram + p.size) (or_parts (s1 || s2) s3 size).1;
-      sweep = sweep_within p.version p.sweep (within_is (version.least_sweep p.version) (version.most_sweep p.version) p.sweep h.1.1.1.1.1.1.1.1.1.0);
+      sweep = within_is (version.least_sweep p.version) (version.most_sweep p.version) p.sweep h.1.1.1.1.1.1.1.1.1.0;
     }
 
 -- ---- objects
@@ -110,7 +107,9 @@ sealed_fits p h i s is =
     record {
       size = within_is 1 MOST_BYTES s.length each.0;
       seal = within_is 13 15 s.seal each.1.0;
-      bytes = ltb-false s.length (length s.bytes) (or_parts (outside 1 MOST_BYTES (length s.bytes)) (nat_lt s.length (length s.bytes)) each.1.1.0).1;
+      bytes =
+          let over = or_parts (outside 1 MOST_BYTES (length s.bytes)) (nat_lt s.length (length s.bytes)) each.1.1.0 in
+          ((within_is 1 MOST_BYTES (length s.bytes) over.0).0, ltb-false s.length (length s.bytes) over.1);
     }
 
 -- ---- threads

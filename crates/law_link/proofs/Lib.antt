@@ -1,3 +1,4 @@
+pub mod Threads
 pub mod Walks
 pub mod Linkeds
 pub mod Granted

@@ -17,7 +17,7 @@ use Rattle.def_machine.specs.Memory.{cap_stored, bytes_stored}
 use Rattle.def_confined.specs.Capabilities.{Kept, heap_cap, stack_cap}
 use Rattle.def_confined.specs.Places.{Placed, InFrames, InRegion, OwnStack, NoStack, HeapDomain, outer}
 use Rattle.def_confined.specs.Confined.{Confined, FramesHold}
-use Rattle.def_confined.specs.Partitioned.{Partitioned, Open, Carries}
+use Rattle.def_confined.specs.Partitioned.{Partitioned, StoresInto, Carries}
 use Rattle.law_reach.proofs.Joins.{joined_sym}
 use Rattle.law_moves.proofs.Places.{given, carry, outer_joins}
 use Rattle.law_moves.proofs.Puts.{plain_kept, plain_region, put_confined}
@@ -98,8 +98,8 @@ open_there i objects D S by x p a inside stores low high fixed = elim (bool_tell
       let clash : HeapRam ≡ Fixed = sym is ∙ fixed in cc
   | inr other ↦
       let range = a.rooted.range other in
-      let opens : Open (region i (granule_of i x)) = p.stores by.shadow.root x inside (a.rooted.rights other store_data stores) (omega (arith, range, low)) (omega (arith, range, high)) in
-      subst Open fixed opens
+      let into : StoresInto i by.shadow.root (region i (granule_of i x)) = p.stores by.shadow.root x inside (a.rooted.rights other store_data stores) (omega (arith, range, low)) (omega (arith, range, high)) in
+      subst (StoresInto i by.shadow.root) fixed into
 ]
 
 -- a local value stays tagged only through a stack's capability

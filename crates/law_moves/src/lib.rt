@@ -27,7 +27,7 @@ ghost use Rattle.def_confined.specs.Keeps.{Keeps};
 ghost use Rattle.def_confined.specs.Partitioned.{Partitioned};
 ghost use Rattle.def_confined.specs.Premises.{Allocates, HasRoom, Turns};
 
-pub use calls::{call_confined, clean_calls, ends_confined};
+pub use calls::{call_confined, ends_confined};
 pub use clockwork::turns_confined;
 pub use heap::{heap_moves, objects_there};
 pub use jumps::{code_jumps, jump_move, postures_fit, targets_land};

@@ -9,7 +9,9 @@ pub mod Licences
 pub mod Telling
 pub mod Lawful
 pub mod Safe
+pub mod Standing
 pub mod Written
+pub mod Allowing
 pub mod Images
 pub mod Scripts
 pub mod Following

@@ -18,7 +18,7 @@ use Rattle.def_program.specs.Turns.{Turn, Asks, Ends, OfParts, OfRun, OfRows, Of
 use Rattle.law_desc.proofs.Judging.{not_both, same_rows}
 use Rattle.law_desc.proofs.Lawfuls.{bytes_lawful}
 use Rattle.law_link.proofs.Whole.{faultless}
-use Rattle.law_program.proofs.Written.{no_fault_is_done}
+use Rattle.law_program.proofs.Standing.{no_fault_is_done}
 
 -- as many files as the rows name
 abbrev pub own : DescRow → List (List ℕ) → List (List ℕ)

@@ -1,15 +1,10 @@
 -- The run that a command wrote is one list of what happened, licensed and safe.
-use Rattle.std.proofs.Common.{◌≡◌, ◌≤◌, ℕ, Bool, true, false, List, [], ◌∷◌, ◌++◌, length, take, drop, Option, Some, None, Result, Ok, Err, slice_get, inl, inr, refl, sym, ap, ◌∙◌, subst, arith, length-take}
-use Rattle.std.proofs.lemmas.List.{take-append-drop}
-use Rattle.std.proofs.lemmas.Option.{slice_get_cases}
-use Rattle.ct_entry.specs.declared.acts.Happened.{Happened}
+use Rattle.std.proofs.Common.{◌≡◌, ◌≤◌, ℕ, List, [], ◌∷◌, ◌++◌, Option, Some, None, Result, Ok, Err, inl, inr, refl, sym, ap, ◌∙◌, subst}
 use Rattle.def_boot.specs.Boot.{platform_of, boot_state, booted_machine, image_of}
 use Rattle.def_boot.specs.Gates.{entries_of}
 use Rattle.def_confined.specs.Telling.{AllLicensed}
-use Rattle.def_desc.specs.Rows.{DescRow}
-use Rattle.def_desc.specs.WellFormed.{WellFormed}
-use Rattle.def_image.specs.Accepted.{IsFaultless}
 use Rattle.def_image.specs.Parts.{PartsRow}
+use Rattle.def_image.specs.Sound.{Sound}
 use Rattle.def_link.specs.declared.LinkFault.{LinkFault}
 use Rattle.def_link.specs.declared.LinkFault.TheVariants as fault
 use Rattle.def_link.specs.Linked.{linked}
@@ -21,10 +16,10 @@ use Rattle.def_step.specs.declared.Event.{Event}
 use Rattle.def_program.specs.Answers.{AllRead, Answers, Whole, contents}
 use Rattle.def_program.specs.Calls.{CallRecord}
 use Rattle.def_program.specs.Commands.{Command, Audit, Image, Run, RunImage, Why, Upgrade, Check, Demo}
-use Rattle.def_program.specs.Licences.{LinksTo, StandFor}
-use Rattle.def_program.specs.Lines.{description_line, image_line, link_status, link_text, script_line}
+use Rattle.def_program.specs.Licences.{StandFor}
+use Rattle.def_program.specs.Lines.{link_status, link_text, script_line}
 use Rattle.def_program.specs.Runs.{demo_text, events_until, last_line, run_text, summary_after}
-use Rattle.def_program.specs.Turns.{Turn, Asks, Ends, Follows, OfLinked, OfRows, OfRun, OfScript, OfSources, source_names}
+use Rattle.def_program.specs.Turns.{Asks, Ends, Follows, OfLinked, OfRun, OfScript}
 use Rattle.def_program.specs.Within.{state_after}
 use Rattle.def_program.specs.Written.{IsRun, IsRunWritten, IsScriptFile, WritesRun, WritesRunOf, WritesSummary, run_report}
 use Rattle.def_program.specs.declared.Status.{Status}
@@ -33,9 +28,10 @@ use Rattle.def_program.specs.declared.TheConstants.{DEMO_STEPS}
 use Rattle.def_desc.specs.Reading.{description_of}
 use Rattle.def_gen.specs.Description.{firmware}
 use Rattle.def_gen.specs.Sources as generated
-use Rattle.law_accepted.proofs.Running.{licensed}
-use Rattle.law_program.proofs.Licences.{stands_faultless}
+use Rattle.law_accepted.proofs.Running.{all_licensed}
+use Rattle.law_program.proofs.Licences.{stands_sound}
 use Rattle.law_program.proofs.Safe.{safe}
+use Rattle.law_program.proofs.Standing.{done, no_fault_is_done, of_description, of_image, same_text}
 use Rattle.law_program.proofs.Telling.{run_is_told}
 use Rattle.law_program.proofs.Ending.{same_command}
 
@@ -51,20 +47,6 @@ record IsOf (c : Command) (limit : ℕ) (named : Option (List ℕ)) (files : Lis
   script : List Due
   script_is : IsScriptFile parts named more script
   text_is : text ≡ run_text parts script limit
-
-abbrev done : List ℕ → Turn
-done text = Ends status.Done text
-
-same_text : (a b : List ℕ) → done a ≡ done b → a ≡ b
-same_text a b is = cc
-
-pub no_fault_is_done : (e : LinkFault) → link_status e ≡ status.Done → ⊥
-no_fault_is_done (fault.Asm owner number line) h = absurd (let clash : status.Assembly ≡ status.Done = h in cc)
-no_fault_is_done (fault.Export owner item) h = absurd (let clash : status.Link ≡ status.Done = h in cc)
-no_fault_is_done (fault.NoRoom needed has) h = absurd (let clash : status.Link ≡ status.Done = h in cc)
-no_fault_is_done (fault.Import owner line) h = absurd (let clash : status.Link ≡ status.Done = h in cc)
-no_fault_is_done (fault.Initial owner) h = absurd (let clash : status.Link ≡ status.Done = h in cc)
-no_fault_is_done fault.NoMemory h = absurd (let clash : status.NoMemory ≡ status.Done = h in cc)
 
 module _ (c : Command) (limit : ℕ) (named : Option (List ℕ)) (text : List ℕ) (files own : List (List ℕ)) (p : PartsRow) (stand : StandFor c own p) where
   by_script : (bytes : List ℕ) (more : List (List ℕ)) (name : List ℕ) → named ≡ Some name → files ≡ own ++ (bytes ∷ more) → OfScript p limit bytes (done text) → IsOf c limit named files text
@@ -94,67 +76,32 @@ module _ (c : Command) (limit : ℕ) (named : Option (List ℕ)) (text : List �
   by_run (Some name) [] is files_are due = absurd (let clash : done text ≡ Asks name = due in cc)
   by_run (Some name) (bytes ∷ more) is files_are due = by_script bytes more name is files_are due
 
--- ---- of a description
-
-module _ (name : List ℕ) (limit : ℕ) (script : Option (List ℕ)) (text bytes : List ℕ) (rest : List (List ℕ)) (d : DescRow) (well : WellFormed bytes d) where
-  abbrev count : ℕ
-  count = length (source_names d)
-
-  by_linked : (r : Result PartsRow LinkFault) → linked d (take count rest) ≡ r → count ≤ length rest → OfLinked (Run name limit script) d r (drop count rest) (done text)
-      → IsOf (Run name limit script) limit script (bytes ∷ rest) text
-  by_linked (Err e) is long due =
-      let same : done text ≡ Ends (link_status e) (link_text d e) = due in
-      let clash : link_status e ≡ status.Done = cc in
-      absurd (no_fault_is_done e clash)
-  by_linked (Ok p) is long due =
-      let links : LinksTo bytes (take count rest) p = record {
-        description = d;
-        well = well;
-        whole = (let size = length-take count rest in omega (arith, size, long));
-        links = is;
-      } in
-      by_run (Run name limit script) limit script text (bytes ∷ rest) (bytes ∷ take count rest) p links script (drop count rest) refl
-      (ap (λ xs. bytes ∷ xs) (sym (take-append-drop count rest))) due
-
-  by_sources : (o : Option (List ℕ)) → slice_get (source_names d) (length rest) ≡ o → OfSources (Run name limit script) d (take count rest) (drop count rest) o (done text)
-      → IsOf (Run name limit script) limit script (bytes ∷ rest) text
-  by_sources (Some file) is due = absurd (let clash : done text ≡ Asks file = due in cc)
-  by_sources None is due = elim (slice_get_cases (source_names d) (length rest)).1 [
-    | inl x ↦ absurd (let clash : None ≡ Some x.0 = sym is ∙ x.2 in cc)
-    | inr past ↦ by_linked (linked d (take count rest)) refl past.0 due
-  ]
-
-of_rows : (name : List ℕ) (limit : ℕ) (script : Option (List ℕ)) (text bytes : List ℕ) (rest : List (List ℕ)) (d : DescRow) (well : WellFormed bytes d)
-    → OfRows (Run name limit script) d rest (done text) → IsOf (Run name limit script) limit script (bytes ∷ rest) text
-of_rows name limit script text bytes rest d well due = by_sources name limit script text bytes rest d well (slice_get (source_names d) (length rest)) refl due
-
 of_run : (name : List ℕ) (limit : ℕ) (script : Option (List ℕ)) (text : List ℕ) (files : List (List ℕ)) → Follows (Run name limit script) files (done text)
     → IsOf (Run name limit script) limit script files text
 of_run name limit script text [] due = absurd (let clash : done text ≡ Asks name = due in cc)
-of_run name limit script text (bytes ∷ rest) (inl f) = absurd (let clash : done text ≡ Ends status.Description (description_line f.fault) = f.due in cc)
-of_run name limit script text (bytes ∷ rest) (inr d) = of_rows name limit script text bytes rest d.0 d.1.0 d.1.1
+of_run name limit script text (bytes ∷ rest) due =
+    let x = of_description (Run name limit script) text bytes (λ sources p links. links) rest due in
+    by_run (Run name limit script) limit script text (bytes ∷ rest) x.own x.parts x.stand script x.more refl x.files_are x.due
 
--- ---- of an image
-
-of_image : (name : List ℕ) (limit : ℕ) (script : Option (List ℕ)) (text : List ℕ) (files : List (List ℕ)) → Follows (RunImage name limit script) files (done text)
+of_image_run : (name : List ℕ) (limit : ℕ) (script : Option (List ℕ)) (text : List ℕ) (files : List (List ℕ)) → Follows (RunImage name limit script) files (done text)
     → IsOf (RunImage name limit script) limit script files text
-of_image name limit script text [] due = absurd (let clash : done text ≡ Asks name = due in cc)
-of_image name limit script text (bytes ∷ rest) (inl f) = absurd (let clash : done text ≡ Ends status.Image (image_line f.fault.number f.fault.place) = f.due in cc)
-of_image name limit script text (bytes ∷ rest) (inr i) =
-    by_run (RunImage name limit script) limit script text (bytes ∷ rest) (bytes ∷ []) i.0 i.1.0 script rest refl refl i.1.1
+of_image_run name limit script text [] due = absurd (let clash : done text ≡ Asks name = due in cc)
+of_image_run name limit script text (bytes ∷ rest) due =
+    let x = of_image (RunImage name limit script) text bytes (λ p is. is) rest due in
+    by_run (RunImage name limit script) limit script text (bytes ∷ rest) x.own x.parts x.stand script x.more refl x.files_are x.due
 
 -- ---- the run
 
-all_licensed : (p : PartsRow) (es : List Event) → IsFaultless p → AllLicensed (entries_of p) (happenings_of (platform_of p) (boot_state p) es)
+run_licensed : (p : PartsRow) (es : List Event) → Sound p → AllLicensed (entries_of p) (happenings_of (platform_of p) (boot_state p) es)
 unfolding image_of
-all_licensed p es f = licensed p es f
+run_licensed p es f = all_licensed p es f
 
-is_run : (p : PartsRow) (script : List Due) (limit : ℕ) → IsFaultless p
+is_run : (p : PartsRow) (script : List Due) (limit : ℕ) → Sound p
     → IsRun p script limit (events_until (booted_machine p) script p.quantum limit) (happenings_of (platform_of p) (boot_state p) (events_until (booted_machine p) script p.quantum limit))
 is_run p script limit f = record {
   events_are = refl;
   happenings_are = refl;
-  licensed = all_licensed p (events_until (booted_machine p) script p.quantum limit) f;
+  licensed = run_licensed p (events_until (booted_machine p) script p.quantum limit) f;
   safe = safe p (events_until (booted_machine p) script p.quantum limit) f;
 }
 
@@ -183,7 +130,7 @@ writes_run e c limit script w same says =
       script_is = x.script_is;
       events = events_until (booted_machine x.parts) x.script x.parts.quantum limit;
       happenings = happenings_of (platform_of x.parts) (boot_state x.parts) (events_until (booted_machine x.parts) x.script x.parts.quantum limit);
-      is_run = is_run x.parts x.script limit (stands_faultless c x.own x.parts x.stand);
+      is_run = is_run x.parts x.script limit (stands_sound c x.own x.parts x.stand);
       written = subst (λ t. Appends e.sink.bytes e.sink_after.bytes t) (x.text_is ∙ report_is x.parts x.script limit) w.written;
     }
 
@@ -199,7 +146,7 @@ of_number e number text files (Ok p) is due written = record {
   stand = is;
   events = events_until (booted_machine p) [] p.quantum DEMO_STEPS;
   happenings = happenings_of (platform_of p) (boot_state p) (events_until (booted_machine p) [] p.quantum DEMO_STEPS);
-  is_run = is_run p [] DEMO_STEPS (stands_faultless (Demo number) [] p is);
+  is_run = is_run p [] DEMO_STEPS (stands_sound (Demo number) [] p is);
   written = subst (λ t. Appends e.sink.bytes e.sink_after.bytes t) (same_text text (demo_text p) due ∙ summary_is p) written;
 }
 
@@ -209,7 +156,7 @@ writes_of e (Image name) w same = tt
 writes_of e (Run name limit script) w same =
     writes_run e (Run name limit script) limit script w same (λ due. of_run name limit script w.text (contents w.cause.reads) due)
 writes_of e (RunImage name limit script) w same =
-    writes_run e (RunImage name limit script) limit script w same (λ due. of_image name limit script w.text (contents w.cause.reads) due)
+    writes_run e (RunImage name limit script) limit script w same (λ due. of_image_run name limit script w.text (contents w.cause.reads) due)
 writes_of e (Why name owner compartment) w same = tt
 writes_of e (Upgrade name) w same = tt
 writes_of e (Check name policy) w same = tt

@@ -13,6 +13,7 @@ mod images_alike;
 mod limits;
 mod machine;
 mod members;
+mod names;
 mod next_turn;
 mod reports;
 mod rights;
@@ -28,7 +29,8 @@ pub use answers::{
 };
 pub use choices::{choices_of_descriptions, services_by_name};
 pub use commands::{
-    commands_are_licensed, commands_are_safe, runs_are_lawful, runs_are_told, written_runs_are_safe,
+    allowed_policies_are_kept, commands_are_licensed, commands_are_safe,
+    files_stand_for_sound_parts, runs_are_lawful, runs_are_told, written_runs_are_safe,
 };
 pub use demo::numbers_of_demo;
 pub use dialogue::{image_then_run, upgrade_then_run};
@@ -44,6 +46,7 @@ pub use members::{
     members_of_compartments, members_of_firmware, members_of_libraries, members_of_objects,
     order_of_lists,
 };
+pub use names::{bytes_of_names, ranges_meet};
 pub use next_turn::a_turn_follows;
 pub use reports::{labels_fit_rows, upgrade_reports_alike};
 pub use rights::{rights_by_letters, rights_of_kinds, words_of_roots};

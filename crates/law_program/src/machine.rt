@@ -2,6 +2,7 @@
 //! are laid out.
 
 ghost use Rattle.std.specs.Prelude.{◌≡◌, [], ◌∷◌};
+ghost use Rattle.def_native.specs.declared.TheConstants as routine;
 ghost use Rattle.def_profile.specs.declared.answers.TheConstants as answer;
 ghost use Rattle.def_profile.specs.declared.layout.TheConstants as layout;
 ghost use Rattle.def_profile.specs.declared.native.TheConstants as native;
@@ -18,13 +19,13 @@ pub fn native_routines()
     ensures end { native.NATIVE_END ≡ 0x00011000 }
     ensures unit { native.NATIVE_UNIT ≡ 16 }
     ensures bytes { native.NATIVE_LENGTH ≡ 8 }
-    ensures calls { native.SWITCH ∷ native.RETURN ∷ [] ≡ 0 ∷ 1 ∷ [] }
-    ensures turns { native.YIELD ∷ native.SLEEP ∷ native.WAIT ∷ native.WAKE ∷ []
+    ensures calls { routine.SWITCH ∷ native.RETURN ∷ [] ≡ 0 ∷ 1 ∷ [] }
+    ensures turns { routine.YIELD ∷ routine.SLEEP ∷ routine.WAIT ∷ routine.WAKE ∷ []
         ≡ 2 ∷ 3 ∷ 4 ∷ 5 ∷ [] }
-    ensures heap { native.ALLOCATE ∷ native.FREE ∷ native.REMAINING ∷ [] ≡ 6 ∷ 7 ∷ 8 ∷ [] }
-    ensures tokens { native.TOKEN_KEY ∷ native.TOKEN_NEW ∷ native.TOKEN_OPEN ∷ native.TOKEN_FREE
+    ensures heap { routine.ALLOCATE ∷ routine.FREE ∷ routine.REMAINING ∷ [] ≡ 6 ∷ 7 ∷ 8 ∷ [] }
+    ensures tokens { routine.TOKEN_KEY ∷ routine.TOKEN_NEW ∷ routine.TOKEN_OPEN ∷ routine.TOKEN_FREE
         ∷ [] ≡ 9 ∷ 10 ∷ 11 ∷ 12 ∷ [] }
-    ensures last { native.LAST_NATIVE ≡ 12 }
+    ensures last { routine.LAST_NATIVE ≡ 12 }
     ensures return_entry { native.RETURN_ENTRY ≡ 0x00010010 }
 {}
 

@@ -12,3 +12,4 @@ mod Deriving
 mod Entries
 mod BootPlacesTags
 mod Fixing
+pub mod Globality

@@ -12,4 +12,6 @@ mod firmware;
 #[cfg(test)]
 mod ready;
 #[cfg(test)]
+mod sched;
+#[cfg(test)]
 mod seen;

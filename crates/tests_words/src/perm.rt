@@ -2,7 +2,7 @@
 //! worked sets.
 
 use bitflags::Flags;
-use ct_perm::{Permission, Perms};
+use ct_perm::Perms;
 
 /// A form by what it needs, one of what it needs, and what it can hold.
 fn slow_normal(set: u16) -> u16 {
@@ -45,7 +45,7 @@ fn worked_sets(rt: HostRuntime) {
         .union(Perms::EX);
     assert!(rt; code.normal() == code);
     assert!(rt; code.difference(Perms::LD).normal() == Perms::GL);
-    assert!(rt; code.has(Permission::Execute) && !code.has(Permission::StoreData));
+    assert!(rt; code.contains(Perms::EX) && !code.contains(Perms::SD));
     assert!(rt; Perms(0xFFF).masked(0xFFFFF021) == Perms(0x021));
     assert!(rt; Perms::LD.within(code) && !Perms::SD.within(code));
     // The roots' permission bits.

@@ -10,10 +10,9 @@ returns g c = record {
   call = record {
     answer = c.capfw.ensures.answer;
     decided = c.capfw.ensures.decided;
-    complete = c.capfw.ensures.complete;
-    demo = c.capfw.ensures.demo;
-    misuse = c.capfw.ensures.misuse;
     written = c.capfw.ensures.written;
+    allowed = c.capfw.ensures.allowed;
+    sound = c.capfw.ensures.sound;
     licensed = c.capfw.ensures.licensed;
     safe = c.capfw.ensures.safe;
   };

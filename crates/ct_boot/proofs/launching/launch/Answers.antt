@@ -3,6 +3,7 @@ use Rattle.std.proofs.lemmas.Result.{IfOk-weaker}
 use Rattle.def_image.specs.Sound.{Sound}
 use Rattle.def_boot.specs.Boot.{boot_state}
 use Rattle.law_image.proofs.Sounds.{sound}
+use Rattle.law_image.proofs.Limited.{few_threads}
 use Rattle.ct_boot.specs.Starts.{starts_of}
 use Rattle.ct_boot.specs.Launching.{launched}
 use Rattle.ct_boot.proofs.Launched.{launched_placed, launched_first}
@@ -10,7 +11,7 @@ use Rattle.ct_boot.proofs.launching.launch.Goals as goal
 
 pub overflow_cast-len : goal.overflow_cast-len
 overflow_cast-len g c =
-    let few = (sound c.args.image.now c.parts-parts.ensures.faultless).few.threads in
+    let few = few_threads c.args.image.now (sound c.args.image.now c.parts-parts.ensures.faultless).few in
     let same = ap (λ p. length p.threads) (c.parts.view_is ∙ c.parts-parts.ensures.parts) in
     omega (arith, few, c.len.ensures, same)
 

@@ -7,13 +7,25 @@ use Rattle.ct_execute.proofs.quiet.execute_quietly.Goals as goal
 pub fetch-requires-clause-seen : goal.fetch-requires-clause-seen
 fetch-requires-clause-seen g c = found_seen c.args.engine.now c.args.t c.requires.opened
 
-pub execute_class-requires-clause-says : goal.execute_class-requires-clause-says
-execute_class-requires-clause-says g c =
-    says c.in-Some.word (instruction_in c.in-Some.word) c.reading.result.now (c.reading.ensures.is ∙ c.holds.ensures.is c.if-holds.true)
+pub execute_class-requires : goal.execute_class-requires
+execute_class-requires g c = record {
+  runs = c.requires.runs;
+  opened = c.requires.opened;
+  even = c.requires.even;
+  says = says c.in-Some.word (instruction_in c.in-Some.word) c.reading.result.now (c.reading.ensures.is ∙ c.holds.ensures.is c.if-holds.true);
+  registers = c.reading.ensures.registers;
+  window = c.requires.window;
+}
 
-pub execute_anew-requires-clause-says : goal.execute_anew-requires-clause-says
-execute_anew-requires-clause-says g c =
-    says c.in-Some.word (instruction_in c.in-Some.word) c.reading-in-Some.result.now (c.reading-in-Some.ensures.is ∙ c.keep.ensures)
+pub execute_anew-requires : goal.execute_anew-requires
+execute_anew-requires g c = record {
+  runs = c.requires.runs;
+  opened = c.requires.opened;
+  even = c.requires.even;
+  says = says c.in-Some.word (instruction_in c.in-Some.word) c.reading-in-Some.result.now (c.reading-in-Some.ensures.is ∙ c.keep.ensures);
+  registers = c.reading-in-Some.ensures.registers;
+  window = c.requires.window;
+}
 
 pub returns-then-holds-clause-when : goal.returns-then-holds-clause-when
 returns-then-holds-clause-when g c =

@@ -1,21 +1,13 @@
-use Rattle.std.proofs.Common.{◌%◌, ◌<◌, arith}
-use Rattle.def_words.specs.Permissions.{unpacked}
+use Rattle.std.proofs.Common.{◌<◌, slice_index_or}
 use Rattle.law_words.proofs.Spellings.{unpacked_small}
-use Rattle.ct_perm.proofs.Told.{global_apart}
+use Rattle.ct_perm.specs.declared.spelling.TheConstants.{SETS}
+use Rattle.ct_perm.proofs.Told.{told_is}
 use Rattle.ct_perm.proofs.spelling.told.Goals as goal
 
-pub overflow_add-result : goal.overflow_add-result
-overflow_add-result c =
-    let small : unpacked (c.args.bits % 32) < 4096 = unpacked_small (c.args.bits % 32) in
-    rw c.told_by_form.ensures (omega (arith, small, c.requires))
-
-pub overflow_cast-result-2 : goal.overflow_cast-result-2
-overflow_cast-result-2 c =
-    let small : unpacked (c.args.bits % 32) < 4096 = unpacked_small (c.args.bits % 32) in
-    rw c.told_by_form.ensures (omega (arith, small, c.requires))
+pub returns-clause-value : goal.returns-clause-value
+returns-clause-value c = told_is c.args.bits c.requires
 
 pub returns-clause-small : goal.returns-clause-small
-returns-clause-small c = rw (c.told_by_form.ensures, global_apart c.args.bits c.requires) (unpacked_small c.args.bits)
-
-pub returns-clause-value : goal.returns-clause-value
-returns-clause-value c = rw c.told_by_form.ensures (global_apart c.args.bits c.requires)
+returns-clause-small c =
+    let small : slice_index_or SETS c.args.bits 0 < 4096 = rw (told_is c.args.bits c.requires) (unpacked_small c.args.bits) in
+    small

@@ -1,5 +1,5 @@
-use Rattle.law_program.proofs.Safe.{is_safe}
+use Rattle.law_program.proofs.Safe.{command_safe}
 use Rattle.law_program.proofs.commands.commands_are_safe.Goals as goal
 
 pub returns : goal.returns
-returns c = is_safe
+returns c = command_safe

@@ -1,5 +1,5 @@
 use Rattle.std.proofs.Common.{◌≡◌, sym, subst, arith}
-use Rattle.def_profile.specs.declared.native.TheConstants.{SWITCH}
+use Rattle.def_native.specs.declared.TheConstants.{SWITCH}
 use Rattle.ct_entry.specs.Listed.{Listed}
 use Rattle.def_machine.specs.Platform.{MachineRow}
 use Rattle.def_step.specs.Instructions.{ran}

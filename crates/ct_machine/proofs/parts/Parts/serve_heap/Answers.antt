@@ -1,5 +1,5 @@
 use Rattle.std.proofs.Common.{◌≡◌, arith}
-use Rattle.def_profile.specs.declared.native.TheConstants.{TOKEN_FREE}
+use Rattle.def_native.specs.declared.TheConstants.{TOKEN_FREE}
 use Rattle.ct_machine.proofs.parts.Parts.serve_heap.Goals as goal
 
 pub returns-else-number-eq-TOKEN_OPEN-clause-came : goal.returns-else-number-eq-TOKEN_OPEN-clause-came

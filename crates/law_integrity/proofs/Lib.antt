@@ -1,0 +1,16 @@
+pub mod Cases
+pub mod Accesses
+pub mod Granules
+pub mod Sweeps
+pub mod Events
+pub mod Homes
+pub mod Threads
+pub mod Frames
+pub mod ThreadEvents
+pub mod ThreadsStay
+pub mod Devices
+pub mod Imports
+pub mod HeapRows
+pub mod Objects
+pub mod Whole
+pub mod Images

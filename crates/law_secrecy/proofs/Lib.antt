@@ -1,0 +1,25 @@
+-- Two states that a thread sees the same of: steps, all events, others' steps, runs, and runs of sound images.
+pub mod Two
+pub mod Puts
+pub mod Views
+pub mod Secrets
+pub mod Shapes
+pub mod Frames
+pub mod Replies
+pub mod Handing
+pub mod Freeing
+pub mod Steps
+pub mod Turns
+pub mod Slices
+pub mod Sweeps
+pub mod Events
+pub mod Unseen
+pub mod Changing
+pub mod Routed
+pub mod OtherSteps
+pub mod Others
+pub mod Apart
+pub mod Owning
+pub mod Unshared
+pub mod Runs
+pub mod Images

@@ -1,0 +1,16 @@
+pub mod Cases
+pub mod FailedChecks
+pub mod Same
+pub mod Spans
+pub mod Changes
+pub mod Running
+pub mod Deeds
+pub mod DeviceAccesses
+pub mod Instructions
+pub mod ThreadEnds
+pub mod Whole
+pub mod Turns
+pub mod Postures
+pub mod Answers
+pub mod Rows
+pub mod Passing

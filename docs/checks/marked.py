@@ -1,0 +1,231 @@
+"""The marks: by crate, and by what a law or call is, the names of those that no page claims (marks.py says what each
+mark means). `docs/check.py --contracts CRATE` shows them beside what each says."""
+MARKED = {
+    "ct_bits": {
+        "inner": "field sign extended extended_wide align_up",
+    },
+    "ct_texts": {
+        "inner": "number_of is_name",
+    },
+    "ct_port": {
+        "inner":
+            "DiskFolder::new WriterSink::new FolderMem::new FolderMem::add FolderMem::fail_at FolderMem::read "
+            "SinkMem::new SinkMem::bytes SinkMem::fail_at SinkMem::write SteadyFolder::new SteadyFolder::add "
+            "SteadyFolder::read SteadySink::new SteadySink::taken SteadySink::write",
+    },
+    "law_words": {
+        "instance":
+            "bounds_are_blocks roots_hold_all least_bounds_rows bits_are_permissions removing_load_data "
+            "sealing_rows",
+        "table": "rights_are_spelled",
+    },
+    "ct_perm": {
+        "inner": "Perms::masked",
+    },
+    "ct_cap": {
+        "inner":
+            "turn raise expand shrink Live::address Live::plain Live::integer Live::covers attenuate open "
+            "link derive add_address",
+    },
+    "ct_isa": {
+        "inner": "instruction one_instruction shape",
+    },
+    "ct_capstep": {
+        "inner": "derived",
+    },
+    "ct_source": {
+        "inner": "CompactNumber::number CompactTarget::target CompactPart::part",
+    },
+    "ct_asm": {
+        "inner": "Names::new Names::len Names::slot Names::add Object::of_text Object::find",
+    },
+    "ct_mem": {
+        "inner": "Memory::size Memory::marked Memory::next_tagged_below Plain::new",
+    },
+    "ct_planes": {
+        "inner": "Planes::new Planes::bytes Planes::tag_words Planes::mark_words",
+    },
+    "ct_graph": {
+        "inner": "same Graph::of",
+    },
+    "ct_bus": {
+        "inner": "Bus::new Bus::count Bus::holds",
+    },
+    "ct_flow": {
+        "inner": "takes posture_through",
+    },
+    "ct_loadstore": {
+        "inner": "filter load_number load_capability store_quietly access",
+    },
+    "ct_decode": {
+        "inner": "Decoded::new Decoded::keep Decoded::holds Decoded::reading operands_of class_of",
+    },
+    "ct_layout": {
+        "inner": "region_length",
+    },
+    "law_moves": {
+        "part":
+            "call_confined ends_confined turns_confined heap_moves objects_there jump_move code_jumps "
+            "targets_land postures_fit objects_move push_move register_move turn_moves pop_moves uses_reach "
+            "deeds_licensed off_spans_licensed results_derived store_moves load_moves register_moves "
+            "values_put keys sweep_moves",
+    },
+    "law_routines": {
+        "instance": "heap_computed sweep_computed switch_computed",
+    },
+    "law_each_move": {
+        "part": "store_moves load_move jump_move turn_moves",
+    },
+    "law_examples": {
+        "instance": "small_roots_away",
+    },
+    "ct_image_fields": {
+        "inner": "name_of read",
+    },
+    "ct_tables": {
+        "inner": "write_export read_export write_import read_import",
+    },
+    "ct_image_limits": {
+        "inner": "limit_fault",
+    },
+    "ct_image_parts": {
+        "inner": "parts_of copied sealed_bytes compartment_bytes library_bytes places_of fields_come_back written",
+    },
+    "law_image_samples": {
+        "instance":
+            "limits_fail regions_fail indexes_fail board_stands board_regions board_boots tiny_boots "
+            "whole_boots tiny_spelled tiny_stands upgraded_stands upgraded_fail whole_stands "
+            "whole_limits_fail whole_regions_fail whole_indexes_fail whole_rights_fail",
+        "table": "rights_fail",
+    },
+    "law_answers": {
+        "instance": "cut_answers limit_answers region_answers index_answers right_answers later_answers",
+    },
+    "ct_image": {
+        "inner":
+            "Image::of Image::parts Image::copy Image::upgraded Image::text Image::init index_fault "
+            "region_fault right_fault",
+    },
+    "law_events": {
+        "part": "fresh_objects",
+    },
+    "ct_desc_value": {
+        "inner":
+            "word_of bytes_of has_kinds keeps_limits has_only text_at number_at list_in list_at has has_text "
+            "number_or word_or word_at text_or text_of number_in kind_of posture_of library_posture_of "
+            "passes_of service_of members_of inner_lists spots_of",
+    },
+    "law_desc": {
+        "instance":
+            "small_descriptions great_numbers numbers_left_out faults_of_form faults_of_meaning "
+            "board_is_well_formed",
+    },
+    "ct_desc_rows": {
+        "inner": "key_name rows_of target_at Import::target",
+    },
+    "ct_link_objects": {
+        "inner": "objects begin_of are_sourced",
+    },
+    "ct_link_slots": {
+        "inner": "called compartment_slots library_slots",
+    },
+    "law_link_samples": {
+        "instance": "samples_link tiny_is_linked board_is_linked link_faults",
+    },
+    "law_report": {
+        "instance": "edges_of_three tiny_reported board_reported whole_reported",
+    },
+    "ct_entries": {
+        "inner": "handlers export_number",
+    },
+    "ct_script": {
+        "inner": "Script::empty Script::bare_steps",
+    },
+    "ct_policy": {
+        "inner": "compartment_named owner_named add_names",
+    },
+    "ct_chunks": {
+        "inner": "carve find read_head chunk_head write_head join set_state paint",
+    },
+    "ct_heap": {
+        "inner": "Heap::new Heap::length Heap::lay Heap::made Heap::quarantined Heap::find Heap::paint Heap::flush",
+    },
+    "ct_token": {
+        "inner":
+            "opened Tokens::new Tokens::is_key Tokens::opens Tokens::drop_row Tokens::add_key "
+            "Tokens::add_token Tokens::add",
+    },
+    "ct_revoke": {
+        "inner": "Front::idle Front::running Front::at Front::begin Front::finished Front::end sweep_all",
+    },
+    "ct_areas": {
+        "inner": "clear areas_apart push innermost pop save resume Thread::new",
+    },
+    "ct_switch": {
+        "inner":
+            "head_of return_trap stack_trap first_trap unwind end_with export_of called return_sentry "
+            "heads_give is_export_of table_at top_below",
+    },
+    "ct_handler": {
+        "inner": "record_at write_record fresh answer",
+    },
+    "ct_sched": {
+        "inner": "Sched::new Sched::end Sched::status Sched::going",
+    },
+    "ct_threads": {
+        "inner":
+            "access call_row return_row end_row next fetch_word handle_row value_of read read_ref jump_row "
+            "put_row branch_row filter_row begin stop_row pick_row Window::empty Window::holds window_of",
+    },
+    "ct_engine": {
+        "inner":
+            "callee_given Engine::start Engine::size Engine::count Engine::running Engine::load "
+            "Engine::register Engine::pcc Engine::posture Engine::actor Engine::jump_to Engine::stop "
+            "Engine::pick Engine::call Engine::return_to_caller Engine::unwind Engine::handle "
+            "Engine::is_handling Engine::end_handler Engine::next Engine::loadstore Engine::allocate "
+            "Engine::free Engine::made Engine::remaining Engine::quarantined Engine::address "
+            "Engine::address_in Engine::register_ref Engine::pcc_ref Engine::window Engine::fetch "
+            "Engine::put_number Engine::put Engine::branch_to Engine::load_number Engine::load_capability "
+            "Engine::store_register Engine::find Engine::is_key Engine::opens Engine::allocate_sealed "
+            "Engine::has_sweep Engine::sweep calls_written ends_written handlers_written grants_written "
+            "sweeps_written",
+    },
+    "ct_execute": {
+        "inner": "execute executed_decided running_opened execute_quietly",
+    },
+    "ct_services": {
+        "inner": "answer switch allocate remaining rest wait wake token_key token_new",
+    },
+    "ct_boot": {
+        "inner": "launch Start::new Start::first",
+    },
+    "ct_machine": {
+        "inner": "Known::of Machine::lawful Machine::totals",
+    },
+    "law_program": {
+        "table":
+            "choices_of_descriptions services_by_name numbers_of_demo limits_of_files limits_of_ram "
+            "limits_of_versions limits_of_lists limits_of_numbers native_routines answers_of_routines "
+            "numbers_of_traps types_of_seals places_in_ram sizes_in_images members_of_firmware "
+            "members_of_objects members_of_compartments members_of_libraries order_of_lists bytes_of_names "
+            "ranges_meet rights_of_kinds rights_by_letters words_of_roots mnemonics_of_integers "
+            "mnemonics_of_memory mnemonics_of_capabilities pseudo_instructions names_of_registers "
+            "reaches_of_statements statuses_by_number kinds_in_images",
+        "part": "image_then_run upgrade_then_run upgrade_reports_alike",
+        "instance": "samples_are_told",
+    },
+    "ct_run": {
+        "inner": "write_run write_summary",
+    },
+    "ct_commands": {
+        "inner":
+            "read_file read_sources refuse_usage refuse_file refuse_description refuse_link refuse_image "
+            "refuse_script refuse_name refuse_policy line Task::reads_image Task::number form_of close",
+    },
+    "ct_top": {
+        "inner": "ready",
+    },
+    "ct_program": {
+        "inner": "words_of run run_all",
+    },
+}
