@@ -47,6 +47,11 @@ MACHINES = [
           ("def_step/specs/Quotas.antt",
            "Allocate r.number r.base r.length (charges",
            "Allocate r.number r.base (r.length + 8) (charges")),
+    wrong("allocation_size", "an allocation is as long as c12 says",
+          "law_truly::deeds_tell_truly", "IsAllocationTold.asks",
+          ("def_step/specs/Quotas.antt",
+           "(allocated s t (allocation i s (quota_in s t) (cap_address (register (thread s t) 11))))",
+           "(allocated s t (allocation i s (quota_in s t) (cap_address (register (thread s t) 12))))")),
     wrong("allocation_quota", "an allocation is told by another entry than the quota's",
           "law_truly::deeds_tell_truly", "IsAllocationTold.entry_is",
           ("def_step/specs/Quotas.antt",
@@ -62,7 +67,18 @@ MACHINES = [
           ("def_step/specs/Instructions.antt",
            "(deed s t 0 (Trap why.cause why.code why.register))",
            "(deed s t 0 (Trap why.code why.cause why.register))")),
-    wrong("trap_order", "the checks of a load stand in another order",
-          "", "the list of checks is the step's and the law's own: rows of tests/calls.py and tests/rows.py say "
-          "the order"),
+    wrong("trap_order", "a load is asked for its bounds before the right to load",
+          "law_truly::checks_stand_in_order", "LoadOrder.right, bounds",
+          ("def_step/specs/Accesses.antt",
+           "    ∷ (has x load_data, capability_trap LOAD_CODE a.by)\n"
+           "    ∷ (is_range_inside x at (at + a.width), capability_trap BOUNDS_CODE a.by)\n"
+           "    ∷ (at % a.width == 0, plain_trap MISALIGNED_LOAD)",
+           "    ∷ (is_range_inside x at (at + a.width), capability_trap BOUNDS_CODE a.by)\n"
+           "    ∷ (has x load_data, capability_trap LOAD_CODE a.by)\n"
+           "    ∷ (at % a.width == 0, plain_trap MISALIGNED_LOAD)")),
+    wrong("gate_before_link", "a call looks at its import before its way back",
+          "law_truly::checks_stand_in_order", "CallOrder.back",
+          ("def_step/specs/Switch.antt",
+           "    return_checks (register caller 1) ++ gate_checks (register caller 6)\n",
+           "    gate_checks (register caller 6) ++ return_checks (register caller 1)\n")),
 ]

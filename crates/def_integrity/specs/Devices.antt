@@ -30,8 +30,7 @@ offset_in b n address = address - base_of b.bases n
 
 -- A load or store of the running thread reached it. It stands at the program counter, and its checks pass. What it
 -- goes through is tagged and unsealed, has these bytes in its own bounds and the right that is used, and is of a root
--- whose owner reaches the actor. The access is told, and the device is as that access leaves it. A deed is licensed:
--- it names an import of a device whose owner reaches the actor.
+-- whose owner reaches the actor. The access is told, and the device is as that access leaves it.
 pub record IsAccessed (b : Platform) (s : State) (told : Option Deed) (n : ℕ)
     (new : DeviceState) : Type 0 where
   pub by : Acting s

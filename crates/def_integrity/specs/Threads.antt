@@ -6,7 +6,7 @@ use Rattle.def_words.specs.Permissions.{load_data}
 use Rattle.def_sched.specs.declared.Status.TheVariants.{Ready, Waiting}
 use Rattle.def_machine.specs.Platform.{Platform}
 use Rattle.def_machine.specs.State.{State, Thread, Frame, thread, register}
-use Rattle.def_machine.specs.Threads.{with_status, timed}
+use Rattle.def_machine.specs.Threads.{timed}
 use Rattle.def_step.specs.declared.Event.{Event}
 use Rattle.def_step.specs.declared.Event.TheVariants.{Step, Tick, Sweep}
 use Rattle.def_step.specs.Checks.{first_failed}
@@ -29,7 +29,7 @@ pub record IsWoken (b : Platform) (s : State) (u : ℕ) (new : Thread) : Type 0 
       load_data
   pub waits : (thread s u).status
       ≡ Waiting (cap_address (register (thread s by.thread_is) 10))
-  pub new_is : new ≡ with_status (thread s u) Ready
+  pub new_is : new ≡ record (thread s u) { status = Ready }
 
 -- of what each place of a frame held and holds; all else of it is as it was
 pub record FrameFaded (P : Cap → Cap → Type 0) (f h : Frame) : Type 0 where

@@ -133,8 +133,8 @@ pub record IsRecorded (b : Platform) (s : State) (told : Option Deed) (k : ℕ)
 
 -- ---- by a free
 
--- A free that is told gave back its object: a live one, by its quota; a deed is licensed, so its quota's owner
--- reaches the actor. All of its chunk is marked, and all of it but its head is zero and untagged.
+-- A free that is told gave back its object, a live one, whose quota's entry the deed names. All of its chunk is
+-- marked, and all of it but its head is zero and untagged.
 pub record IsFreed (b : Platform) (s : State) (told : Option Deed) (k : ℕ)
     (new : Granule) : Type 0 where
   pub by : Acting s

@@ -117,17 +117,22 @@ pub record IsCallTold (b : Platform) (s : State) (t entry export : ℕ)
 
 -- ---- the heap
 
+-- How many bytes thread t asks for, by the routine that it runs: what its c11 says; a key has eight.
+pub data Asks (b : Platform) (s : State) (t length : ℕ) : Type 0 where
+  by_length : RunsRoutine b s t ALLOCATE ⊎ RunsRoutine b s t TOKEN_NEW
+      → length ≡ cap_address (register (thread s t) 11) → Asks b s t length
+  by_key : RunsRoutine b s t TOKEN_KEY → length ≡ 8 → Asks b s t length
+
 -- Thread t runs a routine that hands an object out, and its c1 leads back. c10 is a quota, and the entry its root, to
--- which the object is charged; it has the next number, and stands among the others.
+-- which the object is charged; it has the length that was asked for and the next number, and stands among the others.
 pub record IsAllocationTold (b : Platform) (s : State) (t entry number base bytes charged : ℕ)
     (objects : List Object) (next : ℕ) : Type 0 where
-  pub routine : RunsRoutine b s t ALLOCATE ⊎ RunsRoutine b s t TOKEN_KEY
-      ⊎ RunsRoutine b s t TOKEN_NEW
+  pub asked : ℕ
+  pub asks : Asks b s t asked
   pub returns : first_failed (return_checks (register (thread s t) 1)) ≡ None
   pub by_quota : is_quota_cap (register (thread s t) 10) ≡ true
   pub entry_is : entry ≡ (register (thread s t) 10).shadow.root
   pub object : Object
-  pub asked : ℕ
   pub made : allocation b.image s entry asked ≡ Made object
   pub quota : object.quota ≡ entry
   pub number_is : (object.number ≡ number) × (number ≡ s.next)

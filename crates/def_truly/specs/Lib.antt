@@ -2,6 +2,7 @@
 pub mod Deeds
 pub mod Changes
 pub mod FailedChecks
+pub mod Orders
 pub mod DeviceAccesses
 pub mod Exactly
 pub mod Instructions

@@ -1,10 +1,12 @@
 -- Whose turn it is, in plain facts: which thread carries on in a step, and what a tick stops.
-use Rattle.std.specs.Prelude.{ℕ, ◌≡◌, ◌+◌, ◌≤◌, ◌<◌, ◌⊎◌, ◌↔◌, true, false, Contains, Some, None}
+use Rattle.std.specs.Prelude.{ℕ, ◌≡◌, ◌+◌, ◌-◌, ◌≤◌, ◌<◌, ◌⊎◌, ◌↔◌, true, false, Contains, Some, None}
+use Rattle.def_sched.specs.declared.Status.{Status}
+use Rattle.def_sched.specs.declared.Status.TheVariants.{Sleeping}
 use Rattle.def_sched.specs.Picks.{moved_last, priority_of}
 use Rattle.def_machine.specs.Image.{Image}
 use Rattle.def_machine.specs.Platform.{Platform}
-use Rattle.def_machine.specs.State.{State, Ready, thread}
-use Rattle.def_machine.specs.Threads.{picked, timed}
+use Rattle.def_machine.specs.State.{State, Thread, Ready, thread}
+use Rattle.def_machine.specs.Threads.{picked}
 use Rattle.def_step.specs.declared.Event.TheVariants.{Input, Sweep, Tick}
 use Rattle.def_step.specs.Events.{happens}
 use Rattle.def_safety.specs.Each.{ready}
@@ -84,12 +86,26 @@ pub record HoldsOff (s : State) (t : ℕ) : Type 0 where
   pub runs : s.running ≡ Some t
   pub off : (thread s t).posture.off ≡ true
 
+-- a sleep is one tick shorter, and over after its last; another status stays
+pub record OneTickLess (old new : Status) : Type 0 where
+  pub shorter : (n : ℕ) → old ≡ Sleeping n → 1 < n → new ≡ Sleeping (n - 1)
+  pub over : (n : ℕ) → old ≡ Sleeping n → n ≤ 1 → new ≡ Ready
+  pub stays : ((n : ℕ) → old ≡ Sleeping n → ⊥) → new ≡ old
+
+-- of a thread, of which all else stays
+pub record ThreadTicked (old new : Thread) : Type 0 where
+  pub status : OneTickLess old.status new.status
+  pub pcc : new.pcc ≡ old.pcc
+  pub registers : new.registers ≡ old.registers
+  pub frames : new.frames ≡ old.frames
+  pub posture : new.posture ≡ old.posture
+
 -- What a tick leaves. A thread that runs goes on only where it holds interrupts off, and then the tick is pending.
 -- Each thread's sleep is one tick shorter; all else is as it was.
 pub record TickTaken (s after : State) : Type 0 where
   pub runs : (t : ℕ) → (after.running ≡ Some t) ↔ HoldsOff s t
   pub pending : (after.pending ≡ true) ↔ ((s.pending ≡ true) ⊎ ((t : ℕ) × HoldsOff s t))
-  pub threads : (u : ℕ) → thread after u ≡ timed (thread s u)
+  pub threads : (u : ℕ) → ThreadTicked (thread s u) (thread after u)
   pub picks : after.picks ≡ s.picks
   pub time : after.time ≡ s.time + 1
   pub rest : SameBeside s after

@@ -30,15 +30,15 @@ use Rattle.def_step.specs.Handlers.{handler_entered, handler_value}
 use Rattle.def_step.specs.Instructions.{Effect, space_of, put_done, instruction_end, operand, deed, deed_told, trapped, goes_on, after_fetch, executed, fetch_checks, next_at, served}
 use Rattle.def_step.specs.Native.{native}
 use Rattle.def_step.specs.Operands.{operands_of}
-use Rattle.def_step.specs.Quotas.{Made, allocation, by_quota, is_quota_cap, quota_in, let_go}
+use Rattle.def_step.specs.Quotas.{Allocation, Made, Refused, allocate, allocated, allocation, by_quota, is_quota_cap, quota_in, let_go}
 use Rattle.def_step.specs.Routines.{Ran, Traps, Leaves, answers, checked, code, switched_to, switch, tells as refuses, wakes}
 use Rattle.def_step.specs.Switch.{Switched, TooDeep, NoStack, Enters, return_checks, switch_checks, called, with_room, past_checks, frame_top}
-use Rattle.def_step.specs.Tokens.{with_row, sealed_token, opened_token}
+use Rattle.def_step.specs.Tokens.{by_key, key_of, made_token, token_key, token_new, with_row, sealed_token, opened_token}
 use Rattle.def_events.specs.Leaving.{Left, IfRan}
 use Rattle.law_history.proofs.Numbered.{by_number}
 use Rattle.law_routines.proofs.Cases.{by_next}
 use Rattle.law_routines.proofs.Objects.{Found}
-use Rattle.law_routines.proofs.Leaving.{checked_left, option_tells, stopped, entering, call_told, allocate_told, free_told, yield_left, sleep_left, wait_left, wake_left, allocate_left, free_left, remaining_left, token_key_left, token_new_left, token_open_left, token_free_left}
+use Rattle.law_routines.proofs.Leaving.{checked_left, option_tells, stopped, entering, call_told, allocate_told, free_told, yield_left, sleep_left, wait_left, wake_left, free_left, remaining_left, token_open_left, token_free_left}
 use Rattle.law_routines.proofs.Stepping.{carried, trap_case, return_case}
 
 -- ---- routines
@@ -46,6 +46,14 @@ use Rattle.law_routines.proofs.Stepping.{carried, trap_case, return_case}
 -- c1 of thread t is a return sentry
 abbrev pub MayReturn : State → ℕ → Type 0
 MayReturn s t = first_failed (return_checks (register (thread s t) 1)) ≡ None
+
+-- what c11 of thread t says: of the routines that make an object, how many bytes it asks for
+abbrev pub length_in : State → ℕ → ℕ
+length_in s t = cap_address (register (thread s t) 11)
+
+-- what stands beside an object that is handed out sealed: the routine that made it, and how many bytes it asked for
+abbrev pub Sealing : (ℕ → Type 0) → State → ℕ → ℕ → Type 0
+Sealing At s t size = (At TOKEN_KEY × (size ≡ 8)) ⊎ (At TOKEN_NEW × (size ≡ length_in s t))
 
 -- as law_routines has them, with the number of the routine that runs, a call with its checks that passed, and what goes by a
 -- quota with its own
@@ -55,9 +63,9 @@ pub record Answers (At : ℕ → Type 0) (Q : State → Option (ℕ × Act) → 
       → Q (entering i s t (called i.entries (thread s t)) (high_of i s t)) (Some (call_told s t (called i.entries (thread s t))))
   pub stops : (status : Status) → Q (stopped s t status) None
   pub wakes : (address most : ℕ) → Q (wakes s t address most) None
-  pub hands : At ALLOCATE → MayReturn s t → is_quota_cap (register (thread s t) 10) ≡ true → (size : ℕ) (r : Object) → allocation i s (quota_in s t) size ≡ Made r → Q (answers (with_object s r) t (object_cap r)) (Some (allocate_told s r))
+  pub hands : At ALLOCATE → MayReturn s t → is_quota_cap (register (thread s t) 10) ≡ true → (r : Object) → allocation i s (quota_in s t) (length_in s t) ≡ Made r → Q (answers (with_object s r) t (object_cap r)) (Some (allocate_told s r))
   pub gives : At FREE ⊎ At TOKEN_FREE → MayReturn s t → is_quota_cap (register (thread s t) 10) ≡ true → (r : Object) (c : Cap) → Found (quota_in s t) c s.objects r → Q (answers (let_go i s t r) t (integer 0)) (Some (free_told i s t r))
-  pub seals : At TOKEN_KEY ⊎ At TOKEN_NEW → MayReturn s t → is_quota_cap (register (thread s t) 10) ≡ true → (size : ℕ) (key : Option ℕ) (r : Object) → allocation i s (quota_in s t) size ≡ Made r
+  pub seals : (size : ℕ) → Sealing At s t size → MayReturn s t → is_quota_cap (register (thread s t) 10) ≡ true → (key : Option ℕ) (r : Object) → allocation i s (quota_in s t) size ≡ Made r
       → Q (answers (with_object (with_row s r key) r) t (sealed_token r)) (Some (allocate_told (with_row s r key) r))
   pub opens : Q (answers s t (opened_token (register (thread s t) 11))) None
 
@@ -80,6 +88,34 @@ module _ (At : ℕ → Type 0) (Q : State → Option (ℕ × Act) → Type 0) (i
     | inr failed ↦ rw failed.1 tt
   ]
 
+  -- what c10's quota pays for, where c10 is one: what is shown of it is enough
+  by_quota_left : (r : Ran) → Left Q r → Left Q (by_quota s t r)
+  by_quota_left r h = checked_left Q (return_checks (register (thread s t) 1)) (if is_quota_cap (register (thread s t) 10) then r else refuses s t (code 1))
+      (chosen (Left Q) (is_quota_cap (register (thread s t) 10)) r (refuses s t (code 1)) (λ is. h) (λ not. m.tells (4294967296 - 1)))
+
+  -- an object that is handed out as it is
+  allocate_case : At ALLOCATE → MayReturn s t → is_quota_cap (register (thread s t) 10) ≡ true → Left Q (allocate i s t)
+  allocate_case at back q = by_quota_left _ (by_made (allocation i s (quota_in s t) (length_in s t)) refl)
+    where
+      by_made : (a : Allocation) → allocation i s (quota_in s t) (length_in s t) ≡ a → Left Q (allocated s t a)
+      by_made (Refused n) is = m.tells (4294967296 - n)
+      by_made (Made r) is = m.hands at back q r is
+
+  -- one that is handed out sealed
+  sealed_case : (size : ℕ) → Sealing At s t size → MayReturn s t → is_quota_cap (register (thread s t) 10) ≡ true → (key : Option ℕ) (a : Allocation) → allocation i s (quota_in s t) size ≡ a → Left Q (made_token s t key a)
+  sealed_case size seals back q key (Refused n) is = m.tells (4294967296 - n)
+  sealed_case size seals back q key (Made r) is = m.seals size seals back q key r is
+
+  token_key_case : At TOKEN_KEY → MayReturn s t → is_quota_cap (register (thread s t) 10) ≡ true → Left Q (token_key i s t)
+  token_key_case at back q = by_quota_left _ (sealed_case 8 (inl (at, refl)) back q None (allocation i s (quota_in s t) 8) refl)
+
+  token_new_case : At TOKEN_NEW → MayReturn s t → is_quota_cap (register (thread s t) 10) ≡ true → Left Q (token_new i s t)
+  token_new_case at back q = by_quota_left _ (by_found (key_of s (register (thread s t) 12)))
+    where
+      by_found : (o : Option Object) → Left Q (by_key s t o (λ key. made_token s t (Some key) (allocation i s (quota_in s t) (length_in s t))))
+      by_found None = m.tells (4294967296 - 7)
+      by_found (Some k) = sealed_case (length_in s t) (inr (at, refl)) back q (Some k.number) (allocation i s (quota_in s t) (length_in s t)) refl
+
   -- what goes by a quota, where c10 is one, and else is refused
   by_quota_case : (r : Ran) → (MayReturn s t → is_quota_cap (register (thread s t) 10) ≡ true → Left Q (by_quota s t r)) → Left Q (by_quota s t r)
   by_quota_case r h = returning _ (λ back. by back (is_quota_cap (register (thread s t) 10)) refl)
@@ -99,11 +135,11 @@ module _ (At : ℕ → Type 0) (Q : State → Option (ℕ × Act) → Type 0) (i
     sleep = λ at. sleep_left Q i s t m.stops;
     wait = λ at. wait_left Q i s t m.tells m.stops;
     wake = λ at. wake_left Q i s t m.wakes;
-    allocate = λ at. by_quota_case _ (λ back q. allocate_left Q i s t m.tells (m.hands at back q));
+    allocate = λ at. by_quota_case _ (λ back q. allocate_case at back q);
     free = λ at. by_quota_case _ (λ back q. free_left Q i s t m.tells (m.gives (inl at) back q));
     remaining = λ at. remaining_left Q i s t m.tells;
-    token_key = λ at. by_quota_case _ (λ back q. token_key_left Q i s t m.tells (λ r is. m.seals (inl at) back q 8 None r is));
-    token_new = λ at. by_quota_case _ (λ back q. token_new_left Q i s t m.tells (λ size key r is k. m.seals (inr at) back q size (Some key) r is));
+    token_key = λ at. by_quota_case _ (λ back q. token_key_case at back q);
+    token_new = λ at. by_quota_case _ (λ back q. token_new_case at back q);
     token_open = λ at. token_open_left Q i s t m.tells (λ key r is. m.opens);
     token_free = λ at. by_quota_case _ (λ back q. token_free_left Q i s t m.tells (m.gives (inr at) back q));
   })

@@ -184,9 +184,9 @@ module _ (b : Platform) (s : State) (t : ℕ) where
         objects = inl refl;
         runs = λ u e. e;
       };
-      hands = λ at back q size r is. record { devices = inl refl; frames = λ u. inl (one_few _ (omega arith) u); next = inr tt; objects = inr (inl tt); runs = λ u e. e };
+      hands = λ at back q r is. record { devices = inl refl; frames = λ u. inl (one_few _ (omega arith) u); next = inr tt; objects = inr (inl tt); runs = λ u e. e };
       gives = λ at back q r c found. record { devices = inl refl; frames = λ u. inl (again_few b.image r _ refl u); next = inl refl; objects = inr (inr tt); runs = λ u e. e };
-      seals = λ at back q size key r is. record { devices = inl refl; frames = λ u. inl (one_few _ (omega arith) u); next = inr tt; objects = inr (inl tt); runs = λ u e. e };
+      seals = λ size asked back q key r is. record { devices = inl refl; frames = λ u. inl (one_few _ (omega arith) u); next = inr tt; objects = inr (inl tt); runs = λ u e. e };
       opens = plain_change _ _ _ (omega arith) refl refl refl refl (λ u runs. runs);
     };
   })

@@ -43,7 +43,7 @@ use Rattle.def_safety.specs.Routine.{RunsRoutine}
 use Rattle.def_safety.specs.Traps.{step_checks}
 use Rattle.def_safety.specs.Used.{access_start, AccessPasses}
 use Rattle.def_events.specs.Running.{RunsFramed}
-use Rattle.def_truly.specs.Deeds.{ByRunning, IsLoadTold, IsStoreTold, IsCallTold, IsAllocationTold, IsFreeTold, ActWasDone, DeedWasDone, SpanBegins, TellsTruly}
+use Rattle.def_truly.specs.Deeds.{Asks, by_length, by_key, ByRunning, IsLoadTold, IsStoreTold, IsCallTold, IsAllocationTold, IsFreeTold, ActWasDone, DeedWasDone, SpanBegins, TellsTruly}
 use Rattle.law_moves.proofs.Authorities.{headed}
 use Rattle.law_moves.proofs.Checks.{all_pass}
 use Rattle.law_routines.proofs.Leaving.{entering, call_told, free_told}
@@ -54,7 +54,7 @@ use Rattle.law_events.proofs.Cleans.{framed_there}
 use Rattle.law_events.proofs.Events.{ready_keeps}
 use Rattle.law_history.proofs.Steps.{none_told}
 use Rattle.law_history.proofs.Trapping.{traps_first}
-use Rattle.law_truly.proofs.Cases.{IfEffect, Both, MayFetch, MayReturn, Stands, executed_case}
+use Rattle.law_truly.proofs.Cases.{length_in, IfEffect, Both, MayFetch, MayReturn, Stands, executed_case}
 use Rattle.law_truly.proofs.FailedChecks.{first_failed_is}
 use Rattle.law_truly.proofs.Running.{innermost, ready_framed, event_framed}
 use Rattle.law_truly.proofs.Spans.{some_begun, calm_begins_none}
@@ -198,19 +198,19 @@ module _ (b : Platform) (s : State) (t : ℕ) (held : Confined b.image s) (runs 
 
   -- an object that is made is told with its quota, which c10 named
   made_told : MayReturn s t → is_quota_cap (register (thread s t) 10) ≡ true → (size : ℕ) (r : Object) → allocation b.image s (quota_in s t) size ≡ Made r → (z : State) (charged : ℕ) → z.objects ≡ (with_object s r).objects → z.next ≡ s.next + 1
-      → charged ≡ charges r.quota z.objects → RunsRoutine b s t ALLOCATE ⊎ RunsRoutine b s t TOKEN_KEY ⊎ RunsRoutine b s t TOKEN_NEW
+      → charged ≡ charges r.quota z.objects → Asks b s t size
       → IfTold b s z (Some (deed s t r.quota (acts.Allocate r.number r.base r.length charged)))
-  made_told back q size r made z charged objects next charge routine =
+  made_told back q size r made z charged objects next charge asks =
       let says = (made_says b.image s (quota_in s t) size r made).is in
       let quota : r.quota ≡ quota_in s t = ap (λ (o : Object). o.quota) says in (
         told_by r.quota _,
         record {
-          routine = routine;
+          asked = size;
+          asks = asks;
           returns = back;
           by_quota = q;
           entry_is = quota;
           object = r;
-          asked = size;
           made = subst (λ q. allocation b.image s q size ≡ Made r) (sym quota) made;
           quota = refl;
           number_is = (refl, ap (λ (o : Object). o.number) says);
@@ -258,9 +258,9 @@ module _ (b : Platform) (s : State) (t : ℕ) (held : Confined b.image s) (runs 
       enters = entered_told fetched;
       stops = λ status. tt;
       wakes = λ address most. tt;
-      hands = λ at back q size r is. made_told back q size r is (with_object s r) _ refl refl refl (inl (runs_at fetched ALLOCATE at));
+      hands = λ at back q r is. made_told back q (length_in s t) r is (with_object s r) _ refl refl refl (by_length (inl (runs_at fetched ALLOCATE at)) refl);
       gives = λ at back q r c found. freed_told back q r c found (elim at [ inl a ↦ inl (runs_at fetched FREE a) | inr a ↦ inr (runs_at fetched TOKEN_FREE a) ]);
-      seals = λ at back q size key r is. made_told back q size r is (with_object s r) _ refl refl refl (elim at [ inl a ↦ inr (inl (runs_at fetched TOKEN_KEY a)) | inr a ↦ inr (inr (runs_at fetched TOKEN_NEW a)) ]);
+      seals = λ size asked back q key r is. made_told back q size r is (with_object s r) _ refl refl refl (elim asked [ inl a ↦ by_key (runs_at fetched TOKEN_KEY a.0) a.1 | inr a ↦ by_length (inr (runs_at fetched TOKEN_NEW a.0)) a.1 ]);
       opens = tt;
     };
   })

@@ -1,5 +1,6 @@
 pub mod Cases
 pub mod FailedChecks
+pub mod Orders
 pub mod Same
 pub mod Spans
 pub mod Changes

@@ -132,9 +132,9 @@ module _ (b : Platform) (s : State) (t : ℕ) where
       enters = λ at none runs. one _ (some_frames _ _);
       stops = λ status. none_runs;
       wakes = λ address most runs e. one _ (λ e. e) (sym (status_frames _ _ t) ∙ e);
-      hands = λ at back q size r is runs. one _ (λ e. e);
+      hands = λ at back q r is runs. one _ (λ e. e);
       gives = λ at back q r c found runs. put (let_go b.image s t r).threads _ (one _ (λ e. e)) (one _ (λ e. e));
-      seals = λ at back q size key r is runs. one _ (λ e. e);
+      seals = λ size asked back q key r is runs. one _ (λ e. e);
       opens = λ runs. one _ (λ e. e);
     };
   })

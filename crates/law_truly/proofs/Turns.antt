@@ -1,8 +1,8 @@
 -- Whose turn it is: what a step begins with, and what a tick leaves, by what they are.
-use Rattle.std.proofs.Common.{ℕ, zero, suc, ◌≡◌, ◌+◌, ◌≤◌, ◌<◌, ◌⊎◌, ◌↔◌, inl, inr, ◌&&◌, arith, Bool, true, false, not, nat_le, List, [], ◌∷◌, map, length, Option, Some, None, refl, sym, ap, ◌∙◌, subst}
+use Rattle.std.proofs.Common.{ℕ, zero, suc, ◌≡◌, ◌+◌, ◌-◌, ◌==◌, ◌≤◌, ◌<◌, ◌⊎◌, ◌↔◌, inl, inr, ◌&&◌, arith, Bool, true, false, not, nat_le, List, [], ◌∷◌, map, length, Option, Some, None, refl, sym, ap, ◌∙◌, subst}
 use Rattle.std.specs.List.{Contains}
 use Rattle.std.proofs.Math.ListN.{get_or}
-use Rattle.std.proofs.lemmas.Bool.{cases_Bool, cases_order}
+use Rattle.std.proofs.lemmas.Bool.{cases_Bool, cases_order, eqb-true}
 use Rattle.std.proofs.lemmas.List.{get_or_default, get_or-set_same}
 use Rattle.law_lists.proofs.Finds.{IsFirst, find_is, find_tells}
 use Rattle.law_lists.proofs.Sets.{after_set_at}
@@ -10,7 +10,7 @@ use Rattle.law_lists.proofs.Tests.{both_left, both_right, chosen}
 use Rattle.def_sched.specs.declared.Status.{Status}
 use Rattle.def_sched.specs.declared.Status.TheVariants.{Ready, Sleeping, Waiting, Ended}
 use Rattle.def_sched.specs.Picks.{is_foremost, moved_last, pick, priority_of}
-use Rattle.def_sched.specs.Statuses.{is_ready, status_of}
+use Rattle.def_sched.specs.Statuses.{after_tick, asleep, is_ready, status_of}
 use Rattle.def_machine.specs.Heap.{slice_end, sweep_began, sweep_on, sweep_over, ram_size, with_slice}
 use Rattle.def_machine.specs.Image.{Image}
 use Rattle.def_machine.specs.Objects.{has_quarantined, painted}
@@ -18,7 +18,7 @@ use Rattle.def_machine.specs.Platform.{Platform}
 use Rattle.def_machine.specs.State.{State, Thread, nobody, thread}
 use Rattle.def_machine.specs.Threads.{picked, statuses_of, timed}
 use Rattle.def_step.specs.Events.{interrupted, one_more_step, picked_as, picked_from, preempted_from, scheduled}
-use Rattle.def_truly.specs.Turns.{GoesOn, HoldsOff, IsNext, IsPicked, IsReady, IsStopped, NoneGoesOn, NoneIsReady, TakesTurn, TicksStop, SameTurn, TickTaken, TurnTaken, TurnsStay}
+use Rattle.def_truly.specs.Turns.{GoesOn, HoldsOff, IsNext, IsPicked, IsReady, IsStopped, NoneGoesOn, NoneIsReady, TakesTurn, TicksStop, SameTurn, OneTickLess, ThreadTicked, TickTaken, TurnTaken, TurnsStay}
 use Rattle.law_sched.proofs.Picks.{foremost_is, foremost_ready, foremost_tells, no_pick_is_idle}
 use Rattle.law_truly.proofs.Running.{status_at}
 
@@ -223,6 +223,27 @@ timed_at [] u = refl
 timed_at (x ∷ xs) zero = refl
 timed_at (x ∷ xs) (suc u) = timed_at xs u
 
+-- a status after a tick
+one_tick_less : (x : Status) → OneTickLess x (after_tick x)
+one_tick_less Ready = record { shorter = λ n e many. absurd (let clash : Ready ≡ Sleeping n = e in cc); over = λ n e few. absurd (let clash : Ready ≡ Sleeping n = e in cc); stays = λ none. refl }
+one_tick_less (Waiting address) = record { shorter = λ n e many. absurd (let clash : Waiting address ≡ Sleeping n = e in cc); over = λ n e few. absurd (let clash : Waiting address ≡ Sleeping n = e in cc); stays = λ none. refl }
+one_tick_less Ended = record { shorter = λ n e many. absurd (let clash : Ended ≡ Sleeping n = e in cc); over = λ n e few. absurd (let clash : Ended ≡ Sleeping n = e in cc); stays = λ none. refl }
+one_tick_less (Sleeping ticks) = record {
+  shorter = λ n e many.
+      let same : ticks ≡ n = (let both : Sleeping ticks ≡ Sleeping n = e in cc) in
+      chosen (λ (x : Status). x ≡ Sleeping (n - 1)) (ticks - 1 == 0) Ready (Sleeping (ticks - 1))
+      (λ is. let left : ticks - 1 ≡ 0 = eqb-true (ticks - 1) 0 is in absurd (omega (arith, many, same, left)))
+      (λ more. ap (λ k. Sleeping (k - 1)) same);
+  over = λ n e few.
+      let same : ticks ≡ n = (let both : Sleeping ticks ≡ Sleeping n = e in cc) in
+      let none : ticks - 1 ≡ 0 = omega (arith, few, same) in
+      ap asleep none;
+  stays = λ none. absurd (none ticks refl);
+}
+
+thread_ticked : (t : Thread) → ThreadTicked t (timed t)
+thread_ticked t = record { status = one_tick_less t.status; pcc = refl; registers = refl; frames = refl; posture = refl }
+
 module _ (b : Platform) (s : State) where
   abbrev clocked : Option ℕ → Bool → State
   clocked o p = record s { threads = map timed s.threads; time = s.time + 1; counts = record s.counts { ticks = s.counts.ticks + 1 }; running = o; pending = p }
@@ -231,7 +252,7 @@ module _ (b : Platform) (s : State) where
   tick_taken o p runs pends = record {
     runs = runs;
     pending = pends;
-    threads = λ u. timed_at s.threads u;
+    threads = λ u. subst (ThreadTicked (thread s u)) (sym (timed_at s.threads u)) (thread_ticked (thread s u));
     picks = refl;
     time = refl;
     rest = record { granules = refl; objects = refl; next = refl; tokens = refl; front = refl; devices = refl };

@@ -3,7 +3,7 @@
 //! written machine's rules and other laws share. They speak of the written machine alone.
 #![tactic(auto)]
 
-ghost use Rattle.std.specs.Prelude.{◌≡◌, ◌<◌, ◌↔◌, ℕ, List, Some, None, length};
+ghost use Rattle.std.specs.Prelude.{◌≡◌, ◌<◌, ◌↔◌, ℕ, Bool, List, Some, None, length};
 ghost use Rattle.def_boot.specs.Boot.{boot_state, platform_of};
 ghost use Rattle.def_confined.specs.Facts.{Facts};
 ghost use Rattle.def_confined.specs.Keeps.{Keeps};
@@ -12,7 +12,7 @@ ghost use Rattle.def_image.specs.Parts.{PartsRow};
 ghost use Rattle.def_image.specs.Sound.{Sound};
 ghost use Rattle.def_machine.specs.Objects.{placed_among, quarantine};
 ghost use Rattle.def_machine.specs.Platform.{Platform};
-ghost use Rattle.def_machine.specs.State.{Object, State, thread};
+ghost use Rattle.def_machine.specs.State.{Object, State, Thread, thread};
 ghost use Rattle.def_safety.specs.Each.{EachEvent, ready};
 ghost use Rattle.def_safety.specs.Traps.{AllHold, FirstFails};
 ghost use Rattle.def_safety.specs.Wired.{Wired};
@@ -27,7 +27,9 @@ ghost use Rattle.def_words.specs.declared.Posture.{Posture};
 ghost use Rattle.def_words.specs.declared.Trap.{Trap};
 ghost use Rattle.def_words.specs.Seals.{posture_through};
 ghost use Rattle.def_truly.specs.ThreadEnds.{EndsThread};
+ghost use Rattle.def_step.specs.declared.Access.{Access};
 ghost use Rattle.def_truly.specs.FailedChecks.{FailsTrap};
+ghost use Rattle.def_truly.specs.Orders.{CallOrder, FetchOrder, JumpOrder, LoadOrder, StoreOrder};
 ghost use Rattle.def_truly.specs.Instructions.{InstructionsKeep};
 ghost use Rattle.def_events.specs.Running.{RunsFramed};
 ghost use Rattle.def_truly.specs.DeviceAccesses.{AccessesTold};
@@ -106,6 +108,16 @@ pub fn checks_are_plain()
     ensures passes { (cs : List Check) → (first_failed cs ≡ None) ↔ AllHold cs }
     ensures fails { (cs : List Check) (why : Trap)
         → (first_failed cs ≡ Some why) ↔ FirstFails cs why }
+{}
+
+/// Where several checks fail, the trap is of the one that comes first: of a fetch, a load, a store, a jump by a
+/// register, and a call.
+pub fn checks_stand_in_order()
+    ensures fetch { (pcc : Cap) → FetchOrder pcc }
+    ensures load { (a : Access) (x : Cap) (at : ℕ) → LoadOrder a x at }
+    ensures store { (a : Access) (x : Cap) (at : ℕ) (carries : Bool) → StoreOrder a x at carries }
+    ensures jump { (to at : ℕ) (x : Cap) (n : ℕ) → JumpOrder to at x n }
+    ensures call { (base top : ℕ) (caller : Thread) → CallOrder base top caller }
 {}
 
 /// What `posture_through` gives is what a jump or a return does to interrupts, and nothing else is.
