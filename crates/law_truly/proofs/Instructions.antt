@@ -1,5 +1,5 @@
 -- What an instruction that is carried out leaves of its thread.
-use Rattle.std.proofs.Common.{ℕ, zero, suc, ◌≡◌, ◌⊎◌, inl, inr, List, [], ◌∷◌, Option, Some, None, Result, Ok, Err, refl, sym, ap, ◌∙◌, subst, slice_set}
+use Rattle.std.proofs.Common.{ℕ, zero, suc, ◌≡◌, ◌⊎◌, inl, inr, List, [], ◌∷◌, Option, None, Result, Ok, Err, refl, sym, ap, ◌∙◌, subst, slice_set}
 use Rattle.std.proofs.Math.ListN.{get_or}
 use Rattle.std.proofs.lemmas.List.{get_or-set_other}
 use Rattle.ct_entry.specs.declared.acts.Deed.{Deed}
@@ -11,16 +11,15 @@ use Rattle.def_memory.specs.Granules.{plain}
 use Rattle.def_instr.specs.declared.Instr.{Instr}
 use Rattle.def_machine.specs.Platform.{Platform}
 use Rattle.def_machine.specs.Registers.{written}
-use Rattle.def_machine.specs.State.{State, Thread, nobody, register, thread}
+use Rattle.def_machine.specs.State.{State, Thread, nobody, thread}
 use Rattle.def_machine.specs.Threads.{jumped}
 use Rattle.def_step.specs.declared.Class.{Class}
 use Rattle.def_step.specs.declared.Class.TheVariants as class
-use Rattle.def_step.specs.declared.Next.{Next}
 use Rattle.def_step.specs.declared.Next.TheVariants.{Instruction}
 use Rattle.def_step.specs.Accesses.{Accessed, access_result}
 use Rattle.def_step.specs.Checks.{first_failed}
 use Rattle.def_step.specs.Events.{continued}
-use Rattle.def_step.specs.Instructions.{Effect, Context, accesses, after_fetch, around, carried_out, executed, fetch_checks, flows, goes_on, instruction_end, instructed, named_by, next_at, operand, put_done, space_of}
+use Rattle.def_step.specs.Instructions.{Effect, Context, accesses, after_fetch, around, carried_out, executed, fetch_checks, flows, goes_on, instruction_end, instructed, named_by, next_at, operand, space_of}
 use Rattle.def_step.specs.Jumps.{Flowed, flow_result}
 use Rattle.def_step.specs.Operands.{class_of, operands_of}
 use Rattle.def_safety.specs.Each.{ready}
