@@ -63,21 +63,8 @@ MARKED = {
     "ct_layout": {
         "inner": "region_length",
     },
-    "law_moves": {
-        "part":
-            "call_confined ends_confined turns_confined heap_moves objects_there jump_move code_jumps "
-            "targets_land postures_fit objects_move push_move register_move turn_moves pop_moves uses_reach "
-            "deeds_licensed off_spans_licensed results_derived store_moves load_moves register_moves "
-            "values_put keys sweep_moves",
-    },
     "law_routines": {
         "instance": "heap_computed sweep_computed switch_computed",
-    },
-    "law_each_move": {
-        "part": "store_moves load_move jump_move turn_moves",
-    },
-    "law_examples": {
-        "instance": "small_roots_away",
     },
     "ct_image_fields": {
         "inner": "name_of read",
@@ -105,9 +92,6 @@ MARKED = {
         "inner":
             "Image::of Image::parts Image::copy Image::upgraded Image::text Image::init index_fault "
             "region_fault right_fault",
-    },
-    "law_events": {
-        "part": "fresh_objects",
     },
     "ct_desc_value": {
         "inner":

@@ -3,7 +3,7 @@ from plants import wrong
 
 MACHINES = [
     wrong("failed_load", "a load is carried out though a check fails",
-          "law_truly::failed_checks_trap", "FailsTrap",
+          "law_truly::steps_do_no_more", "FailsTrap",
           ("def_step/specs/Accesses.antt",
            "    (first_failed (access_checks (access_of i) x y (access_address (access_of i) x)))\n"
            "    (accessed",
@@ -11,7 +11,7 @@ MACHINES = [
            "(access_address (access_of i) x)))\n"
            "    (accessed")),
     wrong("failed_store", "a store is carried out though a check fails",
-          "law_truly::failed_checks_trap", "FailsTrap",
+          "law_truly::steps_do_no_more", "FailsTrap",
           ("def_step/specs/Accesses.antt",
            "    (first_failed (access_checks (access_of i) x y (access_address (access_of i) x)))\n"
            "    (accessed",
@@ -69,7 +69,7 @@ MACHINES = [
            "then filtered_in ram gs (attenuated x (loaded_cap gs (at - ram)))",
            "then filtered_in ram gs (attenuated x (loaded_cap gs (at + 8 - ram)))")),
     wrong("load_out_of_view", "a load of plain bytes gives the bytes of the granule before",
-          "law_secrecy::steps_go_by_view", "GoesByView",
+          "law_secrecy::steps_are_secret", "GoesByView",
           ("def_step/specs/Accesses.antt",
            "else integer (widened a (loaded gs (at - ram) a.width))",
            "else integer (widened a (loaded gs (at - ram - 8) a.width))")),

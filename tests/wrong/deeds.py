@@ -3,26 +3,26 @@ from plants import wrong
 
 MACHINES = [
     wrong("wrong_actor", "a deed names compartment 0 as its actor",
-          "law_truly::accesses_are_told", "access_deed, its actor; of other deeds ByRunning.actor",
+          "law_truly::deeds_tell_all", "access_deed, its actor; of other deeds ByRunning.actor",
           ("def_step/specs/Instructions.antt",
            "  actor = actor_of (thread s t).frames;\n"
            "  entry = entry;",
            "  actor = 0;\n"
            "  entry = entry;")),
     wrong("wrong_thread", "a deed names thread 0",
-          "law_truly::accesses_are_told", "access_deed, its thread; of other deeds ByRunning.runs",
+          "law_truly::deeds_tell_all", "access_deed, its thread; of other deeds ByRunning.runs",
           ("def_step/specs/Instructions.antt",
            "deed s t entry act = record {\n"
            "  thread = t;",
            "deed s t entry act = record {\n"
            "  thread = 0;")),
     wrong("wrong_entry", "an access is told with the entry 0",
-          "law_truly::accesses_are_told", "access_deed, its entry; IsAccess.entry_is",
+          "law_truly::deeds_tell_all", "access_deed, its entry; IsAccess.entry_is",
           ("def_step/specs/Instructions.antt",
            "instruction_end b s t x (Ok d) = (put_done s t d, option_map (deed s t x.shadow.root) d.act)",
            "instruction_end b s t x (Ok d) = (put_done s t d, option_map (deed s t 0) d.act)")),
     wrong("access_untold", "an access of a device isn't told",
-          "law_truly::accesses_are_told", "AccessesTold",
+          "law_truly::deeds_tell_all", "AccessesTold",
           ("def_step/specs/Instructions.antt",
            "instruction_end b s t x (Ok d) = (put_done s t d, option_map (deed s t x.shadow.root) d.act)",
            "instruction_end b s t x (Ok d) = (put_done s t d, None)")),
@@ -58,7 +58,7 @@ MACHINES = [
            "    (Some (r.quota, Allocate r.number",
            "    (Some (0, Allocate r.number")),
     wrong("free_charge", "a free is told with the charge that was before it",
-          "law_history::charges_follow", "ChargesFollow.frees",
+          "law_history::quotas_hold", "ChargesFollow.frees",
           ("def_step/specs/Quotas.antt",
            "Free r.number r.base r.length (charges r.quota (let_go i s t r).objects)",
            "Free r.number r.base r.length (charges r.quota s.objects)")),

@@ -3,12 +3,12 @@ from plants import wrong
 
 MACHINES = [
     wrong("handled_twice", "a handler is entered twice for one frame",
-          "law_events::handlers_due", "DueHandler.fresh; handlers_enter_once: EntersFresh",
+          "law_events::handlers_begin", "DueHandler.fresh; handlers_enter_once: EntersFresh",
           ("def_step/specs/Handlers.antt",
            "not (handler == 0) && not f.handling && has_room",
            "not (handler == 0) && has_room")),
     wrong("no_room", "the record isn't asked to lie in the frame's stack",
-          "law_events::handlers_due", "DueHandler.place (IsRecordPlace.low)",
+          "law_events::handlers_begin", "DueHandler.place (IsRecordPlace.low)",
           ("def_step/specs/Handlers.antt",
            "nat_le (base + TRAP_RECORD) (record_end c)",
            "nat_le base (record_end c)")),

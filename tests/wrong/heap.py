@@ -62,7 +62,7 @@ MACHINES = [
            "picked i s t = picked_with (filtered i s) t",
            "picked i s t = t")),
     wrong("no_filter_at_return", "a return passes no filter",
-          "law_events::returns_clean", "CleanReturn.c2, c3, c8, c9",
+          "law_events::routines_clean", "CleanReturn.c2, c3, c8, c9",
           ("def_machine/specs/Frames.antt",
            "left_by i s old f fs first second = left_with (filtered i s) old f fs first second",
            "left_by i s old f fs first second = left_with (λ c. c) old f fs first second")),

@@ -3,7 +3,7 @@ from plants import wrong
 
 MACHINES = [
     wrong("root_authority", "accesses are checked against the root, so that csetbounds and candperm protect nothing",
-          "law_truly::failed_checks_trap", "FailsTrap; in `step_checks` too: IsUseAt.inside, allows",
+          "law_truly::steps_do_no_more", "FailsTrap; in `step_checks` too: IsUseAt.inside, allows",
           ("def_step/specs/Instructions.antt",
            "abbrev pub instructed : Platform",
            "abbrev pub used_as : Image → Class → Cap → Cap\n"
@@ -22,12 +22,12 @@ MACHINES = [
            "use Rattle.def_machine.specs.Image.{Image, root}",
            "use Rattle.def_machine.specs.Image.{Image, root, made_cap}")),
     wrong("any_key_unseals", "an instruction unseals by a key of another type, a token too",
-          "law_words::seals_need_keys", "IsUnsealing.inside; tokens_stay_shut: StaysShut",
+          "law_words::seals_need_keys", "IsUnsealing.inside; tokens_opened: StaysShut",
           ("def_words/specs/Capability.antt",
            "    && is_inside key (cap_address key) && (cap_seal c == cap_address key))",
            "    && is_inside key (cap_address key) && not false)")),
     wrong("posture_on", "every integer instruction turns interrupts on",
-          "law_truly::instructions_keep", "OnlyItsRegister.posture",
+          "law_truly::steps_do_no_more", "OnlyItsRegister.posture",
           ("def_step/specs/Instructions.antt",
            "  pcc = raised a.pcc 4;\n"
            "  posture = a.posture;\n"
@@ -39,13 +39,13 @@ MACHINES = [
            "specs.State.{State, Frame, register, thread}",
            "specs.State.{State, Frame, register, thread, interrupts_on}")),
     wrong("two_registers", "an instruction clears c5 beside the register that it names",
-          "law_truly::instructions_keep", "OnlyItsRegister.registers",
+          "law_truly::steps_do_no_more", "OnlyItsRegister.registers",
           ("def_step/specs/Instructions.antt",
            "  threads = slice_set s.threads t (jumped (thread s t) d.pcc d.posture d.to d.value);",
            "  threads = slice_set s.threads t (jumped (jumped (thread s t) d.pcc d.posture 5 (plain 0)) "
            "d.pcc d.posture d.to d.value);")),
     wrong("posture_of_sentry", "a disabling return sentry leaves interrupts on",
-          "law_truly::postures_are_plain", "IsPostureThrough",
+          "law_truly::rules_are_plain", "IsPostureThrough",
           ("def_words/specs/Seals.antt",
            "else if kind == RETURN_DISABLE then record { off = true; source = kept }",
            "else if kind == RETURN_DISABLE then record { off = false; source = 0 }")),

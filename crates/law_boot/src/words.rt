@@ -15,7 +15,8 @@ ghost use Rattle.def_boot.specs.Rows.{library_slot_number, slot_number};
 
 /// What a sound image boots: in each slot the capability that was made for it, then the text; in an
 /// export table the capabilities of code and globals, then the rows; in globals and sealed objects
-/// their first bytes; and in the trusted region the return sentry.
+/// their first bytes; and in the trusted region the return sentry. At any other granule a parts list
+/// boots zeros (`zero`).
 pub fn words_put()
     ensures slot { (p : PartsRow) → Sound p → (b j : ℕ) (c : CompartmentRow) (s : SlotRow)
         → slice_get p.compartments b ≡ Some c → slice_get c.code.slots j ≡ Some s
@@ -42,9 +43,5 @@ pub fn words_put()
     ensures sealed { (p : PartsRow) → Sound p → (n : ℕ) (s : SealedRow)
         → slice_get p.sealed n ≡ Some s → PutsBytes p s.base s.bytes }
     ensures sentry { (p : PartsRow) → Sound p → BootPuts p p.trusted return_sentry }
-{}
-
-/// At any other granule a parts list boots zeros.
-pub fn else_zero()
-    ensures { (p : PartsRow) (x : ℕ) → IsBootWritten p x ⊎ (boot_cap p x ≡ plain 0) }
+    ensures zero { (p : PartsRow) (x : ℕ) → IsBootWritten p x ⊎ (boot_cap p x ≡ plain 0) }
 {}

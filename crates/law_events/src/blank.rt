@@ -13,16 +13,13 @@ ghost use Rattle.def_step.specs.declared.Event.{Event};
 ghost use Rattle.def_step.specs.Events.{happens};
 ghost use Rattle.def_machine.specs.Platform.{Platform};
 
-/// Every event, lawful or not, leaves what is hidden zero.
+/// Every event, lawful or not, leaves what is hidden zero (`event`); so a granule of the heap in no live object is zero
+/// (`heap`).
 pub fn events_blank()
-    ensures { (b : Platform) (s : State) (e : Event)
+    ensures event { (b : Platform) (s : State) (e : Event)
         → Partitioned b.image → Wired b → Shut b.image → Keeps b.image s
         → Blank b.image s → Blank b.image (happens b s e).0 }
-{}
-
-/// A granule of the heap in no live object is zero.
-pub fn heap_reads_zero()
-    ensures { (i : Image) (s : State) (k : ℕ)
+    ensures heap { (i : Image) (s : State) (k : ℕ)
         → Blank i s → i.heap_base ≤ address_of i k → address_of i k < i.heap_end
         → is_live_at s.objects (address_of i k) ≡ false → (granule s k).cap ≡ plain 0 }
 {}

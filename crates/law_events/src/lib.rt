@@ -23,20 +23,24 @@ ghost use Rattle.def_confined.specs.Partitioned.{Partitioned};
 ghost use Rattle.def_confined.specs.Licensed.{Licensed, OffLicensed};
 ghost use Rattle.def_confined.specs.Telling.{AllLicensed};
 
-pub use blank::{events_blank, heap_reads_zero};
+pub use blank::events_blank;
 pub use fresh::fresh_objects;
-pub use handlers::{handler_move, handlers_begin, handlers_due};
-pub use natives::{entries_clean, objects_fresh, returns_clean, routines_stand};
+pub use handlers::handlers_begin;
+pub use natives::{routines_clean, routines_stand};
 pub use shut::accesses_seen;
 
-/// Every event, lawful or not, keeps a state confined, and what stands beside.
+/// Every event (`one`), and any list of events (`all`), lawful or not, keeps a state confined, and what stands beside.
 pub fn events_confined()
-    ensures { (b : Platform) (s : State) (e : Event)
+    ensures one { (b : Platform) (s : State) (e : Event)
         → Partitioned b.image → Facts b.image → Wired b → Keeps b.image s
         → Keeps b.image (happens b s e).0 }
+    ensures all { (b : Platform) (s : State) (es : List Event)
+        → Partitioned b.image → Facts b.image → Wired b → Keeps b.image s
+        → Keeps b.image (run b s es) }
 {}
 
-/// The deed of an event, and the span with interrupts off that begins with it, are licensed.
+/// The deed of an event (`deeds`), and the span with interrupts off that begins with it (`spans`), are licensed; so is
+/// each that a list of events tells (`all`).
 pub fn events_licensed()
     ensures deeds { (b : Platform) (s : State) (e : Event) (d : Deed)
         → Partitioned b.image → Facts b.image → Wired b → Keeps b.image s
@@ -44,18 +48,7 @@ pub fn events_licensed()
     ensures spans { (b : Platform) (s : State) (e : Event) (o : Owned)
         → Partitioned b.image → Facts b.image → Wired b → Keeps b.image s
         → (happens b s e).1.off ≡ Some o → OffLicensed b.image.entries o }
-{}
-
-/// Any list of events, lawful or not, keeps a state confined, and what stands beside.
-pub fn runs_confined()
-    ensures { (b : Platform) (s : State) (es : List Event)
-        → Partitioned b.image → Facts b.image → Wired b → Keeps b.image s
-        → Keeps b.image (run b s es) }
-{}
-
-/// Each deed, and each span with interrupts off, that a list of events tells is licensed.
-pub fn runs_licensed()
-    ensures { (b : Platform) (s : State) (es : List Event)
+    ensures all { (b : Platform) (s : State) (es : List Event)
         → Partitioned b.image → Facts b.image → Wired b → Keeps b.image s
         → AllLicensed b.image.entries (happenings_of b s es) }
 {}

@@ -1,20 +1,18 @@
-//! Laws of native routines, as they are written: *Clean calls* of the switch and of returns, *Fresh objects* of an
-//! allocation, and that the routines of switcher and heap keep a state confined, with all that stands beside.
+//! Laws of native routines, as they are written: *Clean calls* of the switch and of returns, and that the routines of
+//! switcher and heap keep a state confined, with all that stands beside.
 
 ghost use Rattle.std.specs.Prelude.{◌≡◌, ℕ, List, ◌∷◌, Some, None};
-ghost use Rattle.ct_entry.specs.declared.acts.Act.TheVariants.{Call, Allocate};
+ghost use Rattle.ct_entry.specs.declared.acts.Act.TheVariants.{Call};
 ghost use Rattle.def_confined.specs.Keeps.{Keeps};
 ghost use Rattle.def_confined.specs.Partitioned.{Partitioned};
-ghost use Rattle.def_hidden.specs.Hidden.{Blank};
 ghost use Rattle.def_machine.specs.Frames.{ended_with, returned, unwound};
 ghost use Rattle.def_machine.specs.Image.{Image};
 ghost use Rattle.def_machine.specs.State.{State, Frame, thread};
 ghost use Rattle.def_step.specs.Quotas.{allocate, free, remaining};
 ghost use Rattle.def_step.specs.Routines.{Leaves, switch, sleep, yield, wait, wake};
 ghost use Rattle.def_step.specs.Tokens.{token_key, token_new, token_open, token_free};
-ghost use Rattle.def_confined.specs.Facts.{Facts, RootsAway};
+ghost use Rattle.def_confined.specs.Facts.{Facts};
 ghost use Rattle.def_safety.specs.Clean.{Answers, CleanEntry, CleanReturn, HandsBack, minus_one};
-ghost use Rattle.def_safety.specs.Fresh.{HandsOut, AsMade, AsKey, AsToken};
 ghost use Rattle.def_events.specs.Stands.{RoutineKeeps};
 
 /// What each routine comes to stands: a trap is one that may be told; what it leaves is confined, with all
@@ -52,17 +50,13 @@ pub fn routines_stand()
         → RoutineKeeps i s t (token_free i s t) }
 {}
 
-/// A call enters its callee clean.
-pub fn entries_clean()
-    ensures { (i : Image) (s after : State) (t entry export : ℕ)
+/// A call enters its callee clean (`call`). A return of a frame, its end with a value, and an unwind, lead to its
+/// caller clean: with what the export lets through (`back`), with the value and 0 (`value`), with -1 and 0 (`unwind`).
+pub fn routines_clean()
+    ensures call { (i : Image) (s after : State) (t entry export : ℕ)
         → Partitioned i → Facts i → Keeps i s → s.running ≡ Some t
         → switch i s t ≡ Leaves after (Some (entry, Call export))
         → CleanEntry i s t export after }
-{}
-
-/// A return of a frame, its end with a value, and an unwind, lead to its caller clean: with what the export lets
-/// through, with the value and 0, with -1 and 0.
-pub fn returns_clean()
     ensures back { (i : Image) (s : State) (t : ℕ) (f g : Frame) (gs : List Frame)
         → (thread s t).frames ≡ f ∷ g ∷ gs
         → CleanReturn i s t f (g ∷ gs) (returned i s t (f ∷ g ∷ gs))
@@ -75,21 +69,4 @@ pub fn returns_clean()
         → (thread s t).frames ≡ f ∷ g ∷ gs
         → CleanReturn i s t f (g ∷ gs) (unwound i s t (f ∷ g ∷ gs))
         × Answers (unwound i s t (f ∷ g ∷ gs)) t minus_one }
-{}
-
-/// An allocation that tells its deed hands out a fresh object, at the least lawful place: as it is, as a key
-/// or as a token.
-pub fn objects_fresh()
-    ensures objects { (i : Image) (s after : State) (t entry number base long live : ℕ)
-        → Partitioned i → RootsAway i → Keeps i s → Blank i s
-        → allocate i s t ≡ Leaves after (Some (entry, Allocate number base long live))
-        → HandsOut i s number base long (AsMade s t after) }
-    ensures keys { (i : Image) (s after : State) (t entry number base long live : ℕ)
-        → Partitioned i → RootsAway i → Keeps i s → Blank i s
-        → token_key i s t ≡ Leaves after (Some (entry, Allocate number base long live))
-        → HandsOut i s number base long (AsKey s t after) }
-    ensures tokens { (i : Image) (s after : State) (t entry number base long live : ℕ)
-        → Partitioned i → RootsAway i → Keeps i s → Blank i s
-        → token_new i s t ≡ Leaves after (Some (entry, Allocate number base long live))
-        → HandsOut i s number base long (AsToken s t after) }
 {}

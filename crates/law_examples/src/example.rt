@@ -9,14 +9,11 @@ ghost use Rattle.def_confined.specs.Uses.{GatesOfExports};
 ghost use Rattle.law_examples.specs.Small.{small};
 ghost use Rattle.law_examples.specs.Starting.{starting};
 
-/// The image is partitioned, its gates are of exports, and the state in which it starts is confined.
+/// The image is partitioned, its gates are of exports, its roots are away from its heap, and the state in which it
+/// starts is confined.
 pub fn small_firmware()
     ensures partitioned { Partitioned small }
     ensures gates { GatesOfExports small }
     ensures confined { Confined small starting }
-{}
-
-/// The small firmware's roots are away from its heap.
-pub fn small_roots_away()
-    ensures { RootsAway small }
+    ensures roots_away { RootsAway small }
 {}

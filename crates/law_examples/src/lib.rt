@@ -4,5 +4,5 @@
 mod example;
 mod needed;
 
-pub use example::{small_firmware, small_roots_away};
+pub use example::small_firmware;
 pub use needed::joined_frames_needed;

@@ -19,15 +19,12 @@ ghost use Rattle.def_step.specs.Events.{happens, run};
 /// of the granule: through a capability without LM it has neither SD nor LM, if it is unsealed; through one without
 /// LG it has no GL, and no LG if it is unsealed; if it is sealed, it is as it was but for GL (`loads`). And what a
 /// store leaves tagged in the granule is the value: it has GL, or is stored through a capability with SL (`stores`).
+/// So a granule that holds a capability without GL is of a thread's stack, and stays so: through one event (`event`),
+/// through any list of them, lawful or not (`events`), and in the machine of every sound image from its boot on
+/// (`images`).
 pub fn events_attenuate()
     ensures loads { (b : Platform) (s : State) → LoadsAttenuate b s }
     ensures stores { (b : Platform) (s : State) → StoresLocal b s }
-{}
-
-/// A granule that holds a capability without GL is of a thread's stack, and stays so: through one event (`event`),
-/// through any list of them, lawful or not (`events`), and in the machine of every sound image from its boot on
-/// (`images`).
-pub fn local_capabilities_stay()
     ensures event { (b : Platform) (s : State) (e : Event)
         → Partitioned b.image → Keeps b.image s → LocalsInStacks b.image s
         → LocalsInStacks b.image (happens b s e).0 }

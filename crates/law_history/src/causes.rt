@@ -1,8 +1,7 @@
-//! Laws of what native routines answer, one cause a line, each under the premise that those before it
-//! don't hold: the refusals of an allocation in their order, of a free and of a wait; those of a key, of
-//! a token and of its free; how long a sleep lasts; and that a wake wakes the threads of the lowest
-//! numbers. law_sched has which thread is picked, keys.rt what token_open answers. Functions with
-//! empty bodies whose contracts are the laws.
+//! Laws of what native routines answer, one cause a line, each under the premise that those before it don't hold: the
+//! refusals of an allocation in their order, and of a free; those of a key, of a token and of its free; those of a
+//! wait, how long a sleep lasts, and that a wake wakes the threads of the lowest numbers. law_sched has which thread is
+//! picked, keys.rt what token_open answers. Functions with empty bodies whose contracts are the laws.
 
 ghost use Rattle.std.specs.List.{range_with_len};
 ghost use Rattle.std.specs.Prelude.{◌+◌, ◌-◌, ◌<◌, ◌≡◌, ◌≤◌, List, None, Some, count_by, length, min, true, ℕ};
@@ -24,10 +23,13 @@ ghost use Rattle.def_safety.specs.Opening.{FindsSealed, IsKeyIn, IsTokenIn};
 ghost use Rattle.def_words.specs.Authority.{cap_address};
 ghost use Rattle.def_words.specs.Capability.{integer};
 
-/// What an allocation comes to: -4 where the size doesn't fit; else -2 where the limit would be passed;
-/// else, where no place is lawful, -5 where a chunk is quarantined and -3 where none is; else an object
-/// at the least lawful place.
-pub fn allocations_refused()
+/// What the routines of the heap answer a caller that may return. An allocation comes to -4 where the size doesn't fit
+/// (`size`); else to -2 where the limit would be passed (`limit`); else, where no place is lawful, to -5 where a chunk
+/// is quarantined (`waits`) and to -3 where none is (`full`); else to an object at the least lawful place (`made`).
+/// Where c10 is no quota, all routines answer -1 (`no_quota`). Else an allocation answers what it comes to, with the
+/// size in c11 (`answers`, `hands_out`); a free -6 where c11 names no whole live object of the quota (`no_object`), and
+/// else it gives one back (`freed`); and what remains is the limit less the live charges (`remaining`).
+pub fn services_answer()
     ensures size { (i : Image) (s : State) (quota size : ℕ)
         → (SizeFits i size → ⊥) → allocation i s quota size ≡ Refused 4 }
     ensures limit { (i : Image) (s : State) (quota size : ℕ)
@@ -43,23 +45,16 @@ pub fn allocations_refused()
         → SizeFits i size → IsWithinLimit i s quota size
         → IsPlaceFor i s.objects (length_for size) base
         → allocation i s quota size ≡ Made (new_object s quota size base) }
-{}
-
-/// What the routines of the heap answer a caller that may return. Where c10 is no quota, all of them
-/// answer -1. Else an allocation answers what it comes to, with the size in c11; a free -6 where c11
-/// names no whole live object of the quota, and else it gives one back; and what remains is the limit
-/// less the live charges.
-pub fn services_answer()
     ensures no_quota { (i : Image) (s : State) (t : ℕ)
         → MayReturn s t → (HasQuota s t → ⊥)
         → (allocate i s t ≡ tells s t (code 1)) × (free i s t ≡ tells s t (code 1))
         × (remaining i s t ≡ tells s t (code 1)) × (token_key i s t ≡ tells s t (code 1))
         × (token_new i s t ≡ tells s t (code 1)) × (token_free i s t ≡ tells s t (code 1)) }
-    ensures refused { (i : Image) (s : State) (t n : ℕ)
+    ensures answers { (i : Image) (s : State) (t n : ℕ)
         → MayReturn s t → HasQuota s t
         → allocation i s (quota_in s t) (cap_address (register (thread s t) 11)) ≡ Refused n
         → allocate i s t ≡ tells s t (code n) }
-    ensures made { (i : Image) (s : State) (t : ℕ) (r : Object)
+    ensures hands_out { (i : Image) (s : State) (t : ℕ) (r : Object)
         → MayReturn s t → HasQuota s t
         → allocation i s (quota_in s t) (cap_address (register (thread s t) 11)) ≡ Made r
         → allocate i s t ≡ hands_out s t r (object_cap r) }
@@ -127,10 +122,13 @@ pub fn tokens_answer()
         → token.quota ≡ quota_in s t → token_free i s t ≡ gives_back i s t token }
 {}
 
-/// A yield stops its thread and leaves it ready. A sleep of n ticks is over after n ticks,
-/// and not before; one of none leaves its thread ready. A wait answers -21 where the word differs from
-/// the value, and else the thread waits for it.
-pub fn sleeps_last()
+/// A yield stops its thread and leaves it ready (`yields`). A sleep of n ticks (`sleep`) is over after n ticks
+/// (`over`), and not before (`before`); one of none leaves its thread ready. A wait answers -21 where the word differs
+/// from the value (`differs`), and else the thread waits for it (`waits`). Of two threads that wait for a word the one
+/// of the lower number wakes where the other does (`lower`); a thread that doesn't wait for the word isn't woken
+/// (`waited`); and as many wake as are asked for, or all that wait for it where these are fewer (`counted`). The
+/// routine answers their number, and wakes them, and does nothing else (`answers`).
+pub fn rests_answer()
     ensures yields { (s : State) (t : ℕ) → MayReturn s t → yield s t ≡ stops s t Ready }
     ensures sleep { (s : State) (t : ℕ)
         → MayReturn s t
@@ -147,13 +145,6 @@ pub fn sleeps_last()
         → loaded s.granules (cap_address (register (thread s t) 10) - i.ram) 4
         ≡ cap_address (register (thread s t) 11)
         → wait i s t ≡ stops s t (Waiting (cap_address (register (thread s t) 10))) }
-{}
-
-/// Of two threads that wait for a word the one of the lower number wakes where the other does; a
-/// thread that doesn't wait for the word isn't woken; and as many wake as are asked for, or all that
-/// wait for it where these are fewer. The routine answers their number, and wakes them, and does
-/// nothing else.
-pub fn wakes_in_order()
     ensures lower { (address most t u : ℕ) (statuses : List Status)
         → u ≤ t → waits_for address (status_of statuses u) ≡ true
         → wakes address most statuses t ≡ true → wakes address most statuses u ≡ true }

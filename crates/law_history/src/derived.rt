@@ -29,31 +29,27 @@ ghost use Rattle.def_safety.specs.Tokened.{Tokened};
 /// registers, by a return through what its innermost frame saved, or as the link of its program counter; or the
 /// switcher gave it, the callee's own or the thread's stack below its c2 at a call that the step tells, or the
 /// handler's own where it tells a trap that enters one; or it is the capability of an object that the event handed
-/// out, or a token that it opened.
-pub fn events_derive()
-    ensures { (b : Platform) (s : State) (e : Event)
-        → Partitioned b.image → Facts b.image → Keeps b.image s
-        → Everywhere (Comes b (Stood s) s e) (happens b s e).0 }
-{}
-
+/// out, or a token that it opened (`comes`).
+///
 /// And what is sealed as a token is opened by nothing but a step that carries out token_open, whose caller may
 /// return, holds a key in c10, and in c11 the token of it that is opened. So whatever stands anywhere after an event
 /// is one that comes otherwise, by an operation, which opens no token, or it is that token without its seal
-/// (`comes`); and no jump or return makes anything of what is sealed as a token (`jumps`).
-pub fn events_derive_opened()
+/// (`opened`); and no jump or return makes anything of what is sealed as a token (`jumps`).
+///
+/// And of the thread that carries on: whatever it holds after its step, in its program counter, a register or a
+/// frame, if it is tagged, it held before, itself; or it made it, from what it had at hand; or the switcher gave it,
+/// for the call or the trap that the step tells; or a routine of the heap did (`running`).
+pub fn events_derive()
     ensures comes { (b : Platform) (s : State) (e : Event)
+        → Partitioned b.image → Facts b.image → Keeps b.image s
+        → Everywhere (Comes b (Stood s) s e) (happens b s e).0 }
+    ensures opened { (b : Platform) (s : State) (e : Event)
         → Partitioned b.image → Facts b.image → Keeps b.image s → Tokened b.image s
         → Everywhere (ComesOpened b (Stood s) s e) (happens b s e).0 }
     ensures jumps { (b : Platform) (s : State) (e : Event) (c : Cap)
         → Partitioned b.image → Facts b.image → Wired b → Keeps b.image s → Tokened b.image s
         → Stands s c → c.tag ≡ true → cap_seal c ≡ TOKEN_TYPE
         → Everywhere (λ d. d.tag ≡ true → IsOpened c d → ⊥) (happens b s e).0 }
-{}
-
-/// And of the thread that carries on: whatever it holds after its step, in its program counter, a register or a
-/// frame, if it is tagged, it held before, itself; or it made it, from what it had at hand; or the switcher gave it,
-/// for the call or the trap that the step tells; or a routine of the heap did.
-pub fn running_threads_hold()
-    ensures { (b : Platform) (s : State)
+    ensures running { (b : Platform) (s : State)
         → Partitioned b.image → Facts b.image → Keeps b.image s → RunningHolds b s }
 {}

@@ -29,7 +29,7 @@ ghost use Rattle.def_step.specs.Events.{run};
 ghost use Rattle.def_machine.specs.Platform.{Platform};
 ghost use Rattle.def_safety.specs.Accesses.{UsesReach};
 ghost use Rattle.def_safety.specs.Charges.{ChargesFollow};
-ghost use Rattle.def_safety.specs.Chunks.{SweptBeforeReuse, UnusedAfterFree};
+ghost use Rattle.def_safety.specs.Chunks.{UnusedAfterFree};
 ghost use Rattle.def_safety.specs.Calls.{CleanEvent};
 ghost use Rattle.def_safety.specs.Each.{EachEvent, ready};
 ghost use Rattle.def_safety.specs.Temporal.{AllocatesFresh, UsesLive};
@@ -39,14 +39,12 @@ ghost use Rattle.def_events.specs.Upheld.{Upholds};
 ghost use Rattle.def_machine.specs.Rows.{RowsFit};
 ghost use Rattle.def_safety.specs.Tokened.{Tokened};
 
-pub use attenuation::{events_attenuate, local_capabilities_stay};
-pub use causes::{
-    allocations_refused, services_answer, sleeps_last, tokens_answer, wakes_in_order,
-};
-pub use derived::{events_derive, events_derive_opened, running_threads_hold};
+pub use attenuation::events_attenuate;
+pub use causes::{rests_answer, services_answer, tokens_answer};
+pub use derived::events_derive;
 pub use handling::handlers_enter_once;
-pub use keys::{events_fit, events_tokened, keys_last, tokens_opened, tokens_stay_shut};
-pub use reuse::{sweep_before_reuse, sweeps_paint};
+pub use keys::{events_tokened, tokens_opened};
+pub use reuse::sweep_before_reuse;
 pub use shadows::shadows_unread;
 pub use token_rows::rows_last;
 
@@ -83,11 +81,16 @@ pub fn calls_clean()
 /// right that is used, and the bytes that it meets lie in its own bounds, so in the range of that root, or of a heap
 /// capability in a live object; through a stack's capability they end no further than the run of frames goes to which
 /// the actor's belongs. And the capability's rights and the root's hold what is used: execute, load or store, and the
-/// right to move capabilities where one is moved.
+/// right to move capabilities where one is moved (`reach`). Machine stays inside: what a thread may load, store or run
+/// through, by a register or its program counter, reaches RAM, devices and the entries of native routines alone
+/// (`within`).
 pub fn accesses_licensed()
-    ensures { (b : Platform) (s : State) (es : List Event)
+    ensures reach { (b : Platform) (s : State) (es : List Event)
         → Partitioned b.image → Facts b.image → Wired b → Keeps b.image s
         → EachEvent (λ z e. UsesReach b z) b s es }
+    ensures within { (b : Platform) (s : State) (es : List Event)
+        → Partitioned b.image → Facts b.image → Wired b → Inside b → Keeps b.image s
+        → EachEvent (λ z e. ThreadsWithin b (ready b z)) b s es }
 {}
 
 /// Traps. A trap that a step tells is that of the first check that fails, of the list that is written for what stands
@@ -96,35 +99,15 @@ pub fn traps_first()
     ensures { (b : Platform) (s : State) (es : List Event) → EachEvent (TrapsFirst b) b s es }
 {}
 
-/// Machine stays inside. What a thread may load, store or run through, by a register or its program counter,
-/// reaches RAM, devices and the entries of native routines alone.
-pub fn threads_within()
-    ensures { (b : Platform) (s : State) (es : List Event)
-        → Partitioned b.image → Facts b.image → Wired b → Inside b → Keeps b.image s
-        → EachEvent (λ z e. ThreadsWithin b (ready b z)) b s es }
-{}
-
-/// No use after free, by rows. No load or store whose checks pass, and no wait or wake, goes through a capability
-/// of an object that isn't live.
+/// No use after free. No load or store whose checks pass, and no wait or wake, goes through a capability of an object
+/// that isn't live (`rows`). And where a free is told after some events, then after any more none goes through a
+/// capability of the freed object (`deeds`).
 pub fn freed_unused()
-    ensures { (b : Platform) (s : State) (es : List Event)
+    ensures rows { (b : Platform) (s : State) (es : List Event)
         → Partitioned b.image → Facts b.image → Wired b → Keeps b.image s
         → EachEvent (λ z e. UsesLive b z) b s es }
-{}
-
-/// No use after free, by deeds. Where a free is told after some events, then after any more no load or store whose
-/// checks pass, and no wait or wake, goes through a capability of the freed object.
-pub fn freed_stay_unused()
-    ensures { (b : Platform) (s : State)
+    ensures deeds { (b : Platform) (s : State)
         → Partitioned b.image → Facts b.image → Wired b → Keeps b.image s → UnusedAfterFree b s }
-{}
-
-/// Charges. A free that is told takes the object's length and head from the live charges on its quota, an allocation
-/// adds them; those on other quotas stay, and what is told is what the charges come to.
-pub fn charges_follow()
-    ensures { (b : Platform) (s : State) (es : List Event)
-        → Partitioned b.image → Facts b.image → Wired b → Keeps b.image s
-        → EachEvent (ChargesFollow b) b s es }
 {}
 
 /// Fresh objects. A new object reads as zero and untagged, and no other capability that isn't empty covers
@@ -135,18 +118,14 @@ pub fn allocations_fresh()
         → Blank b.image s → EachEvent (AllocatesFresh b) b s es }
 {}
 
-/// Sweep before reuse. Where a free is told after some events, and after more an allocation whose chunk
-/// meets the chunk of the freed object, there was a whole sweep among these, which began after the free: its front
-/// passed all of RAM, a slice at a time.
-pub fn chunks_swept()
-    ensures { (b : Platform) (s : State)
-        → Partitioned b.image → Facts b.image → Wired b → Shut b.image → Keeps b.image s
-        → Blank b.image s → SweptBeforeReuse b s }
-{}
-
-/// Quotas hold. After any list of events the live charges on each quota are at most its limit.
+/// Quotas hold. After any list of events the live charges on each quota are at most its limit (`limits`). A free that
+/// is told takes the object's length and head from the live charges on its quota, an allocation adds them; those on
+/// other quotas stay, and what is told is what the charges come to (`charges`).
 pub fn quotas_hold()
-    ensures { (b : Platform) (s : State) (es : List Event) (q : ℕ)
+    ensures limits { (b : Platform) (s : State) (es : List Event) (q : ℕ)
         → Partitioned b.image → Facts b.image → Wired b → Keeps b.image s
         → charges q (run b s es).objects ≤ (root b.image q).limit }
+    ensures charges { (b : Platform) (s : State) (es : List Event)
+        → Partitioned b.image → Facts b.image → Wired b → Keeps b.image s
+        → EachEvent (ChargesFollow b) b s es }
 {}

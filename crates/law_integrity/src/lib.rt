@@ -24,7 +24,9 @@ ghost use Rattle.def_step.specs.declared.Event.{Event};
 /// stack by steps of its own thread, no further up than the run of its frames goes; a shared or sealed object by
 /// actors that the owner of an import of it reaches; a live object by actors that its quota's owner reaches; a device
 /// by actors that its import's owner reaches, or by an input of its own. And through the list (`stays`): code stays,
-/// and so does what belongs to those who don't act.
+/// and so does what belongs to those who don't act. Of the frames of the thread that carries on a step pushes one,
+/// marks the innermost, ends it, or leaves them: what the others saved stays, in any state and whatever the code does
+/// (`frames`).
 pub fn integrity_kept()
     ensures each { (b : Platform) (s : State) (es : List Event)
         → Partitioned b.image → Facts b.image → Wired b → Keeps b.image s
@@ -35,12 +37,7 @@ pub fn integrity_kept()
     ensures stays { (b : Platform) (s : State) (es : List Event)
         → Partitioned b.image → Facts b.image → Wired b → Keeps b.image s
         → HomesStay b s es }
-{}
-
-/// Of the frames of the thread that carries on a step pushes one, marks the innermost, ends it, or leaves them: what
-/// the others saved stays, in any state and whatever the code does.
-pub fn frames_go()
-    ensures { (b : Platform) (s : State) (e : Event) → OwnFrames b s e }
+    ensures frames { (b : Platform) (s : State) (e : Event) → OwnFrames b s e }
 {}
 
 /// The same of the machine of every sound image, whatever list of events comes from its boot: it needs no other

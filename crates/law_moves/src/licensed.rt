@@ -1,8 +1,8 @@
-//! Laws of deeds: in a confined state what the running thread uses is authority of a root whose owner
-//! reaches its compartment, within the root's range and rights; so calls, device accesses, allocations,
-//! frees and spans with interrupts off are licensed.
+//! The law of deeds: in a confined state what the running thread uses is authority of a root whose owner reaches its
+//! compartment, within the root's range and rights; so calls, device accesses, allocations, frees and spans with
+//! interrupts off are licensed.
 
-ghost use Rattle.std.specs.Prelude.{◌≡◌, ℕ, List, ◌∷◌, Option, Some, true};
+ghost use Rattle.std.specs.Prelude.{◌≡◌, ℕ, List, ◌∷◌, true};
 ghost use Rattle.def_profile.specs.declared.seals.TheConstants.{EXPORT_TYPE};
 ghost use Rattle.def_words.specs.Permissions.{load_data, store_data};
 ghost use Rattle.def_words.specs.Seals.{cap_seal};
@@ -10,24 +10,12 @@ ghost use Rattle.ct_entry.specs.declared.acts.Act.TheVariants.{Call, Load, Store
 ghost use Rattle.def_machine.specs.Image.{Image, root};
 ghost use Rattle.def_machine.specs.State.{State, Frame, register, thread};
 ghost use Rattle.def_machine.specs.Objects.{charges};
-ghost use Rattle.def_confined.specs.Confined.{Confined, IsPcc};
+ghost use Rattle.def_confined.specs.Confined.{Confined};
 ghost use Rattle.def_confined.specs.Licensed.{Licensed, OffLicensed};
 ghost use Rattle.def_confined.specs.Uses.{GatesOfExports, HoldsTagged, Accesses, Charges, deed_by, span_of};
-ghost use Rattle.def_safety.specs.Accesses.{IsUse};
 
-/// What a tagged register of the running thread, or a thread's tagged program counter, may be used for.
-pub fn uses_reach()
-    ensures registers { (i : Image) (s : State) (t n : ℕ) (f : Frame) (fs : List Frame)
-        → Confined i s → s.running ≡ Some t → (thread s t).frames ≡ f ∷ fs
-        → (register (thread s t) n).tag ≡ true
-        → IsUse i s.objects t f.actor (register (thread s t) n) }
-    ensures pcc { (i : Image) (s : State) (t : ℕ) (f : Frame) (fs : List Frame)
-        → Confined i s → (thread s t).frames ≡ f ∷ fs → (thread s t).pcc.tag ≡ true
-        → IsUse i s.objects t f.actor (thread s t).pcc × IsPcc i (thread s t).pcc }
-{}
-
-/// Deeds through a register, with its root as entry and the thread's top frame as actor. Live charges are
-/// those of the state after the deed.
+/// Deeds through a register are licensed, with its root as entry and the thread's top frame as actor. Live charges are
+/// those of the state after the deed. And a thread whose interrupts are off holds them by an export that may (`span`).
 pub fn deeds_licensed()
     ensures call { (i : Image) (s : State) (t n : ℕ) (f : Frame) (fs : List Frame)
         → Confined i s → HoldsTagged s t n f fs → cap_seal (register (thread s t) n) ≡ EXPORT_TYPE
@@ -51,11 +39,7 @@ pub fn deeds_licensed()
         → Confined i s → Confined i after → Charges i s t n f fs
         → Licensed i.entries (deed_by s t n f (Free number base long
         (charges (register (thread s t) n).shadow.root after.objects))) }
-{}
-
-/// A thread whose interrupts are off holds them by an export that may.
-pub fn off_spans_licensed()
-    ensures { (i : Image) (s : State) (t : ℕ) (f : Frame) (fs : List Frame)
+    ensures span { (i : Image) (s : State) (t : ℕ) (f : Frame) (fs : List Frame)
         → GatesOfExports i → Confined i s → (thread s t).frames ≡ f ∷ fs
         → (thread s t).posture.off ≡ true
         → OffLicensed i.entries (span_of s t f) }

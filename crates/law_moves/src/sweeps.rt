@@ -1,21 +1,13 @@
-//! The laws of sweeps: one event of the revoker, whole, keeps a state confined, what the sweep has passed free of
-//! capabilities of painted objects, and all else that stands beside; and where its slice comes to RAM's end, no
-//! capability of a painted object is left.
+//! The law of a sweep's end: where its slice comes to RAM's end, no capability of a painted object is left.
 
 ghost use Rattle.std.specs.Prelude.{ℕ, ◌≡◌, ◌≤◌, Some};
 ghost use Rattle.def_machine.specs.Image.{Image};
 ghost use Rattle.def_machine.specs.State.{State};
-ghost use Rattle.def_machine.specs.Heap.{ram_size, slice_end, sweep_began, swept, with_slice};
+ghost use Rattle.def_machine.specs.Heap.{ram_size, slice_end, sweep_began, with_slice};
 ghost use Rattle.def_confined.specs.Keeps.{Keeps};
 ghost use Rattle.def_confined.specs.Partitioned.{Partitioned};
 ghost use Rattle.def_confined.specs.Facts.{RootsAway};
 ghost use Rattle.def_confined.specs.Stale.{IsClean};
-
-/// One Sweep event: where none runs and a chunk is quarantined, a sweep begins; a slice is passed; where all of
-/// RAM is, the painted chunks leave.
-pub fn sweep_moves()
-    ensures { (i : Image) (s : State) → Partitioned i → Keeps i s → Keeps i (swept i s) }
-{}
 
 /// One Sweep event whose slice comes to RAM's end: before the painted chunks leave, no granule, no frame and no thread
 /// that doesn't run holds a capability of one.

@@ -26,42 +26,32 @@ ghost use Rattle.def_secrecy.specs.Runs.{AlikeForOne, AlikeInAll, Moment, Others
 ghost use Rattle.def_secrecy.specs.Secrecy.{EventSecret, GoesByView, NoOtherRuns, Secrecy};
 ghost use Rattle.def_secrecy.specs.View.{SeesDevice, UnseenBytes};
 
-/// A step reads nothing but its thread's view: of two states that agree on it the same checks of a fetch, load or
-/// store fail, the same stands at the program counter, and the same is loaded, whatever else they hold.
-pub fn steps_go_by_view()
-    ensures { (b : Platform) (s z : State) (t : ℕ)
+/// Every step is secret. It reads nothing but its thread's view: of two states that agree on it the same checks of a
+/// fetch, load or store fail, the same stands at the program counter, and the same is loaded, whatever else they hold
+/// (`view`). Of two states in which the same thread carries on, and of which it sees the same, its step tells the same
+/// deed, whatever it does; and unless it calls, returns or unwinds, the thread sees the same of what is left (`steps`).
+/// So is every event by which no other thread carries on: a tick, a slice of a sweep and an input as well as a step.
+/// Spans with interrupts off are told the same too, unless the thread calls, returns or unwinds (`events`).
+pub fn steps_are_secret()
+    ensures view { (b : Platform) (s z : State) (t : ℕ)
         → Partitioned b.image → Wired b → Confined b.image s → Confined b.image z
         → s.running ≡ Some t → Agree b t s z → GoesByView b s z t }
-{}
-
-/// Every step is secret. Of two states in which the same thread carries on, and of which it sees the same, its step
-/// tells the same deed, whatever it does; and unless it calls, returns or unwinds, the thread sees the same of what
-/// is left.
-pub fn steps_are_secret()
-    ensures { (b : Platform) → Secrecy b }
-{}
-
-/// So is every event by which no other thread carries on: a tick, a slice of a sweep and an input as well as a step.
-/// Spans with interrupts off are told the same too, unless the thread calls, returns or unwinds.
-pub fn events_are_secret()
-    ensures { (b : Platform) (s z : State) (t : ℕ) (e : Event)
+    ensures steps { (b : Platform) → Secrecy b }
+    ensures events { (b : Platform) (s z : State) (t : ℕ) (e : Event)
         → Partitioned b.image → Wired b → Confined b.image s → Confined b.image z
         → Blank b.image s → Blank b.image z
         → Agree b t s z → NoOtherRuns b s t e → EventSecret b s z t e }
 {}
 
-/// A step of another thread that may change nothing of what a thread sees leaves that as it was, but for what is
-/// public.
+/// A step of another thread that may change nothing of what a thread sees leaves that as it was, but for what is public
+/// (`stays`). Threads whose compartments are apart as the report has them are out of one another's reach in every
+/// confined state, where no device is for both to access (`reach`); so a step of the one is away from what the other
+/// sees (`steps`).
 pub fn others_stay_unseen()
-    ensures { (b : Platform) (s : State) (t u : ℕ)
+    ensures stays { (b : Platform) (s : State) (t u : ℕ)
         → Partitioned b.image → Wired b → Confined b.image s
         → (ready b s).running ≡ Some u → (t ≡ u → ⊥) → OutOfReach b (ready b s) t u
         → ViewStays b t s (happens b s Step).0 }
-{}
-
-/// Threads whose compartments are apart as the report has them are out of one another's reach in every confined state,
-/// where no device is for both to access (`reach`); so a step of the one is away from what the other sees (`steps`).
-pub fn apart_in_report()
     ensures reach { (b : Platform) (s : State) (t u : ℕ)
         → Partitioned b.image → Facts b.image → Confined b.image s → (t ≡ u → ⊥)
         → ApartInReport b.image t (actor_of (thread s t).frames) u (actor_of (thread s u).frames)
@@ -113,7 +103,8 @@ pub fn images_are_secret()
 /// An instance: bytes that a thread doesn't see may be anything. A state agrees on the thread's view with the one in
 /// which other bytes stand there (`agrees`), so that each event by which no other thread carries on tells the same of
 /// both (`event`). And the machine of a sound image, booted with other bytes where a thread sees none, tells that
-/// thread the same for as long as others stay away from what it sees (`boots`).
+/// thread the same for as long as others stay away from what it sees (`boots`). And bytes that come to
+/// a device that a thread may not load from may be any, and leave its view agreeing (`inputs`).
 pub fn secrets_stay()
     ensures agrees { (b : Platform) (s : State) (t x width value : ℕ)
         → UnseenBytes b.image s t x width
@@ -128,11 +119,7 @@ pub fn secrets_stay()
         (bytes_stored (image_of p) (boot_state p) x width value) ms
         → AlikeInAll (platform_of p) t (boot_state p)
         (bytes_stored (image_of p) (boot_state p) x width value) ms }
-{}
-
-/// Another: bytes that come to a device that a thread may not load from may be any, and leave its view agreeing.
-pub fn inputs_unseen()
-    ensures { (b : Platform) (s z : State) (t n one other : ℕ)
+    ensures inputs { (b : Platform) (s z : State) (t n one other : ℕ)
         → (SeesDevice b (thread s t).frames n → ⊥) → Agree b t s z
         → Agree b t (happens b s (Input n one)).0 (happens b z (Input n other)).0 }
 {}

@@ -17,8 +17,11 @@ ghost use Rattle.def_machine.specs.State.{State, granule, register, thread};
 ghost use Rattle.def_words.specs.Authority.{cap_base, cap_top};
 
 /// What is tagged at boot, in a granule, a program counter or a register, is the return sentry, or has
-/// just the range and the rights of an entry of the report, whose number is its root; no frame saved
-/// a tag. It derives from one of the three root words, and none has their authority, 0 to 2^32.
+/// just the range and the rights of an entry of the report, whose number is its root (`listed`); no frame
+/// saved a tag (`frames`). It derives from one of the three root words (`derived`), and none has their
+/// authority, 0 to 2^32 (`narrow`). The other way round: each entry that has a capability of its own, a
+/// compartment's code or globals, an import, a stack, and the trusted part with its sentry, has it at
+/// boot, with just its range and rights (`stands`).
 pub fn boots_listed()
     ensures listed { (p : PartsRow) → Sound p → (x : Place)
         → (cap_at (boot_state p) x).tag ≡ true → IsListed (image_of p) (cap_at (boot_state p) x) }
@@ -28,12 +31,7 @@ pub fn boots_listed()
     ensures narrow { (p : PartsRow) → Sound p → (x : Place)
         → (cap_at (boot_state p) x).tag ≡ true → cap_base (cap_at (boot_state p) x) ≡ 0
         → cap_top (cap_at (boot_state p) x) ≡ 2 ^ 32 → ⊥ }
-{}
-
-/// The other way round: each entry that has a capability of its own, a compartment's code or globals, an
-/// import, a stack, and the trusted part with its sentry, has it at boot, with just its range and rights.
-pub fn entries_stand()
-    ensures { (p : PartsRow) → Sound p → (n : ℕ)
+    ensures stands { (p : PartsRow) → Sound p → (n : ℕ)
         → HasCapability (image_of p) n → StandsAtBoot p n }
 {}
 

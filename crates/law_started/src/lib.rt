@@ -4,15 +4,9 @@
 #![tactic(auto)]
 
 mod boot_places;
-mod locals;
-mod settled;
 mod shut;
 mod started;
-mod tokened;
 
-pub use boot_places::{boots_listed, entries_stand, fixed_placed, tags_stand};
-pub use locals::boots_local;
-pub use settled::boots_settled;
-pub use shut::{boots_blank, images_shut};
+pub use boot_places::{boots_listed, fixed_placed, tags_stand};
+pub use shut::images_shut;
 pub use started::boots_confined;
-pub use tokened::boots_tokened;

@@ -64,33 +64,24 @@ pub fn running_framed()
 
 /// What an event does is told: where devices change, frames grow, an object is made or a live one goes, it tells the
 /// deed; and a thread that runs on with interrupts off where no span is told held them off before, by the same source
-/// (`all`). So where no deed is told all of these are as before, but for an input's device (`nothing`).
+/// (`all`). So where no deed is told all of these are as before, but for an input's device (`nothing`). And an access
+/// whose checks pass and that reaches a device is told, whether it changes the device or not (`accesses`).
 pub fn deeds_tell_all()
     ensures all { (b : Platform) (s : State) (e : Event) → Keeps b.image s → TellsAll b s e }
     ensures nothing { (b : Platform) (s : State) (e : Event)
         → Keeps b.image s → SilenceKeeps b s e }
+    ensures accesses { (b : Platform) (s : State) → AccessesTold b s }
 {}
 
-/// An access whose checks pass and that reaches a device is told, whether it changes the device or not.
-pub fn accesses_are_told()
-    ensures { (b : Platform) (s : State) → AccessesTold b s }
-{}
-
-/// A step of which a check fails tells the trap of the first that does, and does what the trap does, and nothing else.
-pub fn failed_checks_trap()
-    ensures { (b : Platform) (s : State) → FailsTrap b s }
-{}
-
-/// An instruction that is carried out changes no register of its thread but the one that it names, neither its frames
-/// nor its status, and interrupts only where it is a jump.
-pub fn instructions_keep()
-    ensures { (b : Platform) (s : State) → InstructionsKeep b s }
-{}
-
-/// A thread whose only frame returns, or traps without an error handler, ends: none runs then, it holds nothing, and
-/// its stack is zero and untagged up to the frame's top.
-pub fn only_frames_end()
-    ensures { (b : Platform) (s : State) → EndsThread b s }
+/// A step of which a check fails tells the trap of the first that does, and does what the trap does, and nothing else
+/// (`traps`). An instruction that is carried out changes no register of its thread but the one that it names, neither
+/// its frames nor its status, and interrupts only where it is a jump (`instructions`). A thread whose only frame
+/// returns, or traps without an error handler, ends: none runs then, it holds nothing, and its stack is zero and
+/// untagged up to the frame's top (`ends`).
+pub fn steps_do_no_more()
+    ensures traps { (b : Platform) (s : State) → FailsTrap b s }
+    ensures instructions { (b : Platform) (s : State) → InstructionsKeep b s }
+    ensures ends { (b : Platform) (s : State) → EndsThread b s }
 {}
 
 /// In a step the thread carries on whose turn it is: the one that ran, unless a tick is pending and it runs with
@@ -103,11 +94,16 @@ pub fn turns_are_taken()
     ensures stays { (b : Platform) (s : State) → TurnsStay b s }
 {}
 
-/// A list of checks passes exactly where all of them hold; and the trap that it gives is that of the first that doesn't.
-pub fn checks_are_plain()
+/// What the written machine's rules and other laws share, in plain facts. A list of checks passes exactly where all of
+/// them hold (`passes`), and the trap that it gives is that of the first that doesn't (`fails`). What `posture_through`
+/// gives is what a jump or a return does to interrupts, and nothing else is (`postures`). What `answers` leaves of a
+/// state, where the thread has registers up to c11: that thread is answered, and all else is as it was (`answers`). And
+/// what an allocation (`placed`) and a free (`quarantined`) make of the heap's rows.
+pub fn rules_are_plain()
     ensures passes { (cs : List Check) → (first_failed cs ≡ None) ↔ AllHold cs }
     ensures fails { (cs : List Check) (why : Trap)
         → (first_failed cs ≡ Some why) ↔ FirstFails cs why }
+<<<<<<< HEAD
 {}
 
 /// Where several checks fail, the trap is of the one that comes first: of a fetch, a load, a store, a jump by a
@@ -123,19 +119,13 @@ pub fn checks_stand_in_order()
 /// What `posture_through` gives is what a jump or a return does to interrupts, and nothing else is.
 pub fn postures_are_plain()
     ensures { (before : Posture) (kind named source : ℕ) (after : Posture)
+=======
+    ensures postures { (before : Posture) (kind named source : ℕ) (after : Posture)
+>>>>>>> 71838109012cab2b07454500b8d3a08518314a50
         → (posture_through before kind named source ≡ after)
         ↔ IsPostureThrough before kind named source after }
-{}
-
-/// What `answers` leaves of a state, where the thread has registers up to c11: that thread is answered, and all else
-/// is as it was.
-pub fn answers_are_plain()
-    ensures { (s : State) (t : ℕ) (value : Cap) → 11 < length (thread s t).registers
+    ensures answers { (s : State) (t : ℕ) (value : Cap) → 11 < length (thread s t).registers
         → AnswersNoMore s t value (answers s t value) }
-{}
-
-/// What an allocation (`placed`) and a free (`quarantined`) make of the heap's rows.
-pub fn heap_rows_are_plain()
     ensures placed { (r : Object) (rs : List Object) → IsPutAmong r rs (placed_among r rs) }
     ensures quarantined { (n : ℕ) (rs : List Object) → IsTakenBack n rs (quarantine n rs) }
 {}

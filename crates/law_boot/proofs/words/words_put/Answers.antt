@@ -1,4 +1,5 @@
 use Rattle.law_boot.proofs.Putting.{puts_slot, puts_text, puts_code, puts_globals, puts_export, puts_initial, puts_library_slot, puts_library_text, puts_sealed, puts_sentry}
+use Rattle.law_boot.proofs.Zeros.{zero_else}
 use Rattle.law_boot.proofs.words.words_put.Goals as goal
 
 pub returns-clause-slot : goal.returns-clause-slot
@@ -30,3 +31,6 @@ returns-clause-sealed c = puts_sealed
 
 pub returns-clause-sentry : goal.returns-clause-sentry
 returns-clause-sentry c = puts_sentry
+
+pub returns-clause-zero : goal.returns-clause-zero
+returns-clause-zero c = zero_else

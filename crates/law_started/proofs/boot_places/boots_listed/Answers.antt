@@ -1,4 +1,5 @@
 use Rattle.law_started.proofs.Deriving.{places_derived}
+use Rattle.law_started.proofs.Entries.{entry_stands}
 use Rattle.law_started.proofs.Grants.{listed_narrow}
 use Rattle.law_started.proofs.Starting.{frames_bare, places_listed}
 use Rattle.def_boot.specs.Boot.{boot_state}
@@ -11,4 +12,5 @@ returns c = record {
   frames = frames_bare;
   derived = places_derived;
   narrow = λ p s x tagged. listed_narrow p s (cap_at (boot_state p) x) (places_listed p s x tagged);
+  stands = entry_stands;
 }

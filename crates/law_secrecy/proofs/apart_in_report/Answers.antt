@@ -1,9 +1,0 @@
-use Rattle.law_secrecy.proofs.Apart as laws
-use Rattle.law_secrecy.proofs.Unshared as steps
-use Rattle.law_secrecy.proofs.apart_in_report.Goals as goal
-
-pub returns : goal.returns
-returns g = record {
-  reach = λ b s t u parts facts held differ apart devices. laws.out_of_reach b s t u parts facts held differ apart devices;
-  steps = λ b s t u parts facts wired held runs differ apart devices. steps.steps_away b s t u parts facts wired held runs differ apart devices;
-}
