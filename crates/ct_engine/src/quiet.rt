@@ -9,7 +9,7 @@ ghost use Rattle.def_words.specs.Capability.{integer};
 ghost use Rattle.def_step.specs.Instructions.{next_word};
 ghost use Rattle.ct_loadstore.specs.Shapes.{IsShape};
 ghost use Rattle.ct_threads.specs.Steps.{finds_word};
-ghost use Rattle.ct_threads.specs.Windows.{window_of, Suits};
+ghost use Rattle.ct_threads.specs.Windows.{HoldsEach, Suits};
 ghost use Rattle.ct_engine.specs.Seen.{hides, thread, advanced, moved_to, with_granules};
 ghost use Rattle.ct_engine.specs.Steps.{next_in, loads_ram, stores_ram, HasWindow, Loads, SeesFetch, SeesLoad, SeesStore, Stores};
 
@@ -62,7 +62,8 @@ impl<M: Memory + Drop> Engine<M> {
     /// The addresses at which a fetch by the running thread need only ask for the tag and for a multiple of 4.
     pub fn window(&self, t: u32) -> Window
         requires { self.now.running ≡ Some t }
-        ensures { result ≡ window_of (thread self.now t).pcc self.now.region.ram
+        ensures is { HasWindow self.now t result }
+        ensures whole { HoldsEach result (thread self.now t).pcc self.now.region.ram
             (8 * length self.now.granules) }
     {
         let pcc = steps::pcc_ref(&self.rows, t);

@@ -1,5 +1,5 @@
 -- Rounds that tell nothing: slices of a sweep that has no work, each with a quiet step after it.
-use Rattle.std.specs.Prelude.{ℕ, zero, suc, ◌+◌, ◌*◌, ◌≡◌, ◌<◌, ◌&&◌, ◌||◌, Bool, true, not, is_some, cond, List, [], ◌∷◌, All, length, Option, None}
+use Rattle.std.specs.Prelude.{ℕ, zero, suc, ◌+◌, ◌≡◌, ◌<◌, ◌&&◌, ◌||◌, Bool, true, not, is_some, cond, List, [], ◌∷◌, All, Option, None}
 use Rattle.def_machine.specs.Objects.{has_quarantined}
 use Rattle.def_machine.specs.Platform.{MachineRow}
 use Rattle.def_machine.specs.State.{State, Counts, thread}
@@ -7,7 +7,7 @@ use Rattle.def_step.specs.declared.Event.{Event}
 use Rattle.def_step.specs.declared.Event.TheVariants.{Step, Sweep}
 use Rattle.def_step.specs.Events.{run, happens, happenings_of, end_of}
 use Rattle.ct_threads.specs.declared.window.Window.{Window}
-use Rattle.ct_threads.specs.Windows.{IsWindow}
+use Rattle.ct_threads.specs.Windows.{IsWindowOf}
 use Rattle.ct_machine.specs.Going.{silence, one_more_sweep, steps_quietly}
 
 -- a sweep runs, or is to begin
@@ -22,10 +22,10 @@ undisturbed s = cond s.pending None s.running
 abbrev pub goes_on_quietly : MachineRow → Bool
 goes_on_quietly m = not (has_sweep m.state) && steps_quietly m
 
--- a window of the thread's program counter capability, in the image's RAM
+-- a window of the thread, in the image's RAM
 abbrev pub IsThreadWindow : MachineRow → ℕ → Window → Type 0
 IsThreadWindow m t w =
-    IsWindow w (thread m.state t).pcc m.board.image.ram (8 * length m.state.granules)
+    IsWindowOf (thread m.state t) m.board.image.ram m.state.granules w
 
 -- so many rounds: a slice of a sweep and a step each
 abbrev pub rounds : ℕ → List Event

@@ -1,6 +1,6 @@
 -- A capability whose address goes past an instruction inside its bounds.
-use Rattle.std.proofs.Common.{ℕ, ◌+◌, ◌%◌, ◌^◌, ◌≤◌, ◌≡◌, nat_le, true, arith, refl, ap, ◌∙◌}
-use Rattle.std.proofs.lemmas.Bool.{leb-true, eqb-true, and_parts}
+use Rattle.std.proofs.Common.{ℕ, ◌+◌, ◌%◌, ◌^◌, ◌≡◌, true, arith, refl, ap, ◌∙◌}
+use Rattle.std.proofs.lemmas.Bool.{eqb-true}
 use Rattle.def_words.specs.declared.Cap.{Cap}
 use Rattle.def_words.specs.Authority.{cap_address, cap_bounds, cap_high, word_of}
 use Rattle.def_words.specs.Capability.{raised, with_address}
@@ -20,26 +20,19 @@ past c = record c { word = c.word + 4 }
 -- where a window holds its address
 pub stays : (w : Window) (c : Cap) → Suits w c → c.tag ≡ true → window_holds w (cap_address c) ≡ true → Stays c (next c)
 stays w c fits tagged within =
-    let ends = and_parts (nat_le w.from (cap_address c)) (nat_le (cap_address c) w.last) within in
-    let from : w.from ≤ cap_address c = leb-true w.from (cap_address c) ends.0 in
-    let last : cap_address c ≤ w.last = leb-true (cap_address c) w.last ends.1 in
-    let opens = fits (omega (arith, from, last)) tagged in
+    let opens = fits (cap_address c) within tagged in
     let base = opens.base in
     let top = opens.top in
     let less = opens.small in
     record {
-      small = omega (arith, last, top, less);
-      low = omega (arith, base, from);
-      high = omega (arith, last, top);
+      small = omega (arith, top, less);
+      low = omega (arith, base);
+      high = top;
       fits = omega (arith, less);
     }
 
 pub unsealed : (w : Window) (c : Cap) → Suits w c → c.tag ≡ true → window_holds w (cap_address c) ≡ true → cap_seal c ≡ 0
-unsealed w c fits tagged within =
-    let ends = and_parts (nat_le w.from (cap_address c)) (nat_le (cap_address c) w.last) within in
-    let from : w.from ≤ cap_address c = leb-true w.from (cap_address c) ends.0 in
-    let last : cap_address c ≤ w.last = leb-true (cap_address c) w.last ends.1 in
-    eqb-true (cap_seal c) 0 (fits (omega (arith, from, last)) tagged).unsealed
+unsealed w c fits tagged within = eqb-true (cap_seal c) 0 (fits (cap_address c) within tagged).unsealed
 
 word_is : (c : Cap) → (past c).word ≡ word_of (cap_high c) (next c)
 word_is c = omega arith

@@ -1,8 +1,8 @@
--- A window: where it holds a tagged capability's address a fetch passes and finds a word, and it suits the capability at
--- each other address.
-use Rattle.std.proofs.Common.{ℕ, ◌+◌, ◌-◌, ◌*◌, ◌%◌, ◌^◌, ◌<◌, ◌≤◌, ◌≡◌, ◌==◌, ◌&&◌, Bool, true, nat_le, List, [], ◌∷◌, length, is_none, arith, refl, sym, ap, ◌∙◌, subst}
-use Rattle.std.proofs.lemmas.Bool.{leb-true, ltb-true, eqb-true, le-leb, eq-eqb, and_parts, and_from}
-use Rattle.law_lists.proofs.Tests.{both_left, both_right, chosen}
+-- A window: where it holds a tagged capability's address a fetch passes and finds a word, it is the whole of those that
+-- its capability opens, and it suits the capability at each other address.
+use Rattle.std.proofs.Common.{ℕ, ◌+◌, ◌-◌, ◌*◌, ◌%◌, ◌^◌, ◌<◌, ◌≤◌, ◌≡◌, ◌==◌, ◌&&◌, Bool, true, false, nat_le, nat_lt, max, min, List, [], ◌∷◌, length, is_none, arith, refl, sym, ap, ◌∙◌, subst}
+use Rattle.std.proofs.lemmas.Bool.{leb-true, ltb-true, eqb-true, le-leb, lt-ltb, le-ltb, eq-eqb, ne_eqb, and_parts, and_from, and_left, and_right}
+use Rattle.def_profile.specs.declared.native.TheConstants.{NATIVE_BASE, NATIVE_UNIT, RETURN_ENTRY}
 use Rattle.def_words.specs.declared.Cap.{Cap}
 use Rattle.def_words.specs.declared.Bounds.{Bounds}
 use Rattle.def_words.specs.declared.Trap.{Trap}
@@ -11,116 +11,141 @@ use Rattle.def_words.specs.Capability.{is_range_inside, is_representable, with_a
 use Rattle.def_words.specs.Permissions.{bit, has, execute}
 use Rattle.def_words.specs.Seals.{is_unsealed}
 use Rattle.law_words.proofs.Words.{bounds_is, perms_same, seal_same}
+use Rattle.def_instr.specs.Reading.{instruction_in}
 use Rattle.def_memory.specs.declared.Granule.{Granule}
 use Rattle.def_machine.specs.Memory.{lies_in}
+use Rattle.def_step.specs.Accesses.{MemoryAndDevices}
 use Rattle.def_step.specs.Checks.{first_failed}
-use Rattle.def_step.specs.Instructions.{fetch_checks}
+use Rattle.def_step.specs.Instructions.{fetch_checks, fetched, is_native_entry, next_at, next_word}
+use Rattle.ct_loadstore.specs.Shapes.{space_of}
 use Rattle.ct_threads.specs.declared.window.Window.{Window}
-use Rattle.ct_threads.specs.Steps.{first_after_native, finds_word, is_word_of_ram}
-use Rattle.ct_threads.specs.Windows.{window_holds, may_run, bounds_in_ram, window_of, Suits, IsWindow}
+use Rattle.ct_threads.specs.Steps.{first_after_native, finds_word, is_word_of_ram, no_bank}
+use Rattle.ct_threads.specs.Windows.{window_holds, HoldsEach, IsWindow, LiesPastNative, Opens, Suits}
 
 -- ---- a fetch
-
-record Within (w : Window) (at : ℕ) : Type 0 where
-  from : w.from ≤ at
-  last : at ≤ w.last
-  some : w.from ≤ w.last
-
-within_by : (w : Window) (at : ℕ) → window_holds w at ≡ true → Within w at
-within_by w at is =
-    let ends = and_parts (nat_le w.from at) (nat_le at w.last) is in
-    let from : w.from ≤ at = leb-true w.from at ends.0 in
-    let last : at ≤ w.last = leb-true at w.last ends.1 in
-    record { from = from; last = last; some = omega (arith, from, last) }
 
 four : (b0 b1 b2 b3 : Bool) (t0 t1 t2 t3 : Trap) → b0 ≡ true → b1 ≡ true → b2 ≡ true → b3 ≡ true → is_none (first_failed ((b0, t0) ∷ (b1, t1) ∷ (b2, t2) ∷ (b3, t3) ∷ [])) ≡ true
 four b0 b1 b2 b3 t0 t1 t2 t3 e0 e1 e2 e3 = rw (e0, e1, e2, e3) refl
 
-passes : (w : Window) (c : Cap) → Suits w c → c.tag ≡ true → Within w (cap_address c) → is_none (first_failed (fetch_checks c)) ≡ true
-passes w c suits tagged in_it =
-    let opens = suits in_it.some tagged in
-    let base = opens.base in
-    let top = opens.top in
-    let from = in_it.from in
-    let last = in_it.last in
-    let low : nat_le (cap_base c) (cap_address c) ≡ true = le-leb (cap_base c) (cap_address c) (omega (arith, base, from)) in
-    let high : nat_le (cap_address c + 4) (cap_top c) ≡ true = le-leb (cap_address c + 4) (cap_top c) (omega (arith, last, top)) in
+passes : (c : Cap) → c.tag ≡ true → Opens c (cap_address c) → is_none (first_failed (fetch_checks c)) ≡ true
+passes c tagged opens =
+    let low : nat_le (cap_base c) (cap_address c) ≡ true = le-leb (cap_base c) (cap_address c) opens.base in
+    let high : nat_le (cap_address c + 4) (cap_top c) ≡ true = le-leb (cap_address c + 4) (cap_top c) opens.top in
     four c.tag (is_unsealed c) (has c execute) (is_range_inside c (cap_address c) (cap_address c + 4)) _ _ _ _ tagged opens.unsealed opens.executes (and_from (nat_le (cap_base c) (cap_address c)) (nat_le (cap_address c + 4) (cap_top c)) low high)
 
--- a word begins at an address, past the native routines
-pub record Begins (ram size at : ℕ) : Type 0 where
-  pub native : first_after_native ≤ at
-  pub begin : ram ≤ at
-  pub end : at + 4 ≤ ram + size
-
-pub begins : (w : Window) (c : Cap) (ram size at : ℕ) → IsWindow w c ram size → window_holds w at ≡ true → Begins ram size at
-begins w c ram size at is within =
-    let in_it = within_by w at within in
-    let lies = is.lies in_it.some in
-    let native = lies.native in
-    let begin = lies.begin in
-    let end = lies.end in
-    let from = in_it.from in
-    let last = in_it.last in
-    record { native = omega (arith, native, from); begin = omega (arith, begin, from); end = omega (arith, last, end) }
+stands : (ram : ℕ) (gs : List Granule) (at : ℕ) → LiesPastNative ram (8 * length gs) at → at % 4 ≡ 0 → is_word_of_ram ram gs at ≡ true
+stands ram gs at there whole =
+    let native : nat_le first_after_native at ≡ true = le-leb first_after_native at there.native in
+    let begin : nat_le ram at ≡ true = le-leb ram at there.begin in
+    let end : nat_le (at + 4) (ram + 8 * length gs) ≡ true = le-leb (at + 4) (ram + 8 * length gs) there.end in
+    and_from (nat_le first_after_native at) (lies_in ram gs at 4 && (at % 4 == 0)) native
+    (and_from (lies_in ram gs at 4) (at % 4 == 0) (and_from (nat_le ram at) (nat_le (at + 4) (ram + 8 * length gs)) begin end) (eq-eqb (at % 4) 0 whole))
 
 pub word_found : (w : Window) (c : Cap) (ram : ℕ) (gs : List Granule) (at : ℕ) → IsWindow w c ram (8 * length gs) → at ≡ cap_address c → c.tag ≡ true → window_holds w at ≡ true → at % 4 ≡ 0
     → finds_word c ram gs ≡ true
 word_found w c ram gs at is address tagged within whole =
-    subst (λ n. (is_none (first_failed (fetch_checks c)) && is_word_of_ram ram gs n) ≡ true) address
-    (let there = begins w c ram (8 * length gs) at is within in
-    let native : nat_le first_after_native at ≡ true = le-leb first_after_native at there.native in
-    let begin : nat_le ram at ≡ true = le-leb ram at there.begin in
-    let end : nat_le (at + 4) (ram + 8 * length gs) ≡ true = le-leb (at + 4) (ram + 8 * length gs) there.end in
-    let in_it : Within w (cap_address c) = within_by w (cap_address c) (subst (λ n. window_holds w n ≡ true) address within) in
-    and_from (is_none (first_failed (fetch_checks c))) (is_word_of_ram ram gs at) (passes w c is.suits tagged in_it)
-    (and_from (nat_le first_after_native at) (lies_in ram gs at 4 && (at % 4 == 0)) native
-    (and_from (lies_in ram gs at 4) (at % 4 == 0) (and_from (nat_le ram at) (nat_le (at + 4) (ram + 8 * length gs)) begin end) (eq-eqb (at % 4) 0 whole))))
+    and_from (is_none (first_failed (fetch_checks c))) (is_word_of_ram ram gs (cap_address c))
+    (passes c tagged (subst (Opens c) address (is.suits at within tagged)))
+    (subst (λ n. is_word_of_ram ram gs n ≡ true) address (stands ram gs at (is.lies at within) whole))
+
+-- past the native routines stands what the word there says
+next_past : (p : MemoryAndDevices) (at : ℕ) → first_after_native ≤ at → next_at p at ≡ next_word (instruction_in (fetched p at))
+next_past p at past =
+    let other : (at == RETURN_ENTRY) ≡ false = ne_eqb at RETURN_ENTRY (λ is. omega (arith, past, is)) in
+    let after : nat_lt at first_after_native ≡ false = le-ltb at first_after_native past in
+    let none : is_native_entry at ≡ false = and_left (nat_le NATIVE_BASE at && nat_lt at first_after_native) (at % NATIVE_UNIT == 0) (and_right (nat_le NATIVE_BASE at) (nat_lt at first_after_native) after) in
+    rw (other, none) refl
+
+pub next_found : (c : Cap) (ram : ℕ) (gs : List Granule) (w : ℕ) → finds_word c ram gs ≡ true → w ≡ fetched (space_of ram gs no_bank 0) (cap_address c) → next_at (space_of ram gs no_bank 0) (cap_address c) ≡ next_word (instruction_in w)
+next_found c ram gs w found is =
+    let there = and_parts (is_none (first_failed (fetch_checks c))) (is_word_of_ram ram gs (cap_address c)) found in
+    let past = and_parts (nat_le first_after_native (cap_address c)) (lies_in ram gs (cap_address c) 4 && (cap_address c % 4 == 0)) there.1 in
+    next_past (space_of ram gs no_bank 0) (cap_address c) (leb-true first_after_native (cap_address c) past.0) ∙ ap (λ n. next_word (instruction_in n)) (sym is)
 
 -- ---- of a capability with its bounds
 
-opens_own : (c : Cap) (ram size : ℕ) → may_run c ≡ true → bounds_in_ram c ram size ≡ true → IsWindow (record { from = cap_base c; last = cap_top c - 4 }) c ram size
-opens_own c ram size code lies =
-    let kinds = and_parts (is_unsealed c) (has c execute) code in
-    let l1 = and_parts (nat_le first_after_native (cap_base c)) _ lies in
-    let l2 = and_parts (nat_le ram (cap_base c)) _ l1.1 in
-    let l3 = and_parts (nat_le (cap_base c) (cap_top c)) _ l2.1 in
-    let l4 = and_parts (nat_le (cap_top c) (ram + size)) _ l3.1 in
-    let order : cap_base c ≤ cap_top c = leb-true (cap_base c) (cap_top c) l3.0 in
-    let native : first_after_native ≤ cap_base c = leb-true first_after_native (cap_base c) l1.0 in
-    let inside : cap_top c ≤ ram + size = leb-true (cap_top c) (ram + size) l4.0 in
+inside : (w : Window) (at : ℕ) → window_holds w at ≡ true → (w.from ≤ at) × (at ≤ w.last)
+inside w at is = let ends = and_parts (nat_le w.from at) (nat_le at w.last) is in (leb-true w.from at ends.0, leb-true at w.last ends.1)
+
+pub all_of : (c : Cap) (ram size from end : ℕ) → from ≡ max (cap_base c) (max ram first_after_native) → end ≡ min (cap_top c) (ram + size) → (is_unsealed c && (has c execute && nat_lt (cap_top c) (2 ^ 32))) ≡ true → 4 ≤ end - from
+    → IsWindow (record { from = from; last = end - 4 }) c ram size
+all_of c ram size from end begins stops runs some =
+    let kinds = and_parts (is_unsealed c) (has c execute && nat_lt (cap_top c) (2 ^ 32)) runs in
+    let more = and_parts (has c execute) (nat_lt (cap_top c) (2 ^ 32)) kinds.1 in
     record {
-      suits = λ some tagged. record {
+  suits = λ at within tagged. (let in_it = inside (record { from = from; last = end - 4 }) at within in
+      let low : from ≤ at = in_it.0 in
+      let high : at ≤ end - 4 = in_it.1 in
+      record {
         unsealed = kinds.0;
-        executes = kinds.1;
-        base = omega arith;
-        top = omega (arith, order, native);
-        small = ltb-true (cap_top c) (2 ^ 32) l4.1;
-      };
-      lies = λ some. record {
-        native = native;
-        begin = leb-true ram (cap_base c) l2.0;
-        end = omega (arith, order, native, inside);
-      };
-    }
+        executes = more.0;
+        base = omega (arith, begins, low);
+        top = omega (arith, stops, high, some);
+        small = ltb-true (cap_top c) (2 ^ 32) more.1;
+      });
+  lies = λ at within. (let in_it = inside (record { from = from; last = end - 4 }) at within in
+      let low : from ≤ at = in_it.0 in
+      let high : at ≤ end - 4 = in_it.1 in
+      record {
+        native = omega (arith, begins, low);
+        begin = omega (arith, begins, low);
+        end = omega (arith, stops, high, some);
+      });
+}
+
+-- between the two ends
+lies_so : (c : Cap) (ram size from end at : ℕ) → from ≡ max (cap_base c) (max ram first_after_native) → end ≡ min (cap_top c) (ram + size) → Opens c at → LiesPastNative ram size at
+    → (from ≤ at) × (at + 4 ≤ end)
+lies_so c ram size from end at begins stops opens lies =
+    let base = opens.base in
+    let top = opens.top in
+    let native = lies.native in
+    let begin = lies.begin in
+    let last = lies.end in
+    (omega (arith, begins, base, native, begin), omega (arith, stops, top, last))
+
+pub whole_of : (c : Cap) (ram size from end : ℕ) → from ≡ max (cap_base c) (max ram first_after_native) → end ≡ min (cap_top c) (ram + size)
+    → HoldsEach (record { from = from; last = end - 4 }) c ram size
+whole_of c ram size from end begins stops at opens lies =
+    let ends = lies_so c ram size from end at begins stops opens lies in
+    let low : from ≤ at = ends.0 in
+    let high : at + 4 ≤ end = ends.1 in
+    and_from (nat_le from at) (nat_le at (end - 4)) (le-leb from at low) (le-leb at (end - 4) (omega (arith, high)))
 
 pub empty_is : (c : Cap) (ram size : ℕ) → IsWindow (record { from = 1; last = 0 }) c ram size
 empty_is c ram size = record {
-  suits = λ some tagged. absurd (omega (arith, some));
-  lies = λ some. absurd (omega (arith, some));
+  suits = λ at within tagged. (let in_it = inside (record { from = 1; last = 0 }) at within in
+      let low : 1 ≤ at = in_it.0 in
+      let high : at ≤ 0 = in_it.1 in
+      absurd (omega (arith, low, high)));
+  lies = λ at within. (let in_it = inside (record { from = 1; last = 0 }) at within in
+      let low : 1 ≤ at = in_it.0 in
+      let high : at ≤ 0 = in_it.1 in
+      absurd (omega (arith, low, high)));
 }
 
-pub window_is : (c : Cap) (ram size : ℕ) → IsWindow (window_of c ram size) c ram size
-window_is c ram size = chosen (λ (w : Window). IsWindow w c ram size) (may_run c && bounds_in_ram c ram size) _ _
-    (λ is. opens_own c ram size (both_left (may_run c) (bounds_in_ram c ram size) is) (both_right (may_run c) (bounds_in_ram c ram size) is))
-    (λ none. empty_is c ram size)
+-- none, where the capability opens no word
+pub unfit : (c : Cap) (ram size : ℕ) → (is_unsealed c && (has c execute && nat_lt (cap_top c) (2 ^ 32))) ≡ false → HoldsEach (record { from = 1; last = 0 }) c ram size
+unfit c ram size none at opens lies =
+    let small : nat_lt (cap_top c) (2 ^ 32) ≡ true = lt-ltb (cap_top c) (2 ^ 32) opens.small in
+    let all : (is_unsealed c && (has c execute && nat_lt (cap_top c) (2 ^ 32))) ≡ true = rw (opens.unsealed, opens.executes, small) refl in
+    absurd (let clash : true ≡ false = sym all ∙ none in cc)
+
+-- none, where none lies between the ends
+pub too_short : (c : Cap) (ram size from end : ℕ) → from ≡ max (cap_base c) (max ram first_after_native) → end ≡ min (cap_top c) (ram + size) → end - from < 4
+    → HoldsEach (record { from = 1; last = 0 }) c ram size
+too_short c ram size from end begins stops short at opens lies =
+    let ends = lies_so c ram size from end at begins stops opens lies in
+    let low : from ≤ at = ends.0 in
+    let high : at + 4 ≤ end = ends.1 in
+    absurd (omega (arith, low, high, short))
 
 -- ---- at another address
 
 -- where the tag stays the capability was tagged, and its bounds stay
 pub suits_moved : (w : Window) (c : Cap) (a : ℕ) → a < 2 ^ 32 → Suits w c → Suits w (with_address c a)
 unfolding with_address
-suits_moved w c a small suits some tagged =
+suits_moved w c a small suits at within tagged =
     let kept = and_parts (c.tag && is_unsealed c) (is_representable c a) tagged in
     let first = and_parts c.tag (is_unsealed c) kept.0 in
     let ends = and_parts (cap_base (record c { word = word_at c a }) == cap_base c) (cap_top (record c { word = word_at c a }) == cap_top c) kept.1 in
@@ -128,7 +153,7 @@ suits_moved w c a small suits some tagged =
     bounds_is (with_address c a) (cap_high c) a small refl ∙ sym (bounds_is (record c { word = word_at c a }) (cap_high c) a small refl) in
     let base : cap_base (with_address c a) ≡ cap_base c = ap (λ (b : Bounds). b.base) bounds ∙ eqb-true (cap_base (record c { word = word_at c a })) (cap_base c) ends.0 in
     let top : cap_top (with_address c a) ≡ cap_top c = ap (λ (b : Bounds). b.top) bounds ∙ eqb-true (cap_top (record c { word = word_at c a })) (cap_top c) ends.1 in
-    let opens = suits some first.0 in
+    let opens = suits at within first.0 in
     record {
       unsealed = ap (λ n. n == 0) (seal_same c (with_address c a) (cap_high c) a small refl refl refl) ∙ opens.unsealed;
       executes = ap (λ n. bit n execute) (perms_same c (with_address c a) (cap_high c) a small refl refl) ∙ opens.executes;

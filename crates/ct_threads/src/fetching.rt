@@ -2,11 +2,10 @@
 
 ghost use Rattle.std.specs.Prelude.{◌≡◌, ◌+◌, ◌*◌, ◌%◌, ◌≤◌, ◌&&◌, ◌==◌, IfSome, is_some, length};
 ghost use Rattle.def_words.specs.Authority.{cap_address};
-ghost use Rattle.def_instr.specs.Reading.{instruction_in};
 ghost use Rattle.def_machine.specs.Memory.{lies_in};
-ghost use Rattle.def_step.specs.Instructions.{fetched, next_at, next_native, next_word, is_native_entry};
+ghost use Rattle.def_step.specs.Instructions.{fetched, next_at, next_native, is_native_entry};
 ghost use Rattle.ct_loadstore.specs.Shapes.{space_of};
-ghost use Rattle.ct_threads.specs.Steps.{finds_word, first_after_native, is_word_of_ram, no_bank, NextInRange};
+ghost use Rattle.ct_threads.specs.Steps.{finds_word, is_word_of_ram, no_bank, NextInRange};
 ghost use Rattle.ct_threads.specs.Windows.{IsWindow};
 
 use crate::registers::may_fetch;
@@ -35,7 +34,7 @@ fn fetch<M: Memory>(mem: &M, ram: u32, at: u32) -> u32
     ensures { result ≡ fetched (space_of ram (M.granules mem.now) no_bank 0) at }
 {
     if is_aligned_in_ram(mem, ram, at) {
-        return mem.load(at - ram, 4);
+        return word_there(mem, ram, at);
     }
     0
 }
@@ -83,8 +82,8 @@ pub fn next<M: Memory>(mem: &M, ram: u32, at: u32) -> Next
 fn word_at<M: Memory>(mem: &M, ram: u32, at: u32) -> Option<u32>
     requires { ram % 16 ≡ 0 }
     ensures when { is_some result ≡ is_word_of_ram ram (M.granules mem.now) at }
-    ensures given { IfSome result (λ w. next_at (space_of ram (M.granules mem.now) no_bank 0) at
-        ≡ next_word (instruction_in w)) }
+    ensures given { IfSome result (λ w. w
+        ≡ fetched (space_of ram (M.granules mem.now) no_bank 0) at) }
 {
     if at >= FIRST_AFTER_NATIVE && is_aligned_in_ram(mem, ram, at) {
         return Some(word_there(mem, ram, at));
@@ -92,16 +91,14 @@ fn word_at<M: Memory>(mem: &M, ram: u32, at: u32) -> Option<u32>
     None
 }
 
-/// The word at an address past the native routines, a multiple of 4 at which a whole word of RAM stands.
+/// The word at an address, a multiple of 4 at which a whole word of RAM stands.
 #[inline(always)]
 fn word_there<M: Memory>(mem: &M, ram: u32, at: u32) -> u32
     requires even { ram % 16 ≡ 0 }
-    requires native { first_after_native ≤ at }
     requires begin { ram ≤ at }
     requires end { at + 4 ≤ ram + 8 * length (M.granules mem.now) }
     requires whole { at % 4 ≡ 0 }
-    ensures { next_at (space_of ram (M.granules mem.now) no_bank 0) at
-        ≡ next_word (instruction_in result) }
+    ensures { result ≡ fetched (space_of ram (M.granules mem.now) no_bank 0) at }
 {
     mem.load(at - ram, 4)
 }
@@ -111,8 +108,8 @@ fn word_there<M: Memory>(mem: &M, ram: u32, at: u32) -> u32
 fn fetch_anew<M: Memory>(pcc: &Live, mem: &M, ram: u32) -> Option<u32>
     requires { ram % 16 ≡ 0 }
     ensures when { is_some result ≡ finds_word pcc.now ram (M.granules mem.now) }
-    ensures given { IfSome result (λ w. next_at (space_of ram (M.granules mem.now) no_bank 0)
-        (cap_address pcc.now) ≡ next_word (instruction_in w)) }
+    ensures given { IfSome result (λ w. w
+        ≡ fetched (space_of ram (M.granules mem.now) no_bank 0) (cap_address pcc.now)) }
 {
     if !may_fetch(pcc) {
         return None;
@@ -130,8 +127,8 @@ pub fn fetch_word<M: Memory>(pcc: &Live, mem: &M, ram: u32, window: Window) -> O
     requires even { ram % 16 ≡ 0 }
     requires window { IsWindow window pcc.now ram (8 * length (M.granules mem.now)) }
     ensures when { is_some result ≡ finds_word pcc.now ram (M.granules mem.now) }
-    ensures given { IfSome result (λ w. next_at (space_of ram (M.granules mem.now) no_bank 0)
-        (cap_address pcc.now) ≡ next_word (instruction_in w)) }
+    ensures given { IfSome result (λ w. w
+        ≡ fetched (space_of ram (M.granules mem.now) no_bank 0) (cap_address pcc.now)) }
 {
     let at = pcc.address();
     if pcc.cap.tag && window.holds(at) && at % 4 == 0 {

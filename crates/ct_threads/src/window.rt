@@ -1,14 +1,15 @@
 //! The addresses at which a fetch need only ask for the tag and for a multiple of 4.
 
-ghost use Rattle.std.specs.Prelude.{◌≡◌, ◌*◌, length};
-ghost use Rattle.ct_threads.specs.Windows.{empty_window, may_run, window_holds, bounds_in_ram, window_of};
+ghost use Rattle.std.specs.Prelude.{◌≡◌, ◌+◌, ◌*◌, ◌^◌, ◌&&◌, max, min, nat_lt, length};
+ghost use Rattle.def_words.specs.Authority.{cap_base, cap_top};
+ghost use Rattle.def_words.specs.Permissions.{has, execute};
+ghost use Rattle.def_words.specs.Seals.{is_unsealed};
+ghost use Rattle.ct_threads.specs.Steps.{first_after_native};
+ghost use Rattle.ct_threads.specs.Windows.{empty_window, window_holds, HoldsEach, IsWindow};
 
 use crate::fetching::FIRST_AFTER_NATIVE;
 use ct_cap::{Flags, Live, Perms};
 use ct_mem::Memory;
-
-/// The first number past all addresses.
-const ADDRESSES_END: u64 = 1 << 32;
 
 /// Addresses of words, from one to a last one, none where `last` is below `from`. It suits a program counter capability
 /// that is untagged, or that is unsealed and may be executed and whose bounds hold a word at each of these. It is a
@@ -37,37 +38,45 @@ impl Window {
     }
 }
 
-/// Whether a capability is unsealed and may be executed.
+/// Whether a capability is unsealed and may be executed, and its bounds end at an address.
 #[tactic(auto, using(ct_perm::proofs::Tests::has_ex))]
 fn may_run(pcc: &Live) -> bool
-    ensures { result ≡ may_run pcc.now }
+    ensures { result
+        ≡ (is_unsealed pcc.now && (has pcc.now execute && nat_lt (cap_top pcc.now) (2 ^ 32))) }
 {
-    pcc.seal == 0 && pcc.perms.contains(Perms::EX)
+    pcc.seal == 0 && pcc.perms.contains(Perms::EX) && pcc.bounds.top <= u32::MAX as u64
 }
 
-/// Whether a capability's bounds are in order, and lie in RAM past the native routines and before the last address.
-fn bounds_in_ram<M: Memory>(pcc: &Live, mem: &M, ram: u32) -> bool
-    ensures { result ≡ bounds_in_ram pcc.now ram (8 * length (M.granules mem.now)) }
+/// Where the words begin that may lie in a capability's bounds and in RAM, past the native routines.
+fn words_begin(pcc: &Live, ram: u32) -> u64
+    ensures { result ≡ max (cap_base pcc.now) (max ram first_after_native) }
 {
-    let base = pcc.bounds.base;
-    let top = pcc.bounds.top;
-    FIRST_AFTER_NATIVE as u64 <= base
-        && ram as u64 <= base
-        && base <= top
-        && top <= ram as u64 + mem.size() as u64
-        && top < ADDRESSES_END
+    pcc.bounds.base.max(ram.max(FIRST_AFTER_NATIVE) as u64)
 }
 
-/// The addresses of words in a capability's bounds, where it is unsealed and may be executed and its bounds lie in RAM,
-/// past the native routines and before the last address; else none.
+/// Where they end.
+fn words_end<M: Memory>(pcc: &Live, mem: &M, ram: u32) -> u64
+    ensures { result ≡ min (cap_top pcc.now) (ram + 8 * length (M.granules mem.now)) }
+{
+    pcc.bounds.top.min(ram as u64 + mem.size() as u64)
+}
+
+/// The window of all words in a capability's bounds that lie in RAM, past the native routines, where it is unsealed and
+/// may be executed and its bounds end at an address; else none.
 pub fn window_of<M: Memory>(pcc: &Live, mem: &M, ram: u32) -> Window
-    ensures { result ≡ window_of pcc.now ram (8 * length (M.granules mem.now)) }
+    ensures is { IsWindow result pcc.now ram (8 * length (M.granules mem.now)) }
+    ensures whole { HoldsEach result pcc.now ram (8 * length (M.granules mem.now)) }
 {
-    if may_run(pcc) && bounds_in_ram(pcc, mem, ram) {
-        return Window {
-            from: pcc.bounds.base as u32,
-            last: (pcc.bounds.top - 4) as u32,
-        };
+    if !may_run(pcc) {
+        return Window::empty();
     }
-    Window::empty()
+    let from = words_begin(pcc, ram);
+    let end = words_end(pcc, mem, ram);
+    if end.saturating_sub(from) < 4 {
+        return Window::empty();
+    }
+    Window {
+        from: from as u32,
+        last: (end - 4) as u32,
+    }
 }

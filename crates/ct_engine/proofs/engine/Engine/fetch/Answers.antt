@@ -19,6 +19,5 @@ returns-clause-when g c =
 pub returns-clause-given : goal.returns-clause-given
 returns-clause-given g c =
     let gs = g.M.Memory.granules c.self.inside.mem in
-    let at = c.pcc_ref-pcc.ensures gs c.self.invariant in
-    found_is gs c.self.inside.rows c.args.self.now c.args.t c.pcc_ref-pcc.result.now c.fetch_word.result c.self.view_is at
-    (c.fetch_word.ensures.when ∙ found_when gs c.self.inside.rows c.args.self.now c.args.t c.pcc_ref-pcc.result.now c.self.view_is at) c.requires.seen c.fetch_word.ensures.given
+    found_is gs c.self.inside.rows c.args.self.now c.args.t c.pcc_ref-pcc.result.now c.fetch_word.result c.self.view_is (c.pcc_ref-pcc.ensures gs c.self.invariant)
+    c.fetch_word.ensures.when c.requires.seen c.fetch_word.ensures.given
