@@ -50,6 +50,7 @@ case $1 in
         exit 7
         ;;
     run)
+        echo "$*" > out/words
         sleep 1
         touch ../high/out/rlib/stamp
         sleep 4
@@ -125,6 +126,11 @@ status 1" "$(FAILS=yes PATH=$kit "$clone/bin/build" 2>&1 | sed "s|$clone|CLONE|"
 expect "a build" "[2/3] 1 left; what is proved stays, also where this is ended
 built in 0 min: CLONE/crates/ct_main/out/ct_main
 status 0" "$(PATH=$kit "$clone/bin/build" 2>&1 | sed "s|$clone|CLONE|"; echo "status ${PIPESTATUS[0]}")"
+
+expect "a build for each processor" "run -- audit data/tiny.json" "$(< "$clone/crates/ct_main/out/words")"
+CAPFW_CPU=x86-64-v3 PATH=$kit "$clone/bin/build" 2> "$work/said"
+expect "a build for later processors" "run --cpu x86-64-v3 -- audit data/tiny.json" \
+    "$(< "$clone/crates/ct_main/out/words")"
 
 expect "a program" "program: run a.json 100
 status 3" "$(said run a.json 100)"
