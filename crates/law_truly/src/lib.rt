@@ -103,7 +103,13 @@ pub fn rules_are_plain()
     ensures passes { (cs : List Check) → (first_failed cs ≡ None) ↔ AllHold cs }
     ensures fails { (cs : List Check) (why : Trap)
         → (first_failed cs ≡ Some why) ↔ FirstFails cs why }
-<<<<<<< HEAD
+    ensures postures { (before : Posture) (kind named source : ℕ) (after : Posture)
+        → (posture_through before kind named source ≡ after)
+        ↔ IsPostureThrough before kind named source after }
+    ensures answers { (s : State) (t : ℕ) (value : Cap) → 11 < length (thread s t).registers
+        → AnswersNoMore s t value (answers s t value) }
+    ensures placed { (r : Object) (rs : List Object) → IsPutAmong r rs (placed_among r rs) }
+    ensures quarantined { (n : ℕ) (rs : List Object) → IsTakenBack n rs (quarantine n rs) }
 {}
 
 /// Where several checks fail, the trap is of the one that comes first: of a fetch, a load, a store, a jump by a
@@ -114,20 +120,6 @@ pub fn checks_stand_in_order()
     ensures store { (a : Access) (x : Cap) (at : ℕ) (carries : Bool) → StoreOrder a x at carries }
     ensures jump { (to at : ℕ) (x : Cap) (n : ℕ) → JumpOrder to at x n }
     ensures call { (base top : ℕ) (caller : Thread) → CallOrder base top caller }
-{}
-
-/// What `posture_through` gives is what a jump or a return does to interrupts, and nothing else is.
-pub fn postures_are_plain()
-    ensures { (before : Posture) (kind named source : ℕ) (after : Posture)
-=======
-    ensures postures { (before : Posture) (kind named source : ℕ) (after : Posture)
->>>>>>> 71838109012cab2b07454500b8d3a08518314a50
-        → (posture_through before kind named source ≡ after)
-        ↔ IsPostureThrough before kind named source after }
-    ensures answers { (s : State) (t : ℕ) (value : Cap) → 11 < length (thread s t).registers
-        → AnswersNoMore s t value (answers s t value) }
-    ensures placed { (r : Object) (rs : List Object) → IsPutAmong r rs (placed_among r rs) }
-    ensures quarantined { (n : ℕ) (rs : List Object) → IsTakenBack n rs (quarantine n rs) }
 {}
 
 /// All of these of each event of a list (`events`), and of the machine of a sound image, whatever list of events
