@@ -7,12 +7,15 @@ import copy
 import itertools
 import json
 
-from cases import case, image, lines, report, sample, stored_file, text_of
+from cases import (called, calls, case, compartment, ended, export, gate, image, images, lines, modelled, off, report,
+                   sample, source, stored_file, text_of, thread)
 from firmwares import small_board
 
 TINY = sample("tiny")
 BOARD = small_board()
-COMMANDS = {"audit": [], "image": [], "run": ["100"], "why": ["hex", "app"]}
+POLICY = stored_file("unwritten.policy", "device uart0 only driver\nquota app 63\napart hex app\n")
+KEPT = stored_file("unwritten_kept.policy", "apart app driver\n")
+COMMANDS = {"audit": [], "image": [], "run": ["100"], "why": ["hex", "app"], "check": [POLICY]}
 UNREADABLE = [("missing", "nosuch"), ("folder", ".")]
 
 
@@ -35,10 +38,12 @@ def lacking(first, file):
 for command, more in COMMANDS.items():
     for kind, file in UNREADABLE[command == "audit":]:
         unread(f"{command}_{kind}", [command, file, *more], "", file)
-        for source in range(3):
-            unread(f"{command}_{kind}_{source}", [command, "{}", *more], lacking(source, file), file)
+        for first in range(3):
+            unread(f"{command}_{kind}_{first}", [command, "{}", *more], lacking(first, file), file)
 for kind, file in UNREADABLE:
     unread(f"runimage_{kind}", ["runimage", file, "100"], "", file)
+    unread(f"upgrade_{kind}", ["upgrade", file], "", file)
+    unread(f"check_{kind}_policy", ["check", "{}", file], json.dumps(BOARD), file)
     for command, data in (("run", json.dumps(BOARD)), ("runimage", image(TINY))):
         unread(f"{command}_{kind}_before_script", [command, file, "100", "nosuch.script"], "", file)
         unread(f"{command}_{kind}_script", [command, "{}", "100", file], data, file)
@@ -59,13 +64,16 @@ RUN = REPORT, *text_of("tiny", "run.txt").splitlines(keepends=True)
 assert [len(piece) for piece in RUN] == [951, 37, 77]
 SCRIPT = stored_file("unwritten.script", "2 uart0 65\n")
 STEPS_FALL = stored_file("steps_fall.script", "5 uart0 1\n4 uart0 1\n")
-POLICY = stored_file("unwritten.policy", "device uart0 only driver\nquota app 63\napart hex app\n")
 
 unwritten("audit", ["audit", "{}"], SMALL, REPORT)
 unwritten("image", ["image", "{}"], SMALL, BYTES)
 unwritten("why", ["why", "{}", "hex", "app"], json.dumps(BOARD), "path hex app\n")
 unwritten("run", ["run", "{}", "100"], SMALL, *RUN)
 unwritten("runimage", ["runimage", "{}", "100"], BYTES, *RUN)
+unwritten("upgrade", ["upgrade", "{}"], BYTES, images.upgraded(BYTES))
+unwritten("allow", ["check", "{}", KEPT], json.dumps(BOARD), "allow\n")
+unwritten("demo", ["demo", "0"], "",
+          lines(ended("finished", 112, ticks=2, calls=2, devices=4, allocations=4, frees=4)))
 unwritten("run_script", ["run", "{}", "100", SCRIPT], SMALL, *RUN)
 unwritten("runimage_script", ["runimage", "{}", "100", SCRIPT], BYTES, *RUN)
 unwritten("refused_1", ["audit"], "", "refused 1 usage\n")
@@ -74,4 +82,16 @@ unwritten("refused_4", ["audit", "app.s"], "", "refused 4 description F1 firmwar
 unwritten("refused_7", ["runimage", "{}", "100"], SMALL, "refused 7 image I1 0\n")
 unwritten("refused_8", ["run", "{}", "100", STEPS_FALL], SMALL, "refused 8 script S2 2\n")
 unwritten("refused_11", ["why", "{}", "app", "none"], json.dumps(BOARD), "refused 11 name\n")
+unwritten("refused_13", ["check", "{}", STEPS_FALL], json.dumps(BOARD), "refused 13 policy P1 1\n")
 unwritten("denied", ["check", "{}", POLICY], json.dumps(BOARD), "denied 2 6\n", "denied 3 path hex app\n")
+
+# The call of an export with interrupts off is one event and two lines: its output can end between them.
+off_callee = {"firmware": "off", "ram": {"base": 0x80000000, "size": 16384}, "compartments": [
+    compartment("a", [gate("b.f")], ["main"]), compartment("b", [], [export("f", posture="disabled")])],
+    "threads": [thread("a.main")]}
+for owner, text in zip(off_callee["compartments"], (
+        ["main: cmove cs1, cra", *calls("f"), "cmove cra, cs1", "cret"], ["f: cret"])):
+    owner["code"] = source(f"unwritten_{owner['name']}.s", text)
+TWO = called(7, 0, 0, 4, 9), off(7, 0, 1, 9), ended("finished", 12, calls=1)
+assert modelled(image(off_callee), 100) == list(TWO)
+unwritten("two_lines", ["run", "{}", "100"], json.dumps(off_callee), lines(report(off_callee)), *map(lines, TWO))

@@ -37,7 +37,8 @@ row("whole", ["audit", SPACED], lines(report(json.loads(TINY))))
 
 # Too few, too many, and words that begin no form.
 usage("count", [], ["audit"], ["audit", "{}", "{}"], ["run", "{}"], ["run", "{}", "1", "a", "b"], ["runimage", "{}"],
-      ["why", "{}", "app"], ["why", "{}", "app", "app", "app"], ["check", "{}"], ["demo"], ["demo", "0", "0"])
+      ["why", "{}", "app"], ["why", "{}", "app", "app", "app"], ["check", "{}"], ["demo"], ["demo", "0", "0"],
+      ["image"], ["image", "{}", "{}"], ["upgrade"], ["upgrade", "{}", "{}"], ["runimage", "{}", "1", "a", "b"])
 usage("form", ["--help"], ["--version"], ["report", "{}"], ["audit.", "{}"], ["audi", "{}"], ["--", "audit", "{}"])
 
 # Empty words stand where they stand.
