@@ -81,7 +81,7 @@ fn apart(owner: Option<Owner>, compartment: Option<u32>) -> Option<Subject>
 }
 
 fn resource_of(name: ResourceName) -> Resource
-    ensures { result ≡ spec.resource_of (resource_row name) }
+    ensures { result ≡ spec.resource_of (resource_row name.entry) }
 {
     match name {
         ResourceName::Device(_) => Resource::Device,
@@ -94,7 +94,7 @@ fn resource_of(name: ResourceName) -> Resource
 /// The number of what a name stands for.
 fn resource_named(parts: &Parts, name: ResourceName) -> Option<u32>
     requires { Sound parts.now }
-    ensures { result ≡ spec.resource_named parts.now (resource_row name) }
+    ensures { result ≡ spec.resource_named parts.now (resource_row name.entry) }
 {
     match name {
         ResourceName::Device(name) => device_named(parts, name),
