@@ -33,7 +33,6 @@ disabled only c0
 service allocate only c0
 quota c63 1024
 quota total 65536
-apart l31 c0
 RULES
 for mib in 4 16; do
     yes | awk -v size=$((mib << 20)) '{ line = 1000000000 + NR " uart0 65"; size -= length(line) + 1
