@@ -8,7 +8,7 @@ use Rattle.std.proofs.lemmas.Grind.{flat_map-append}
 use Rattle.def_image.specs.Parts.{PartsRow}
 use Rattle.def_policy.specs.declared.PolicyFault.{PolicyFault}
 use Rattle.def_policy.specs.declared.PolicyFault.TheVariants.{At, NoMemory}
-use Rattle.def_policy.specs.Rules.{Rule, Device, Shared, Service, Call, Disabled, Data, Total, Quota, Apart, IsRule, ended, IsWord, line_of, spelled, words_of}
+use Rattle.def_policy.specs.Rules.{Rule, IsRule, ended, IsWord, line_of, spelled, words_of}
 use Rattle.def_policy.specs.Rulings.{Ruling, meant}
 use Rattle.def_policy.specs.Texts.{BeginsWithRule, IsPolicyCause, IsKnown, NamesUnknown, NoRuleLine, ReadsAsPolicy}
 use Rattle.ct_policy.specs.Forms.{form_of}
@@ -21,20 +21,13 @@ use Rattle.ct_policy.proofs.Told.{IsSaid, form_back, form_told}
 
 -- ---- the line of a rule
 
--- each rule has a word
-some_words : (r : Rule) → 0 < length (words_of r)
-some_words (Device name owners) = omega arith
-some_words (Shared name owners) = omega arith
-some_words (Service name owners) = omega arith
-some_words (Call compartment export owners) = omega arith
-some_words (Disabled owners) = omega arith
-some_words (Data compartment export) = omega arith
-some_words (Total n) = omega arith
-some_words (Quota owner n) = omega arith
-some_words (Apart owner compartment) = omega arith
+-- what says a rule has a word
+some_words : (words : List (List ℕ)) (r : Rule) → form_of words ≡ Some r → 0 < length words
+some_words [] r found = absurd (let bad : None ≡ Some r = found in cc)
+some_words (w ∷ ws) r found = omega arith
 
 pub line_of_rule : (text : List ℕ) (r : Rule) (rest : List ℕ) → BeginsWithRule text r rest → IsLine text (words_of r) rest
-line_of_rule text r rest b = record { some = some_words r; are = b.rule.words; text_is = b.text_is }
+line_of_rule text r rest b = record { some = some_words (words_of r) r (form_back r b.rule.formed); are = b.rule.words; text_is = b.text_is }
 
 pub no_words_there : (text : List ℕ) → 0 < length text → NoWords text → NoRuleLine text
 no_words_there text some none = record { some = some; none = λ r rest b. none (words_of r) rest (line_of_rule text r rest b) }

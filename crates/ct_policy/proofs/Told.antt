@@ -4,8 +4,8 @@ use Rattle.std.specs.Str.{bytes_eq}
 use Rattle.std.proofs.lemmas.Slice.Eq.{bytes_eq-Decides}
 use Rattle.law_lists.proofs.Tests.{bool_tells, both_left, both_right, lt_tells}
 use Rattle.def_policy.specs.declared.TheConstants.{MOST_TOTAL}
-use Rattle.def_policy.specs.Rules.{Rule, Device, Shared, Service, Call, Disabled, Data, Total, Quota, Apart, IsFormed, total, words_of}
-use Rattle.ct_policy.specs.Forms.{OnlyRow, SidesRow, apart_in, call_by, call_in, data_in, device_in, disabled_in, form_by, form_of, only_in, owners_in, quota_by, quota_in, service_in, shared_in, sides_in}
+use Rattle.def_policy.specs.Rules.{ResourceName, Device, Shared, Service, Call, Rule, Only, Disabled, Data, Total, Quota, Apart, IsFormed, IsNamed, kind_word, resource_word, total, words_of}
+use Rattle.ct_policy.specs.Forms.{SidesRow, apart_in, data_in, disabled_in, form_by, form_of, only_by, only_in, owners_in, quota_by, quota_in, resource_in, sides_in}
 use Rattle.ct_texts.proofs.Numbers.{number_back, number_told}
 use Rattle.def_texts.specs.Digits.{number_within}
 use Rattle.ct_policy.proofs.Sides.{IsDotted, sides_back, sides_found, some_tells}
@@ -16,19 +16,16 @@ owners_back : (owners : List (List ℕ)) → 0 < length owners → owners_in (co
 owners_back [] some = absurd (omega (arith, some))
 owners_back (o ∷ os) some = rw (some_tells (o ∷ os) some) refl
 
-only_back : (name : List ℕ) (owners : List (List ℕ)) → 0 < length owners → only_in (name ∷ codes "only" ∷ owners) ≡ Some (record { name = name; owners = owners })
-only_back name owners some = rw (owners_back owners some) refl
-
 other_owner : (owner : List ℕ) → owner ≢ total → bytes_eq owner total ≡ false
 other_owner owner differs =
     elim (bool_tells (bytes_eq owner total)) [ inl same ↦ absurd (differs ((bytes_eq-Decides owner total).0 same)) | inr no_here ↦ no_here ]
 
 pub form_back : (r : Rule) → IsFormed r → form_of (words_of r) ≡ Some r
-form_back (Device name owners) some = rw (only_back name owners some) refl
-form_back (Shared name owners) some = rw (only_back name owners some) refl
-form_back (Service name owners) some = rw (only_back name owners some) refl
-form_back (Call compartment export owners) formed =
-    rw (only_back _ owners formed.2, sides_back compartment export formed.0 formed.1) refl
+form_back (Only (Device name) owners) formed = rw (owners_back owners formed.1) refl
+form_back (Only (Shared name) owners) formed = rw (owners_back owners formed.1) refl
+form_back (Only (Service name) owners) formed = rw (owners_back owners formed.1) refl
+form_back (Only (Call compartment export) owners) formed =
+    rw (owners_back owners formed.1, sides_back compartment export formed.0.0 formed.0.1) refl
 form_back (Disabled owners) some = rw (owners_back owners some) refl
 form_back (Data compartment export) formed = rw (sides_back compartment export formed.0 formed.1) refl
 form_back (Total n) small = rw (number_back MOST_TOTAL n small (omega (arith, small))) refl
@@ -60,64 +57,71 @@ owners_told (w ∷ ws) owners found =
       | inr no_here ↦ absurd (let e : None ≡ Some owners = rw no_here at found in cc)
     ]
 
-record IsOnly (words : List (List ℕ)) (o : OnlyRow) : Type 0 where
-  is : o.name ∷ codes "only" ∷ o.owners ≡ words
-  some : 0 < length o.owners
-
 -- ---- an option that was mapped
 
 mapped : {A B : Type 0} (f : A → B) (x : Option A) (y : B) → option_map f x ≡ Some y → (a : A) × (x ≡ Some a) × (f a ≡ y)
 mapped f None y e = absurd (let bad : None ≡ Some y = e in cc)
 mapped f (Some a) y e = (a, refl, (let same : Some (f a) ≡ Some y = e in cc))
 
-bound : {A B : Type 0} (f : A → Option B) (x : Option A) (y : B) → option_and_then f x ≡ Some y → (a : A) × (x ≡ Some a) × (f a ≡ Some y)
-bound f None y e = absurd (let bad : None ≡ Some y = e in cc)
-bound f (Some a) y e = (a, refl, e)
-
 -- ---- each form
-
-abbrev only_row_of : List ℕ → List (List ℕ) → OnlyRow
-only_row_of name owners = record { name = name; owners = owners }
-
-only_told : (words : List (List ℕ)) (o : OnlyRow) → only_in words ≡ Some o → IsOnly words o
-only_told [] o found = absurd (let bad : None ≡ Some o = found in cc)
-only_told (w ∷ ws) o found =
-    let from = mapped (only_row_of w) (owners_in ws) o found in
-    let told : AreOwners ws from.0 = owners_told ws from.0 from.1 in
-    subst (λ (x : OnlyRow). IsOnly (w ∷ ws) x) from.2 (record { is = ap (λ xs. w ∷ xs) told.is; some = told.some })
 
 -- what a form after its first word stands for
 record IsAfter (head : List ℕ) (words : List (List ℕ)) (r : Rule) : Type 0 where
   is : words_of r ≡ head ∷ words
   formed : IsFormed r
 
-device_told : (words : List (List ℕ)) (r : Rule) → device_in words ≡ Some r → IsAfter (codes "device") words r
-device_told words r found =
-    let from = mapped (λ (o : OnlyRow). Device o.name o.owners) (only_in words) r found in
-    let told : IsOnly words from.0 = only_told words from.0 from.1 in
-    subst (λ x. IsAfter (codes "device") words x) from.2 (record { is = ap (λ xs. codes "device" ∷ xs) told.is; formed = told.some })
+-- what a kind's word and a name stand for
+record IsResource (kind word : List ℕ) (s : ResourceName) : Type 0 where
+  kind_is : kind_word s ≡ kind
+  word_is : resource_word s ≡ word
+  named : IsNamed s
 
-shared_told : (words : List (List ℕ)) (r : Rule) → shared_in words ≡ Some r → IsAfter (codes "shared") words r
-shared_told words r found =
-    let from = mapped (λ (o : OnlyRow). Shared o.name o.owners) (only_in words) r found in
-    let told : IsOnly words from.0 = only_told words from.0 from.1 in
-    subst (λ x. IsAfter (codes "shared") words x) from.2 (record { is = ap (λ xs. codes "shared" ∷ xs) told.is; formed = told.some })
+-- the resource by the first of these words that its kind is
+resource_told : (kind word : List ℕ) (s : ResourceName) → resource_in kind word ≡ Some s → IsResource kind word s
+resource_told kind word s found =
+    elim (bool_tells (bytes_eq kind (codes "device"))) [
+      | inl a ↦ plain (Device word) (codes "device") a refl refl tt (rw a at found)
+      | inr device ↦ elim (bool_tells (bytes_eq kind (codes "shared"))) [
+        | inl a ↦ plain (Shared word) (codes "shared") a refl refl tt (rw (device, a) at found)
+        | inr shared ↦ elim (bool_tells (bytes_eq kind (codes "service"))) [
+          | inl a ↦ plain (Service word) (codes "service") a refl refl tt (rw (device, shared, a) at found)
+          | inr service ↦ elim (bool_tells (bytes_eq kind (codes "call"))) [
+            | inl a ↦ called a (rw (device, shared, service, a) at found)
+            | inr call ↦ absurd (let bad : None ≡ Some s = rw (device, shared, service, call) at found in cc)
+          ]
+        ]
+      ]
+    ]
+  where
+    plain : (x : ResourceName) (key : List ℕ) → bytes_eq kind key ≡ true → kind_word x ≡ key → resource_word x ≡ word → IsNamed x → Some x ≡ Some s → IsResource kind word s
+    plain x key same kind_is word_is named there =
+        let is : x ≡ s = cc in
+        subst (λ y. IsResource kind word y) is (record { kind_is = kind_is ∙ sym ((bytes_eq-Decides kind key).0 same); word_is = word_is; named = named })
 
-service_told : (words : List (List ℕ)) (r : Rule) → service_in words ≡ Some r → IsAfter (codes "service") words r
-service_told words r found =
-    let from = mapped (λ (o : OnlyRow). Service o.name o.owners) (only_in words) r found in
-    let told : IsOnly words from.0 = only_told words from.0 from.1 in
-    subst (λ x. IsAfter (codes "service") words x) from.2 (record { is = ap (λ xs. codes "service" ∷ xs) told.is; formed = told.some })
+    called : bytes_eq kind (codes "call") ≡ true → option_map (λ (x : SidesRow). Call x.compartment x.export) (sides_in word) ≡ Some s → IsResource kind word s
+    called same there =
+        let from = mapped (λ (x : SidesRow). Call x.compartment x.export) (sides_in word) s there in
+        let point : IsDotted word from.0 = sides_found word from.0 from.1 in
+        subst (λ y. IsResource kind word y) from.2 (record { kind_is = sym ((bytes_eq-Decides kind (codes "call")).0 same); word_is = point.is; named = (point.left, point.right) })
 
-call_told : (words : List (List ℕ)) (r : Rule) → call_in words ≡ Some r → IsAfter (codes "call") words r
-call_told words r found =
-    let from = bound call_by (only_in words) r found in
-    let told : IsOnly words from.0 = only_told words from.0 from.1 in
-    let by = mapped (λ (s : SidesRow). Call s.compartment s.export from.0.owners) (sides_in from.0.name) r from.2 in
-    let point : IsDotted from.0.name by.0 = sides_found from.0.name by.0 by.1 in
-    subst (λ x. IsAfter (codes "call") words x) by.2 (record {
-      is = ap (λ x. codes "call" ∷ x ∷ codes "only" ∷ from.0.owners) point.is ∙ ap (λ xs. codes "call" ∷ xs) told.is;
-      formed = (point.left, point.right, told.some);
+both_told : (resource : Option ResourceName) (owners : Option (List (List ℕ))) (r : Rule) → only_by resource owners ≡ Some r
+    → (s : ResourceName) × (os : List (List ℕ)) × (resource ≡ Some s) × (owners ≡ Some os) × (Only s os ≡ r)
+both_told None owners r found = absurd (let bad : None ≡ Some r = found in cc)
+both_told (Some s) None r found = absurd (let bad : None ≡ Some r = found in cc)
+both_told (Some s) (Some os) r found = (s, os, refl, refl, (let same : Some (Only s os) ≡ Some r = found in cc))
+
+only_told : (kind : List ℕ) (words : List (List ℕ)) (r : Rule) → only_in kind words ≡ Some r → IsAfter kind words r
+only_told kind [] r found = absurd (let bad : None ≡ Some r = found in cc)
+only_told kind (word ∷ rest) r found =
+    let from = both_told (resource_in kind word) (owners_in rest) r found in
+    let what : IsResource kind word from.0 = resource_told kind word from.0 from.2 in
+    let whose : AreOwners rest from.1 = owners_told rest from.1 from.3 in
+    subst (λ x. IsAfter kind (word ∷ rest) x) from.4 (record {
+      is =
+          ap (λ k. k ∷ resource_word from.0 ∷ codes "only" ∷ from.1) what.kind_is
+          ∙ ap (λ w. kind ∷ w ∷ codes "only" ∷ from.1) what.word_is
+          ∙ ap (λ ws. kind ∷ word ∷ ws) whose.is;
+      formed = (what.named, whose.some);
     })
 
 disabled_told : (words : List (List ℕ)) (r : Rule) → disabled_in words ≡ Some r → IsAfter (codes "disabled") words r
@@ -173,39 +177,24 @@ said : (head key : List ℕ) (words : List (List ℕ)) (r : Rule) → bytes_eq h
 said head key words r same after = record { words_are = after.is ∙ ap (λ h. h ∷ words) (sym ((bytes_eq-Decides head key).0 same)); formed = after.formed }
 
 -- the rule by the first of these words that it is
-last_forms : (head : List ℕ) (words : List (List ℕ)) (r : Rule)
-    → bytes_eq head (codes "device") ≡ false → bytes_eq head (codes "shared") ≡ false → bytes_eq head (codes "service") ≡ false → bytes_eq head (codes "call") ≡ false
-    → form_by head words ≡ Some r → IsSaid (head ∷ words) r
-last_forms head words r device shared service call found =
-    elim (bool_tells (bytes_eq head (codes "disabled"))) [
-      | inl a ↦ said head (codes "disabled") words r a (disabled_told words r (rw (device, shared, service, call, a) at found))
-      | inr disabled ↦ elim (bool_tells (bytes_eq head (codes "data"))) [
-        | inl a ↦ said head (codes "data") words r a (data_told words r (rw (device, shared, service, call, disabled, a) at found))
-        | inr facts ↦ elim (bool_tells (bytes_eq head (codes "quota"))) [
-          | inl a ↦ said head (codes "quota") words r a (quota_told words r (rw (device, shared, service, call, disabled, facts, a) at found))
-          | inr quota ↦ elim (bool_tells (bytes_eq head (codes "apart"))) [
-            | inl a ↦ said head (codes "apart") words r a (apart_told words r (rw (device, shared, service, call, disabled, facts, quota, a) at found))
-            | inr apart ↦ absurd (let bad : None ≡ Some r = rw (device, shared, service, call, disabled, facts, quota, apart) at found in cc)
-          ]
-        ]
-      ]
-    ]
-
 by_told : (head : List ℕ) (words : List (List ℕ)) (r : Rule) → form_by head words ≡ Some r → IsSaid (head ∷ words) r
 by_told head words r found =
-    elim (bool_tells (bytes_eq head (codes "device"))) [
-      | inl a ↦ said head (codes "device") words r a (device_told words r (rw a at found))
-      | inr device ↦ elim (bool_tells (bytes_eq head (codes "shared"))) [
-        | inl a ↦ said head (codes "shared") words r a (shared_told words r (rw (device, a) at found))
-        | inr shared ↦ elim (bool_tells (bytes_eq head (codes "service"))) [
-          | inl a ↦ said head (codes "service") words r a (service_told words r (rw (device, shared, a) at found))
-          | inr service ↦ elim (bool_tells (bytes_eq head (codes "call"))) [
-            | inl a ↦ said head (codes "call") words r a (call_told words r (rw (device, shared, service, a) at found))
-            | inr call ↦ last_forms head words r device shared service call found
+    elim (bool_tells (bytes_eq head (codes "disabled"))) [
+      | inl a ↦ said head (codes "disabled") words r a (disabled_told words r (rw a at found))
+      | inr disabled ↦ elim (bool_tells (bytes_eq head (codes "data"))) [
+        | inl a ↦ said head (codes "data") words r a (data_told words r (rw (disabled, a) at found))
+        | inr facts ↦ elim (bool_tells (bytes_eq head (codes "quota"))) [
+          | inl a ↦ said head (codes "quota") words r a (quota_told words r (rw (disabled, facts, a) at found))
+          | inr quota ↦ elim (bool_tells (bytes_eq head (codes "apart"))) [
+            | inl a ↦ said head (codes "apart") words r a (apart_told words r (rw (disabled, facts, quota, a) at found))
+            | inr apart ↦ kept (only_told head words r (rw (disabled, facts, quota, apart) at found))
           ]
         ]
       ]
     ]
+  where
+    kept : IsAfter head words r → IsSaid (head ∷ words) r
+    kept after = record { words_are = after.is; formed = after.formed }
 
 pub form_told : (words : List (List ℕ)) (r : Rule) → form_of words ≡ Some r → IsSaid words r
 form_told [] r found = absurd (let bad : None ≡ Some r = found in cc)

@@ -6,10 +6,9 @@ use Rattle.ct_entry.specs.declared.rows.Owner.TheVariants.{Trusted}
 use Rattle.def_image.specs.Parts.{PartsRow}
 use Rattle.def_policy.specs.declared.Subject.{Subject}
 use Rattle.def_policy.specs.declared.Subject.TheVariants as subject
-use Rattle.def_policy.specs.Names.{compartment_named, library_named, or_library, owner_named, owners_named, device_named, shared_named, export_named}
-use Rattle.def_desc.specs.Tables.{service_of}
-use Rattle.def_policy.specs.Rules.{Rule, Device, Shared, Service, Call, Disabled, Data, Total, Quota, Apart}
-use Rattle.def_policy.specs.Rulings.{Ruling, apart, meant, only}
+use Rattle.def_policy.specs.Names.{compartment_named, library_named, or_library, owner_named, owners_named, export_named}
+use Rattle.def_policy.specs.Rules.{Rule, Only, Disabled, Data, Total, Quota, Apart}
+use Rattle.def_policy.specs.Rulings.{Ruling, apart, meant, only, resource_named, resource_of}
 use Rattle.def_policy.specs.Texts.{ReadsAsPolicy}
 use Rattle.ct_policy.specs.Kept.{IsUntrusted, KeepsUntrusted}
 
@@ -39,10 +38,7 @@ each_apart (Some o) (Some b) h = h
 
 each_meant : (p : PartsRow) (r : Rule) → Each KeepsUntrusted (meant p r)
 unfolding meant
-each_meant p (Device name owners) = each_only _ (owners_named p owners) (each_map (λ n. subject.Device n) (device_named p name) (λ n. tt))
-each_meant p (Shared name owners) = each_only _ (owners_named p owners) (each_map (λ n. subject.Shared n) (shared_named p name) (λ n. tt))
-each_meant p (Service name owners) = each_only _ (owners_named p owners) (each_map (λ n. subject.Service n) (service_of name) (λ n. tt))
-each_meant p (Call compartment export owners) = each_only _ (owners_named p owners) (each_map (λ n. subject.Call n) (export_named p compartment export) (λ n. tt))
+each_meant p (Only name owners) = each_only _ (owners_named p owners) (each_map (λ n. subject.Only (resource_of name) n) (resource_named p name) (λ n. tt))
 each_meant p (Disabled owners) = each_only (Some subject.Disabled) (owners_named p owners) tt
 each_meant p (Data compartment export) = each_only _ (Some []) (each_map (λ n. subject.Data n) (export_named p compartment export) (λ n. tt))
 each_meant p (Total n) = tt

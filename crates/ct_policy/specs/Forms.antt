@@ -3,10 +3,11 @@ use Rattle.std.specs.Prelude.{ℕ, ◌+◌, ◌==◌, ◌&&◌, ◌||◌, nat_lt
 use Rattle.std.specs.List.{list_any, prefix_len}
 use Rattle.def_texts.specs.Digits.{number_within}
 use Rattle.def_policy.specs.declared.TheConstants.{MOST_TOTAL}
-use Rattle.def_policy.specs.Rules.{Rule, Device, Shared, Service, Call, Disabled, Data, Total, Quota, Apart, is_no_point, total}
+use Rattle.def_policy.specs.Rules.{ResourceName, Device, Shared, Service, Call, Rule, Only, Disabled, Data, Total, Quota, Apart, is_no_point, total}
 use Rattle.ct_policy.specs.declared.forms.Rule.{Rule as Said}
 use Rattle.ct_policy.specs.declared.forms.Rule.TheVariants as said
-use Rattle.ct_policy.specs.declared.forms.Only.{Only}
+use Rattle.ct_policy.specs.declared.forms.ResourceName.{ResourceName as SaidName}
+use Rattle.ct_policy.specs.declared.forms.ResourceName.TheVariants as name
 use Rattle.ct_policy.specs.declared.parts.Sides.{Sides}
 use Rattle.ct_policy.specs.Words.{texts}
 
@@ -37,18 +38,14 @@ sides_in text = sides_at text (prefix_len is_no_point text)
 
 -- ---- rules
 
-pub record OnlyRow : Type 0 where
-  pub name : List ℕ
-  pub owners : List (List ℕ)
-
-abbrev pub only_row : Only → OnlyRow
-only_row o = record { name = o.name.now; owners = texts o.owners.now }
+abbrev pub resource_row : SaidName → ResourceName
+resource_row (name.Device text) = Device text.now
+resource_row (name.Shared text) = Shared text.now
+resource_row (name.Service text) = Service text.now
+resource_row (name.Call compartment export) = Call compartment.now export.now
 
 abbrev pub rule_row : Said → Rule
-rule_row (said.Device name owners) = Device name.now (texts owners.now)
-rule_row (said.Shared name owners) = Shared name.now (texts owners.now)
-rule_row (said.Service name owners) = Service name.now (texts owners.now)
-rule_row (said.Call compartment export owners) = Call compartment.now export.now (texts owners.now)
+rule_row (said.Only resource owners) = Only (resource_row resource) (texts owners.now)
 rule_row (said.Disabled owners) = Disabled (texts owners.now)
 rule_row (said.Data compartment export) = Data compartment.now export.now
 rule_row (said.Total n) = Total n
@@ -60,26 +57,25 @@ owners_in [] = None
 owners_in (only ∷ owners) =
     if bytes_eq only (codes "only") && nat_lt 0 (length owners) then Some owners else None
 
-abbrev pub only_in : List (List ℕ) → Option OnlyRow
-only_in [] = None
-only_in (name ∷ rest) =
-    option_map (λ owners. record { name = name; owners = owners }) (owners_in rest)
+abbrev pub export_in : List ℕ → Option ResourceName
+export_in word = option_map (λ (s : SidesRow). Call s.compartment s.export) (sides_in word)
 
-abbrev pub device_in : List (List ℕ) → Option Rule
-device_in words = option_map (λ (o : OnlyRow). Device o.name o.owners) (only_in words)
+abbrev pub resource_in : List ℕ → List ℕ → Option ResourceName
+resource_in kind word =
+    if bytes_eq kind (codes "device") then Some (Device word)
+    else if bytes_eq kind (codes "shared") then Some (Shared word)
+    else if bytes_eq kind (codes "service") then Some (Service word)
+    else if bytes_eq kind (codes "call") then export_in word
+    else None
 
-abbrev pub shared_in : List (List ℕ) → Option Rule
-shared_in words = option_map (λ (o : OnlyRow). Shared o.name o.owners) (only_in words)
+-- both of them, or nothing
+abbrev pub only_by : Option ResourceName → Option (List (List ℕ)) → Option Rule
+only_by None owners = None
+only_by (Some resource) owners = option_map (λ os. Only resource os) owners
 
-abbrev pub service_in : List (List ℕ) → Option Rule
-service_in words = option_map (λ (o : OnlyRow). Service o.name o.owners) (only_in words)
-
-abbrev pub call_by : OnlyRow → Option Rule
-call_by o =
-    option_map (λ (s : SidesRow). Call s.compartment s.export o.owners) (sides_in o.name)
-
-abbrev pub call_in : List (List ℕ) → Option Rule
-call_in words = option_and_then call_by (only_in words)
+abbrev pub only_in : List ℕ → List (List ℕ) → Option Rule
+only_in kind [] = None
+only_in kind (word ∷ rest) = only_by (resource_in kind word) (owners_in rest)
 
 abbrev pub disabled_in : List (List ℕ) → Option Rule
 disabled_in words = option_map (λ owners. Disabled owners) (owners_in words)
@@ -101,15 +97,11 @@ apart_in _ = None
 
 abbrev pub form_by : List ℕ → List (List ℕ) → Option Rule
 form_by head words =
-    if bytes_eq head (codes "device") then device_in words
-    else if bytes_eq head (codes "shared") then shared_in words
-    else if bytes_eq head (codes "service") then service_in words
-    else if bytes_eq head (codes "call") then call_in words
-    else if bytes_eq head (codes "disabled") then disabled_in words
+    if bytes_eq head (codes "disabled") then disabled_in words
     else if bytes_eq head (codes "data") then data_in words
     else if bytes_eq head (codes "quota") then quota_in words
     else if bytes_eq head (codes "apart") then apart_in words
-    else None
+    else only_in head words
 
 abbrev pub form_of : List (List ℕ) → Option Rule
 form_of [] = None

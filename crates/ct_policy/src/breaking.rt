@@ -5,7 +5,7 @@ ghost use Rattle.def_reach.specs.Roots as roots;
 ghost use Rattle.def_policy.specs.Breaking as spec;
 ghost use Rattle.ct_policy.specs.Gates.{AreGates};
 
-use crate::kinds::{is_call, is_device, is_export, is_listed, is_quota, is_service, is_shared};
+use crate::kinds::{imports, is_export, is_listed, is_quota};
 use crate::rulings::Ruling;
 use ct_entry::{Entries, Entry, Gate, Mode, NO_GATE};
 use ct_graph::same;
@@ -51,10 +51,7 @@ fn is_held(subject: Subject, entry: Entry, gate: Gate) -> bool
     ensures { result ≡ spec.is_held subject entry gate }
 {
     match subject {
-        Subject::Device(index) => is_device(entry.kind) && entry.of == index,
-        Subject::Shared(index) => is_shared(entry.kind) && entry.of == index,
-        Subject::Service(number) => is_service(entry.kind) && entry.of == number,
-        Subject::Call(number) => is_call(entry.kind) && entry.of == number,
+        Subject::Only(resource, number) => imports(resource, entry.kind) && entry.of == number,
         Subject::Disabled => is_export(entry.kind) && is_disabled(gate.posture),
         _ => false,
     }

@@ -2,32 +2,31 @@
 
 ghost use Rattle.std.specs.Prelude.{◌≡◌, bytes_eq, option_map};
 ghost use Rattle.ct_policy.specs.Forms as spec;
-ghost use Rattle.ct_policy.specs.Forms.{only_row, rule_row};
+ghost use Rattle.ct_policy.specs.Forms.{resource_row, rule_row};
 ghost use Rattle.ct_policy.specs.Words.{texts};
 
 use crate::parts::sides_of;
 use ct_texts::number_of;
 use def_policy::MOST_TOTAL;
 
+/// What a rule keeps to some owners, by its name.
+#[derive(Clone, Copy)]
+pub(crate) enum ResourceName<'a> {
+    Device(&'a [u8]),
+    Shared(&'a [u8]),
+    Service(&'a [u8]),
+    Call(&'a [u8], &'a [u8]),
+}
+
 /// A rule, by names.
 #[derive(Clone, Copy)]
 pub(crate) enum Rule<'a> {
-    Device(&'a [u8], &'a [&'a [u8]]),
-    Shared(&'a [u8], &'a [&'a [u8]]),
-    Service(&'a [u8], &'a [&'a [u8]]),
-    Call(&'a [u8], &'a [u8], &'a [&'a [u8]]),
+    Only(ResourceName<'a>, &'a [&'a [u8]]),
     Disabled(&'a [&'a [u8]]),
     Data(&'a [u8], &'a [u8]),
     Total(u64),
     Quota(&'a [u8], u64),
     Apart(&'a [u8], &'a [u8]),
-}
-
-/// A name, and the owners after `only`.
-#[derive(Clone, Copy)]
-struct Only<'a> {
-    name: &'a [u8],
-    owners: &'a [&'a [u8]],
 }
 
 /// Whether a word is this one.
@@ -53,62 +52,49 @@ fn owners_of<'a>(words: &'a [&'a [u8]]) -> Option<&'a [&'a [u8]]>
     }
 }
 
-/// `NAME only OWNER..`
-fn only_of<'a>(words: &'a [&'a [u8]]) -> Option<Only<'a>>
-    ensures { option_map only_row result ≡ spec.only_in (texts words.now) }
+/// An export, where the name is `COMP.EXPORT`.
+fn export_of(name: &[u8]) -> Option<ResourceName<'_>>
+    ensures { option_map resource_row result ≡ spec.export_in name.now }
 {
-    match words {
-        [name, rest @ ..] => match owners_of(rest) {
-            Some(owners) => Some(Only {
-                name: *name,
-                owners,
-            }),
-            None => None,
-        },
-        _ => None,
-    }
-}
-
-/// `device NAME only OWNER..`
-fn device_of<'a>(words: &'a [&'a [u8]]) -> Option<Rule<'a>>
-    ensures { option_map rule_row result ≡ spec.device_in (texts words.now) }
-{
-    match only_of(words) {
-        Some(only) => Some(Rule::Device(only.name, only.owners)),
+    match sides_of(name) {
+        Some(sides) => Some(ResourceName::Call(sides.compartment, sides.export)),
         None => None,
     }
 }
 
-/// `shared NAME only OWNER..`
-fn shared_of<'a>(words: &'a [&'a [u8]]) -> Option<Rule<'a>>
-    ensures { option_map rule_row result ≡ spec.shared_in (texts words.now) }
+/// What has this name, by the word of its kind.
+fn resource_of<'a>(word: &[u8], name: &'a [u8]) -> Option<ResourceName<'a>>
+    ensures { option_map resource_row result ≡ spec.resource_in word.now name.now }
 {
-    match only_of(words) {
-        Some(only) => Some(Rule::Shared(only.name, only.owners)),
-        None => None,
+    if is(word, "device") {
+        return Some(ResourceName::Device(name));
     }
+    if is(word, "shared") {
+        return Some(ResourceName::Shared(name));
+    }
+    if is(word, "service") {
+        return Some(ResourceName::Service(name));
+    }
+    if is(word, "call") {
+        return export_of(name);
+    }
+    None
 }
 
-/// `service NAME only OWNER..`
-fn service_of<'a>(words: &'a [&'a [u8]]) -> Option<Rule<'a>>
-    ensures { option_map rule_row result ≡ spec.service_in (texts words.now) }
+/// `device NAME only OWNER..`, and so for each kind of resource, after its first word.
+fn only_of<'a>(word: &[u8], words: &'a [&'a [u8]]) -> Option<Rule<'a>>
+    ensures { option_map rule_row result ≡ spec.only_in word.now (texts words.now) }
 {
-    match only_of(words) {
-        Some(only) => Some(Rule::Service(only.name, only.owners)),
-        None => None,
-    }
-}
-
-/// `call COMP.EXPORT only OWNER..`
-fn call_of<'a>(words: &'a [&'a [u8]]) -> Option<Rule<'a>>
-    ensures { option_map rule_row result ≡ spec.call_in (texts words.now) }
-{
-    let only = match only_of(words) {
-        Some(only) => only,
+    let (name, rest) = match words {
+        [name, rest @ ..] => (*name, rest),
+        _ => return None,
+    };
+    let resource = match resource_of(word, name) {
+        Some(resource) => resource,
         None => return None,
     };
-    match sides_of(only.name) {
-        Some(sides) => Some(Rule::Call(sides.compartment, sides.export, only.owners)),
+    match owners_of(rest) {
+        Some(owners) => Some(Rule::Only(resource, owners)),
         None => None,
     }
 }
@@ -179,18 +165,6 @@ pub(crate) fn rule_of<'a>(words: &'a [&'a [u8]]) -> Option<Rule<'a>>
 fn rule_by<'a>(head: &[u8], words: &'a [&'a [u8]]) -> Option<Rule<'a>>
     ensures { option_map rule_row result ≡ spec.form_by head.now (texts words.now) }
 {
-    if is(head, "device") {
-        return device_of(words);
-    }
-    if is(head, "shared") {
-        return shared_of(words);
-    }
-    if is(head, "service") {
-        return service_of(words);
-    }
-    if is(head, "call") {
-        return call_of(words);
-    }
     if is(head, "disabled") {
         return disabled_of(words);
     }
@@ -203,5 +177,5 @@ fn rule_by<'a>(head: &[u8], words: &'a [&'a [u8]]) -> Option<Rule<'a>>
     if is(head, "apart") {
         return apart_of(words);
     }
-    None
+    only_of(head, words)
 }

@@ -3,9 +3,11 @@
 ghost use Rattle.std.specs.Prelude.{◌≡◌};
 ghost use Rattle.ct_entry.specs.Kinds as kinds;
 ghost use Rattle.def_policy.specs.Breaking as spec;
+ghost use Rattle.def_policy.specs.Resources.{imports};
 
 use ct_entry::{Kind, Owner};
 use ct_graph::same;
+use def_policy::Resource;
 
 /// Whether an owner is one of these.
 pub(crate) fn is_listed(owners: &[Owner], owner: Owner) -> bool
@@ -14,38 +16,15 @@ pub(crate) fn is_listed(owners: &[Owner], owner: Owner) -> bool
     owners.iter().any(|x| same(*x, owner))
 }
 
-pub(crate) fn is_device(kind: Kind) -> bool
-    ensures { result ≡ kinds.is_device kind }
+/// Whether an entry's kind is that of a resource's imports.
+pub(crate) fn imports(resource: Resource, kind: Kind) -> bool
+    ensures { result ≡ imports resource kind }
 {
-    match kind {
-        Kind::Device => true,
-        _ => false,
-    }
-}
-
-pub(crate) fn is_shared(kind: Kind) -> bool
-    ensures { result ≡ kinds.is_shared kind }
-{
-    match kind {
-        Kind::Shared => true,
-        _ => false,
-    }
-}
-
-pub(crate) fn is_service(kind: Kind) -> bool
-    ensures { result ≡ kinds.is_service kind }
-{
-    match kind {
-        Kind::Service => true,
-        _ => false,
-    }
-}
-
-pub(crate) fn is_call(kind: Kind) -> bool
-    ensures { result ≡ kinds.is_call kind }
-{
-    match kind {
-        Kind::Call => true,
+    match (resource, kind) {
+        (Resource::Device, Kind::Device) => true,
+        (Resource::Shared, Kind::Shared) => true,
+        (Resource::Service, Kind::Service) => true,
+        (Resource::Call, Kind::Call) => true,
         _ => false,
     }
 }

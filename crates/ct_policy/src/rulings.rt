@@ -4,17 +4,17 @@ ghost use Rattle.std.specs.Prelude.{◌≡◌, IfOk, option_map};
 ghost use Rattle.def_image.specs.Sound.{Sound};
 ghost use Rattle.def_policy.specs.Names as name;
 ghost use Rattle.def_policy.specs.Rulings as spec;
-ghost use Rattle.ct_policy.specs.Forms.{rule_row};
+ghost use Rattle.ct_policy.specs.Forms.{resource_row, rule_row};
 ghost use Rattle.ct_policy.specs.Words.{texts};
 
-use crate::forms::Rule;
+use crate::forms::{ResourceName, Rule};
 use crate::names::{
     compartment_named, device_named, export_named, owner_named, owners_named, shared_named,
 };
 use ct_desc_value::tables::service_of;
 use ct_entry::Owner;
 use ct_image_parts::Parts;
-use def_policy::Subject;
+use def_policy::{Resource, Subject};
 use std::alloc::{AllocError, Global};
 use std::marker::Model;
 
@@ -80,38 +80,35 @@ fn apart(owner: Option<Owner>, compartment: Option<u32>) -> Option<Subject>
     }
 }
 
-fn about_device(found: Option<u32>) -> Option<Subject>
-    ensures { result ≡ option_map (λ n. Subject.Device n) found }
+fn resource_of(name: ResourceName) -> Resource
+    ensures { result ≡ spec.resource_of (resource_row name.entry) }
 {
-    match found {
-        Some(index) => Some(Subject::Device(index)),
-        None => None,
+    match name {
+        ResourceName::Device(_) => Resource::Device,
+        ResourceName::Shared(_) => Resource::Shared,
+        ResourceName::Service(_) => Resource::Service,
+        ResourceName::Call(_, _) => Resource::Call,
     }
 }
 
-fn about_shared(found: Option<u32>) -> Option<Subject>
-    ensures { result ≡ option_map (λ n. Subject.Shared n) found }
+/// The number of what a name stands for.
+fn resource_named(parts: &Parts, name: ResourceName) -> Option<u32>
+    requires { Sound parts.now }
+    ensures { result ≡ spec.resource_named parts.now (resource_row name.entry) }
 {
-    match found {
-        Some(index) => Some(Subject::Shared(index)),
-        None => None,
+    match name {
+        ResourceName::Device(name) => device_named(parts, name),
+        ResourceName::Shared(name) => shared_named(parts, name),
+        ResourceName::Service(name) => service_of(name),
+        ResourceName::Call(compartment, export) => export_named(parts, compartment, export),
     }
 }
 
-fn about_service(found: Option<u32>) -> Option<Subject>
-    ensures { result ≡ option_map (λ n. Subject.Service n) found }
+fn about_resource(resource: Resource, found: Option<u32>) -> Option<Subject>
+    ensures { result ≡ option_map (λ n. Subject.Only resource n) found }
 {
     match found {
-        Some(number) => Some(Subject::Service(number)),
-        None => None,
-    }
-}
-
-fn about_call(found: Option<u32>) -> Option<Subject>
-    ensures { result ≡ option_map (λ n. Subject.Call n) found }
-{
-    match found {
-        Some(entry) => Some(Subject::Call(entry)),
+        Some(number) => Some(Subject::Only(resource, number)),
         None => None,
     }
 }
@@ -145,28 +142,9 @@ pub(crate) fn ruling_of(
     ensures { IfOk result (λ found. found ≡ spec.meant parts.now (rule_row rule.entry)) }
 {
     match rule {
-        Rule::Device(name, owners) => {
-            only(
-                alloc,
-                parts,
-                about_device(device_named(parts, name)),
-                owners,
-            )
-        }
-        Rule::Shared(name, owners) => {
-            only(
-                alloc,
-                parts,
-                about_shared(shared_named(parts, name)),
-                owners,
-            )
-        }
-        Rule::Service(name, owners) => {
-            only(alloc, parts, about_service(service_of(name)), owners)
-        }
-        Rule::Call(compartment, export, owners) => {
-            let entry = export_named(parts, compartment, export);
-            only(alloc, parts, about_call(entry), owners)
+        Rule::Only(name, owners) => {
+            let subject = about_resource(resource_of(name), resource_named(parts, name));
+            only(alloc, parts, subject, owners)
         }
         Rule::Disabled(owners) => only(alloc, parts, Some(Subject::Disabled), owners),
         Rule::Data(compartment, export) => {

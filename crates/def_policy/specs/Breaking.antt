@@ -4,12 +4,13 @@ use Rattle.std.specs.List.{list_any}
 use Rattle.ct_entry.specs.declared.rows.Entry.{Entry}
 use Rattle.ct_entry.specs.declared.rows.Gate.{Gate}
 use Rattle.ct_entry.specs.declared.rows.Owner.{Owner}
-use Rattle.ct_entry.specs.Kinds.{is_device, is_shared, is_call, is_service, is_quota, is_export}
+use Rattle.ct_entry.specs.Kinds.{is_quota, is_export}
 use Rattle.ct_entry.specs.Listed.{Listed}
 use Rattle.def_reach.specs.Roots.{gate_for, turns_interrupts_off}
 use Rattle.def_reach.specs.Reach.{Reached, same_owner}
 use Rattle.def_policy.specs.declared.Subject.{Subject}
-use Rattle.def_policy.specs.declared.Subject.TheVariants.{Device, Shared, Service, Call, Disabled, Data, Total, Quota, Apart}
+use Rattle.def_policy.specs.declared.Subject.TheVariants.{Only, Disabled, Data, Total, Quota, Apart}
+use Rattle.def_policy.specs.Resources.{imports}
 use Rattle.def_policy.specs.Rulings.{Ruling}
 
 -- ---- one entry
@@ -26,10 +27,7 @@ counted _ x = 0
 -- Whether an entry is one that a rule forbids to owners that it doesn't list; g is the gate of an
 -- export's entry.
 abbrev pub is_held : Subject → Entry → Gate → Bool
-is_held (Device n) x g = is_device x.kind && (x.of == n)
-is_held (Shared n) x g = is_shared x.kind && (x.of == n)
-is_held (Service n) x g = is_service x.kind && (x.of == n)
-is_held (Call n) x g = is_call x.kind && (x.of == n)
+is_held (Only resource n) x g = imports resource x.kind && (x.of == n)
 is_held Disabled x g = is_export x.kind && turns_interrupts_off g.posture
 is_held _ x g = false
 

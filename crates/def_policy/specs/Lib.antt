@@ -1,3 +1,4 @@
+pub mod Resources
 pub mod Rules
 pub mod Names
 pub mod Rulings

@@ -5,12 +5,16 @@ use Rattle.std.specs.List.{AllByRecursion, list_all}
 use Rattle.def_desc.specs.References.{export_name}
 use Rattle.def_policy.specs.declared.TheConstants.{MOST_TOTAL}
 
+-- what a line keeps to some owners, by its name
+pub data ResourceName : Type 0 where
+  Device : List ℕ → ResourceName
+  Shared : List ℕ → ResourceName
+  Service : List ℕ → ResourceName
+  Call : List ℕ → List ℕ → ResourceName
+
 -- what a line demands, by names
 pub data Rule : Type 0 where
-  Device : List ℕ → List (List ℕ) → Rule
-  Shared : List ℕ → List (List ℕ) → Rule
-  Service : List ℕ → List (List ℕ) → Rule
-  Call : List ℕ → List ℕ → List (List ℕ) → Rule
+  Only : ResourceName → List (List ℕ) → Rule
   Disabled : List (List ℕ) → Rule
   Data : List ℕ → List ℕ → Rule
   Total : ℕ → Rule
@@ -38,14 +42,30 @@ pub record IsSide (w : List ℕ) : Type 0 where
 abbrev pub total : List ℕ
 total = codes "total"
 
+-- ---- resources
+
+-- the word of its kind, and its own
+abbrev pub kind_word : ResourceName → List ℕ
+kind_word (Device name) = codes "device"
+kind_word (Shared name) = codes "shared"
+kind_word (Service name) = codes "service"
+kind_word (Call compartment export) = codes "call"
+
+abbrev pub resource_word : ResourceName → List ℕ
+resource_word (Device name) = name
+resource_word (Shared name) = name
+resource_word (Service name) = name
+resource_word (Call compartment export) = export_name compartment export
+
+abbrev pub IsNamed : ResourceName → Type 0
+IsNamed (Call compartment export) = IsSide compartment × IsSide export
+IsNamed _ = Unit {0}
+
 -- ---- rules
 
 abbrev pub words_of : Rule → List (List ℕ)
-words_of (Device name owners) = codes "device" ∷ name ∷ codes "only" ∷ owners
-words_of (Shared name owners) = codes "shared" ∷ name ∷ codes "only" ∷ owners
-words_of (Service name owners) = codes "service" ∷ name ∷ codes "only" ∷ owners
-words_of (Call compartment export owners) =
-    codes "call" ∷ export_name compartment export ∷ codes "only" ∷ owners
+words_of (Only resource owners) =
+    kind_word resource ∷ resource_word resource ∷ codes "only" ∷ owners
 words_of (Disabled owners) = codes "disabled" ∷ codes "only" ∷ owners
 words_of (Data compartment export) = codes "data" ∷ export_name compartment export ∷ []
 words_of (Total n) = codes "quota" ∷ total ∷ decimal n ∷ []
@@ -54,11 +74,7 @@ words_of (Apart owner compartment) = codes "apart" ∷ owner ∷ compartment ∷
 
 -- one owner at least; a number within its limit; `quota total` is the rule over all quotas
 abbrev pub IsFormed : Rule → Type 0
-IsFormed (Device name owners) = 0 < length owners
-IsFormed (Shared name owners) = 0 < length owners
-IsFormed (Service name owners) = 0 < length owners
-IsFormed (Call compartment export owners) =
-    IsSide compartment × IsSide export × (0 < length owners)
+IsFormed (Only resource owners) = IsNamed resource × (0 < length owners)
 IsFormed (Disabled owners) = 0 < length owners
 IsFormed (Data compartment export) = IsSide compartment × IsSide export
 IsFormed (Total n) = n ≤ MOST_TOTAL

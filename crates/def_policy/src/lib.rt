@@ -4,7 +4,7 @@
 //!
 //! Rules has the words of each rule and the text of a policy, Names what a name stands for in an
 //! image, Rulings what a rule means there, Texts which texts are policies and what is wrong with
-//! others, Breaking which entries break a rule.
+//! others, Resources which imports a rule keeps to some owners, Breaking which entries break a rule.
 #![tactic(auto)]
 
 use ct_entry::Owner;
@@ -13,17 +13,24 @@ use thiserror::Error;
 /// A rule on quotas names at most this many bytes.
 pub const MOST_TOTAL: u64 = 2_199_023_255_551;
 
+/// What a rule keeps to the owners that it lists: who may import it.
+#[derive(Clone, Copy, PartialEq, Eq, Drop)]
+pub enum Resource {
+    /// A device, by its index.
+    Device,
+    /// A shared object, by its index.
+    Shared,
+    /// A service, by the number of its native routine.
+    Service,
+    /// An export for calls, by its entry's number.
+    Call,
+}
+
 /// What a rule is about, by the numbers that its names stand for in an image.
 #[derive(Clone, Copy, PartialEq, Eq, Drop)]
 pub enum Subject {
-    /// The imports of a device, by its index.
-    Device(u32),
-    /// The imports of a shared object, by its index.
-    Shared(u32),
-    /// The imports of a service, by the number of its native routine.
-    Service(u32),
-    /// The call imports of an export, by its entry's number.
-    Call(u32),
+    /// The imports of a resource, by its number.
+    Only(Resource, u32),
     /// The exports that run with interrupts disabled.
     Disabled,
     /// What a call of an export passes, by its entry's number.

@@ -20,8 +20,10 @@ use Rattle.def_machine.specs.Objects.{charges}
 use Rattle.def_machine.specs.State.{Frame, Object, State, register, thread}
 use Rattle.def_policy.specs.Breaking.{is_listed}
 use Rattle.def_policy.specs.Rulings.{Ruling}
+use Rattle.def_policy.specs.declared.Resource.{Resource}
+use Rattle.def_policy.specs.declared.Resource.TheVariants.{Call, Device, Service, Shared}
 use Rattle.def_policy.specs.declared.Subject.{Subject}
-use Rattle.def_policy.specs.declared.Subject.TheVariants.{Apart, Call, Data, Device, Disabled, Quota, Service, Shared, Total}
+use Rattle.def_policy.specs.declared.Subject.TheVariants.{Apart, Data, Disabled, Only, Quota, Total}
 use Rattle.def_reach.specs.Roots.{Listing, is_owned, root_of}
 use Rattle.def_reach.specs.Sharing.{Reaches}
 use Rattle.def_safety.specs.Clean.{CleanEntry, TakesNone}
@@ -121,16 +123,20 @@ pub record RunsApart (p : PartsRow) (o : Owner) (c : ℕ) (es : List Event) : Ty
 
 -- ---- rules
 
--- What a rule says of a run of these events from boot. On a device: each load and store of one of its bytes is by an
--- import of it, of a listed owner that reaches who acts.
-abbrev pub KeepsOver : PartsRow → Ruling → Subject → List Event → Type 0
-KeepsOver p r (Device n) es =
+-- What a rule that keeps a resource to some owners says of a run of these events from boot. Of a device: each load and
+-- store of one of its bytes is by an import of it, of a listed owner that reaches who acts.
+abbrev pub KeepsResource : PartsRow → Ruling → Resource → ℕ → List Event → Type 0
+KeepsResource p r Device n es =
     (d : DeviceRow) → slice_get p.devices n ≡ Some d
     → AllListed (entries_of p) r n d.base (happenings_of (platform_of p) (boot_state p) es)
-KeepsOver p r (Shared n) es = RunsHoldListed p r kind.Shared n es
-KeepsOver p r (Service n) es = RunsHoldListed p r kind.Service n es
-KeepsOver p r (Call n) es =
+KeepsResource p r Shared n es = RunsHoldListed p r kind.Shared n es
+KeepsResource p r Service n es = RunsHoldListed p r kind.Service n es
+KeepsResource p r Call n es =
     AllByRecursion (IsListedCall (entries_of p) r n) (happenings_of (platform_of p) (boot_state p) es)
+
+-- what a rule says of it
+abbrev pub KeepsOver : PartsRow → Ruling → Subject → List Event → Type 0
+KeepsOver p r (Only resource n) es = KeepsResource p r resource n es
 KeepsOver p r Disabled es =
     AllByRecursion (IsListedSpan (entries_of p) r) (happenings_of (platform_of p) (boot_state p) es)
 KeepsOver p r (Data n) es =

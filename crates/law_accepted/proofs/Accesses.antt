@@ -18,7 +18,8 @@ use Rattle.def_image.specs.Sound.{Sound}
 use Rattle.def_policy.specs.Breaking.{PolicyHolds, KeepsRule, is_listed}
 use Rattle.def_policy.specs.Denials.{AllDenied}
 use Rattle.def_policy.specs.Rulings.{Ruling}
-use Rattle.def_policy.specs.declared.Subject.TheVariants.{Device}
+use Rattle.def_policy.specs.declared.Resource.TheVariants.{Device}
+use Rattle.def_policy.specs.declared.Subject.TheVariants.{Only}
 use Rattle.def_profile.specs.declared.layout.TheConstants.{DEVICE_SIZE}
 use Rattle.def_reach.specs.Roots.{Listing, TrustedPart, Unknown, gate_for, listed_root, root_of}
 use Rattle.def_step.specs.Events.{happenings_of}
@@ -29,7 +30,7 @@ use Rattle.def_program.specs.Accesses.{AllListed, IsListedDeed, MeetsDevice, Tou
 use Rattle.law_image.proofs.Sounds.{sound}
 use Rattle.def_policy.specs.Denied.{AreListed}
 use Rattle.law_policy.proofs.Denials.{holds_where}
-use Rattle.law_policy.proofs.Kept.{device_held}
+use Rattle.law_policy.proofs.Kept.{only_held}
 
 -- ---- an import that is listed
 
@@ -93,10 +94,10 @@ rule_keeps e (x ∷ xs) zero r holds is =
 rule_keeps e (x ∷ xs) (suc k) r holds is = rule_keeps e xs k r (λ j d inside. holds (suc j) d (omega (arith, inside))) is
 
 pub allowed : (p : PartsRow) (es : List Event) (rulings : List Ruling) (k : ℕ) (r : Ruling) (device : ℕ) (d : DeviceRow) → IsFaultless p → AllDenied p 1 rulings []
-    → slice_get rulings k ≡ Some r → r.subject ≡ Device device → slice_get p.devices device ≡ Some d
+    → slice_get rulings k ≡ Some r → r.subject ≡ Only Device device → slice_get p.devices device ≡ Some d
     → AllListed (entries_of p) r device d.base (happenings_of (platform_of p) (boot_state p) es)
 unfolding image_of
 allowed p es rulings k r device d f none there is stands =
     all_listed p (sound p f) r device d stands
-    (device_held (entries_of p) r device is (rule_keeps (entries_of p) rulings k r (holds_where p 1 rulings [] none refl) there))
+    (only_held (entries_of p) r Device device is (rule_keeps (entries_of p) rulings k r (holds_where p 1 rulings [] none refl) there))
     (happenings_of (platform_of p) (boot_state p) es) (licensed p es f)

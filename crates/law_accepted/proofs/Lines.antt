@@ -4,7 +4,7 @@ use Rattle.def_boot.specs.Boot.{platform_of, boot_state}
 use Rattle.def_image.specs.Accepted.{IsFaultless}
 use Rattle.def_image.specs.Parts.{PartsRow}
 use Rattle.def_policy.specs.Denials.{AllDenied}
-use Rattle.def_policy.specs.Rules.{Device, Rule}
+use Rattle.def_policy.specs.Rules.{Device, Only, Rule}
 use Rattle.def_policy.specs.Rulings.{Ruling, meant}
 use Rattle.def_policy.specs.Texts.{ReadsAsPolicy}
 use Rattle.def_step.specs.Events.{happenings_of}
@@ -57,9 +57,9 @@ kept_over_runs p es text rulings k rule faultless reads none line =
     }
 
 pub held_over_runs : (p : PartsRow) (es : List Event) (text : List ℕ) (rulings : List Ruling) (k : ℕ) (name : List ℕ) (owners : List (List ℕ)) → IsFaultless p
-    → (reads : ReadsAsPolicy p text rulings) → AllDenied p 1 rulings [] → slice_get reads.rules k ≡ Some (Device name owners)
+    → (reads : ReadsAsPolicy p text rulings) → AllDenied p 1 rulings [] → slice_get reads.rules k ≡ Some (Only (Device name) owners)
     → IsHeldDevice p name owners (happenings_of (platform_of p) (boot_state p) es)
 held_over_runs p es text rulings k name owners faultless reads none line =
-    let m = line_means p reads.rules rulings k (Device name owners) reads.meant_are line in
+    let m = line_means p reads.rules rulings k (Only (Device name) owners) reads.meant_are line in
     let on = on_device p name owners m.ruling faultless m.means in
     record { ruling = m.ruling; on = on; listed = allowed p es rulings k m.ruling on.device on.row faultless none m.there on.subject_is on.there }

@@ -28,8 +28,10 @@ use Rattle.def_machine.specs.Objects.{charges}
 use Rattle.def_machine.specs.State.{Object, State, register, thread}
 use Rattle.def_policy.specs.Breaking.{KeepsApart, KeepsRule, is_listed}
 use Rattle.def_policy.specs.Rulings.{Ruling}
+use Rattle.def_policy.specs.declared.Resource.{Resource}
+use Rattle.def_policy.specs.declared.Resource.TheVariants.{Call, Device, Service, Shared}
 use Rattle.def_policy.specs.declared.Subject.{Subject}
-use Rattle.def_policy.specs.declared.Subject.TheVariants.{Apart, Call, Data, Device, Disabled, Quota, Service, Shared, Total}
+use Rattle.def_policy.specs.declared.Subject.TheVariants.{Apart, Data, Disabled, Only, Quota, Total}
 use Rattle.def_reach.specs.Roots.{Listing, TrustedPart, Unknown, gate_for, is_owned, listed_root, root_of}
 use Rattle.def_reach.specs.Sharing.{Reaches}
 use Rattle.def_safety.specs.Accesses.{UsesReach}
@@ -41,9 +43,9 @@ use Rattle.ct_policy.specs.Kept.{IsUntrusted}
 use Rattle.law_accepted.proofs.Running as running
 use Rattle.law_boot.proofs.Holding.{holds}
 use Rattle.law_image.proofs.Sounds.{sound}
-use Rattle.def_program.specs.AllowedRuns.{ChargesKeep, EntersClean, HoldsListed, HoldsNone, IsApartEvent, IsListedCall, IsListedFor, IsListedSpan, KeepsOver, RunsApart, RunsHoldListed, charged_from}
+use Rattle.def_program.specs.AllowedRuns.{ChargesKeep, EntersClean, HoldsListed, HoldsNone, IsApartEvent, IsListedCall, IsListedFor, IsListedSpan, KeepsOver, KeepsResource, RunsApart, RunsHoldListed, charged_from}
 use Rattle.def_policy.specs.Denied.{AreDisabledListed, AreListed, PassesData, limits_counted}
-use Rattle.law_policy.proofs.Kept.{call_held, data_held, disabled_held, quota_held, service_held, shared_held, total_held}
+use Rattle.law_policy.proofs.Kept.{data_held, disabled_held, only_held, quota_held, total_held}
 use Rattle.ct_graph.proofs.Reached.{reached_of, thread_reaches_none}
 
 -- what holds of each event holds in other words
@@ -272,12 +274,15 @@ module _ (p : PartsRow) (es : List Event) (f : IsFaultless p) where
 
   -- ---- a rule of those that hold
 
-  module _ (r : Ruling) (keeps : KeepsRule e r) (untrusted : IsUntrusted r.subject) (device : (n : ℕ) → r.subject ≡ Device n → KeepsOver p r (Device n) es) where
+  module _ (r : Ruling) (keeps : KeepsRule e r) (untrusted : IsUntrusted r.subject) (device : (n : ℕ) → r.subject ≡ Only Device n → KeepsOver p r (Only Device n) es) where
+    over_resource : (resource : Resource) (n : ℕ) → r.subject ≡ Only resource n → KeepsResource p r resource n es
+    over_resource Device n is = device n is
+    over_resource Shared n is = holds_over r kind.Shared n refl (only_held e r Shared n is keeps)
+    over_resource Service n is = holds_over r kind.Service n refl (only_held e r Service n is keeps)
+    over_resource Call n is = calls_over r n (only_held e r Call n is keeps)
+
     pub over : (s : Subject) → r.subject ≡ s → KeepsOver p r s es
-    over (Device n) is = device n is
-    over (Shared n) is = holds_over r kind.Shared n refl (shared_held e r n is keeps)
-    over (Service n) is = holds_over r kind.Service n refl (service_held e r n is keeps)
-    over (Call n) is = calls_over r n (call_held e r n is keeps)
+    over (Only resource n) is = over_resource resource n is
     over Disabled is = spans_over r (disabled_held e r is keeps)
     over (Data n) is = data_over n (data_held e r n is keeps)
     over (Total n) is = total_over n (total_held e r n is keeps)

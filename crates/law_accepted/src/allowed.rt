@@ -14,7 +14,8 @@ ghost use Rattle.def_policy.specs.Rules as rule;
 ghost use Rattle.def_policy.specs.Rules.{Rule};
 ghost use Rattle.def_policy.specs.Rulings.{Ruling, meant};
 ghost use Rattle.def_policy.specs.Texts.{ReadsAsPolicy};
-ghost use Rattle.def_policy.specs.declared.Subject.TheVariants.{Device};
+ghost use Rattle.def_policy.specs.declared.Resource.TheVariants.{Device};
+ghost use Rattle.def_policy.specs.declared.Subject.TheVariants.{Only};
 ghost use Rattle.def_step.specs.Events.{happenings_of};
 ghost use Rattle.def_step.specs.declared.Event.{Event};
 ghost use Rattle.def_program.specs.Accesses.{AllListed};
@@ -25,7 +26,7 @@ ghost use Rattle.def_program.specs.Named.{IsOnDevice};
 /// name, and lists what the rule's owners stand for.
 pub fn rules_name_devices()
     ensures { (p : PartsRow) (name : List ℕ) (owners : List (List ℕ)) (r : Ruling)
-        → IsFaultless p → meant p (rule.Device name owners) ≡ Some r → IsOnDevice p name owners r }
+        → IsFaultless p → meant p (rule.Only (rule.Device name) owners) ≡ Some r → IsOnDevice p name owners r }
 {}
 
 /// Of parts without a fault, whatever their code is, and rules that nothing denies, one of which is on
@@ -36,7 +37,7 @@ pub fn allowed_devices_are_held()
     ensures { (p : PartsRow) (es : List Event) (rulings : List Ruling) (k : ℕ) (r : Ruling)
         (device : ℕ) (d : DeviceRow)
         → IsFaultless p → AllDenied p 1 rulings []
-        → slice_get rulings k ≡ Some r → r.subject ≡ Device device
+        → slice_get rulings k ≡ Some r → r.subject ≡ Only Device device
         → slice_get p.devices device ≡ Some d
         → AllListed (entries_of p) r device d.base
         (happenings_of (platform_of p) (boot_state p) es) }
@@ -65,6 +66,6 @@ pub fn policies_hold_over_runs()
     ensures device { (p : PartsRow) (es : List Event) (text : List ℕ) (rulings : List Ruling)
         (k : ℕ) (name : List ℕ) (owners : List (List ℕ))
         → IsFaultless p → (reads : ReadsAsPolicy p text rulings) → AllDenied p 1 rulings []
-        → slice_get reads.rules k ≡ Some (rule.Device name owners)
+        → slice_get reads.rules k ≡ Some (rule.Only (rule.Device name) owners)
         → IsHeldDevice p name owners (happenings_of (platform_of p) (boot_state p) es) }
 {}

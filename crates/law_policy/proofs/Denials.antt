@@ -34,10 +34,7 @@ same_reaching p line o b x y (inr m) (inl n) = absurd (n.0 m.1.0)
 same_reaching p line o b x y (inr m) (inr n) = m.1.2 ∙ ap (path_line p line) (same_path _ o b m.0 n.0 m.1.1 n.1.1) ∙ sym n.1.2
 
 same_denies : (p : PartsRow) (line : ℕ) (r : Ruling) (s : Subject) (x y : List ℕ) → Denies p line r s x → Denies p line r s y → x ≡ y
-same_denies p line r (subject.Device n) x y a b = a ∙ sym b
-same_denies p line r (subject.Shared n) x y a b = a ∙ sym b
-same_denies p line r (subject.Service n) x y a b = a ∙ sym b
-same_denies p line r (subject.Call n) x y a b = a ∙ sym b
+same_denies p line r (subject.Only resource n) x y a b = a ∙ sym b
 same_denies p line r subject.Disabled x y a b = a ∙ sym b
 same_denies p line r (subject.Data n) x y a b = a ∙ sym b
 same_denies p line r (subject.Total n) x y a b = a ∙ sym b
@@ -66,10 +63,7 @@ reaching_by p line r o b (inl l) = record { text = path_line p line l.owners; is
 reaching_by p line r o b (inr not) = record { text = []; is = inl (not, refl) }
 
 has_denies : (p : PartsRow) → IsFaultless p → (line : ℕ) (r : Ruling) (s : Subject) → IsUntrusted s → HasDenies p line r s
-has_denies p f line r (subject.Device n) u = record { text = entry_lines line (breaking (entries_of p) r); is = refl }
-has_denies p f line r (subject.Shared n) u = record { text = entry_lines line (breaking (entries_of p) r); is = refl }
-has_denies p f line r (subject.Service n) u = record { text = entry_lines line (breaking (entries_of p) r); is = refl }
-has_denies p f line r (subject.Call n) u = record { text = entry_lines line (breaking (entries_of p) r); is = refl }
+has_denies p f line r (subject.Only resource n) u = record { text = entry_lines line (breaking (entries_of p) r); is = refl }
 has_denies p f line r subject.Disabled u = record { text = entry_lines line (breaking (entries_of p) r); is = refl }
 has_denies p f line r (subject.Data n) u = record { text = entry_lines line (breaking (entries_of p) r); is = refl }
 has_denies p f line r (subject.Total n) u = record { text = entry_lines line (breaking (entries_of p) r); is = refl }
@@ -119,10 +113,7 @@ module _ (p : PartsRow) (r : Ruling) where
       absurd (omega (arith, ap length (sym found.1.2 ∙ none), line_some line (codes "path" ∷ map (name_of p) found.0)))
 
   keeps_by : (line : ℕ) (s : Subject) (text : List ℕ) → r.subject ≡ s → Denies p line r s text → text ≡ [] → KeepsRule (entries_of p) r
-  keeps_by line (subject.Device n) text is denies none = by_entries (rw is tt) line text denies none
-  keeps_by line (subject.Shared n) text is denies none = by_entries (rw is tt) line text denies none
-  keeps_by line (subject.Service n) text is denies none = by_entries (rw is tt) line text denies none
-  keeps_by line (subject.Call n) text is denies none = by_entries (rw is tt) line text denies none
+  keeps_by line (subject.Only resource n) text is denies none = by_entries (rw is tt) line text denies none
   keeps_by line subject.Disabled text is denies none = by_entries (rw is tt) line text denies none
   keeps_by line (subject.Data n) text is denies none = by_entries (rw is tt) line text denies none
   keeps_by line (subject.Total n) text is denies none = by_entries (rw is tt) line text denies none
@@ -133,10 +124,7 @@ module _ (p : PartsRow) (r : Ruling) where
   no_entries k line text is = is ∙ ap (entry_lines line) k.entries
 
   none_by : (line : ℕ) (s : Subject) (text : List ℕ) → r.subject ≡ s → KeepsRule (entries_of p) r → Denies p line r s text → text ≡ []
-  none_by line (subject.Device n) text is k denies = no_entries k line text denies
-  none_by line (subject.Shared n) text is k denies = no_entries k line text denies
-  none_by line (subject.Service n) text is k denies = no_entries k line text denies
-  none_by line (subject.Call n) text is k denies = no_entries k line text denies
+  none_by line (subject.Only resource n) text is k denies = no_entries k line text denies
   none_by line subject.Disabled text is k denies = no_entries k line text denies
   none_by line (subject.Data n) text is k denies = no_entries k line text denies
   none_by line (subject.Total n) text is k denies = no_entries k line text denies

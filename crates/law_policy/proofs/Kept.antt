@@ -8,7 +8,10 @@ use Rattle.ct_entry.specs.Kinds.{is_quota}
 use Rattle.ct_entry.specs.Listed.{Listed}
 use Rattle.def_reach.specs.Roots.{gate_for, turns_interrupts_off}
 use Rattle.def_reach.specs.Reach.{same_owner}
-use Rattle.def_policy.specs.declared.Subject.TheVariants.{Call, Data, Device, Disabled, Quota, Service, Shared, Total}
+use Rattle.def_policy.specs.declared.Resource.{Resource}
+use Rattle.def_policy.specs.declared.Resource.TheVariants.{Call, Device, Service, Shared}
+use Rattle.def_policy.specs.declared.Subject.TheVariants.{Data, Disabled, Only, Quota, Total}
+use Rattle.def_policy.specs.Resources.{imports, kind_of}
 use Rattle.def_policy.specs.Breaking.{KeepsRule, breaking, breaking_from, breaks, counted, is_listed}
 use Rattle.def_policy.specs.Rulings.{Ruling}
 use Rattle.def_policy.specs.Denied.{AreDisabledListed, AreListed, PassesData, limits_counted}
@@ -43,42 +46,22 @@ module _ (e : Listed) (r : Ruling) where
 
 -- ---- rules that name who may hold an import
 
-module _ (e : Listed) (r : Ruling) (n : ℕ) where
-  device_kept : (number : ℕ) (x : Entry) → r.subject ≡ Device n → Unbroken e r number x → x.kind ≡ kind.Device → x.of ≡ n → is_listed r.owners x.owner ≡ true
-  device_kept number x is u kind_is of_is =
-      let no_break = u.is in
-      let told : not (is_listed r.owners x.owner) ≡ false = rw (is, kind_is, of_is, eq-eqb n n refl) at no_break in
-      not-false (is_listed r.owners x.owner) told
+-- the kind of a resource's imports is of them
+own_kind : (resource : Resource) → imports resource (kind_of resource) ≡ true
+own_kind Device = refl
+own_kind Shared = refl
+own_kind Service = refl
+own_kind Call = refl
 
-  shared_kept : (number : ℕ) (x : Entry) → r.subject ≡ Shared n → Unbroken e r number x → x.kind ≡ kind.Shared → x.of ≡ n → is_listed r.owners x.owner ≡ true
-  shared_kept number x is u kind_is of_is =
-      let no_break = u.is in
-      let told : not (is_listed r.owners x.owner) ≡ false = rw (is, kind_is, of_is, eq-eqb n n refl) at no_break in
-      not-false (is_listed r.owners x.owner) told
+only_kept : (e : Listed) (r : Ruling) (resource : Resource) (n number : ℕ) (x : Entry) → r.subject ≡ Only resource n → Unbroken e r number x → x.kind ≡ kind_of resource → x.of ≡ n
+    → is_listed r.owners x.owner ≡ true
+only_kept e r resource n number x is u kind_is of_is =
+    let no_break = u.is in
+    let told : not (is_listed r.owners x.owner) ≡ false = rw (is, kind_is, own_kind resource, of_is, eq-eqb n n refl) at no_break in
+    not-false (is_listed r.owners x.owner) told
 
-  service_kept : (number : ℕ) (x : Entry) → r.subject ≡ Service n → Unbroken e r number x → x.kind ≡ kind.Service → x.of ≡ n → is_listed r.owners x.owner ≡ true
-  service_kept number x is u kind_is of_is =
-      let no_break = u.is in
-      let told : not (is_listed r.owners x.owner) ≡ false = rw (is, kind_is, of_is, eq-eqb n n refl) at no_break in
-      not-false (is_listed r.owners x.owner) told
-
-  call_kept : (number : ℕ) (x : Entry) → r.subject ≡ Call n → Unbroken e r number x → x.kind ≡ kind.Call → x.of ≡ n → is_listed r.owners x.owner ≡ true
-  call_kept number x is u kind_is of_is =
-      let no_break = u.is in
-      let told : not (is_listed r.owners x.owner) ≡ false = rw (is, kind_is, of_is, eq-eqb n n refl) at no_break in
-      not-false (is_listed r.owners x.owner) told
-
-  pub device_held : r.subject ≡ Device n → KeepsRule e r → AreListed e r kind.Device n
-  device_held is keeps k x there kind_is of_is = device_kept (suc k) x is (unbroken e r k x keeps there) kind_is of_is
-
-  pub shared_held : r.subject ≡ Shared n → KeepsRule e r → AreListed e r kind.Shared n
-  shared_held is keeps k x there kind_is of_is = shared_kept (suc k) x is (unbroken e r k x keeps there) kind_is of_is
-
-  pub service_held : r.subject ≡ Service n → KeepsRule e r → AreListed e r kind.Service n
-  service_held is keeps k x there kind_is of_is = service_kept (suc k) x is (unbroken e r k x keeps there) kind_is of_is
-
-  pub call_held : r.subject ≡ Call n → KeepsRule e r → AreListed e r kind.Call n
-  call_held is keeps k x there kind_is of_is = call_kept (suc k) x is (unbroken e r k x keeps there) kind_is of_is
+pub only_held : (e : Listed) (r : Ruling) (resource : Resource) (n : ℕ) → r.subject ≡ Only resource n → KeepsRule e r → AreListed e r (kind_of resource) n
+only_held e r resource n is keeps k x there kind_is of_is = only_kept e r resource n (suc k) x is (unbroken e r k x keeps there) kind_is of_is
 
 -- ---- rules on exports
 

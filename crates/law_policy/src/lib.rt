@@ -4,7 +4,6 @@
 #![tactic(auto)]
 
 ghost use Rattle.std.specs.Prelude.{ℕ, ◌≡◌, ◌≤◌, ◌↔◌, List, []};
-ghost use Rattle.ct_entry.specs.declared.rows.Kind.TheVariants as kind;
 ghost use Rattle.ct_entry.specs.declared.rows.Owner.{Owner};
 ghost use Rattle.ct_entry.specs.Listed.{Listed};
 ghost use Rattle.def_boot.specs.Gates.{entries_of};
@@ -12,9 +11,11 @@ ghost use Rattle.def_image.specs.Accepted.{IsFaultless};
 ghost use Rattle.def_image.specs.Parts.{PartsRow};
 ghost use Rattle.def_policy.specs.Breaking.{PolicyHolds, KeepsRule};
 ghost use Rattle.def_policy.specs.Denials.{AllDenied};
+ghost use Rattle.def_policy.specs.Resources.{kind_of};
 ghost use Rattle.def_policy.specs.Rulings.{Ruling};
 ghost use Rattle.def_policy.specs.Texts.{IsPolicyFault, ReadsAsPolicy};
-ghost use Rattle.def_policy.specs.declared.Subject.TheVariants.{Call, Data, Device, Disabled, Quota, Service, Shared, Total};
+ghost use Rattle.def_policy.specs.declared.Resource.{Resource};
+ghost use Rattle.def_policy.specs.declared.Subject.TheVariants.{Data, Disabled, Only, Quota, Total};
 ghost use Rattle.def_policy.specs.Denied.{AreDisabledListed, AreListed, HasDenials, ReadsOrHasFault, PassesData, limits_counted};
 
 /// Any text is a policy of an image, or has a fault; never both. It says the same rules each time, and
@@ -45,14 +46,8 @@ pub fn denials_are_exact()
 /// interrupts off; an export that is to pass data passes no capabilities; and the limits of all quotas, or
 /// of an owner's, sum to no more than the rule allows.
 pub fn rules_are_kept()
-    ensures device { (e : Listed) (r : Ruling) (n : ℕ)
-        → r.subject ≡ Device n → KeepsRule e r → AreListed e r kind.Device n }
-    ensures shared { (e : Listed) (r : Ruling) (n : ℕ)
-        → r.subject ≡ Shared n → KeepsRule e r → AreListed e r kind.Shared n }
-    ensures service { (e : Listed) (r : Ruling) (n : ℕ)
-        → r.subject ≡ Service n → KeepsRule e r → AreListed e r kind.Service n }
-    ensures call { (e : Listed) (r : Ruling) (n : ℕ)
-        → r.subject ≡ Call n → KeepsRule e r → AreListed e r kind.Call n }
+    ensures resources { (e : Listed) (r : Ruling) (resource : Resource) (n : ℕ)
+        → r.subject ≡ Only resource n → KeepsRule e r → AreListed e r (kind_of resource) n }
     ensures disabled { (e : Listed) (r : Ruling)
         → r.subject ≡ Disabled → KeepsRule e r → AreDisabledListed e r }
     ensures passing { (e : Listed) (r : Ruling) (n : ℕ)

@@ -1,12 +1,9 @@
-use Rattle.law_policy.proofs.Kept.{call_held, data_held, device_held, disabled_held, quota_held, service_held, shared_held, total_held}
+use Rattle.law_policy.proofs.Kept.{data_held, disabled_held, only_held, quota_held, total_held}
 use Rattle.law_policy.proofs.rules_are_kept.Goals as goal
 
 pub returns : goal.returns
 returns c = record {
-  device = device_held;
-  shared = shared_held;
-  service = service_held;
-  call = call_held;
+  resources = only_held;
   disabled = disabled_held;
   passing = data_held;
   total = total_held;
