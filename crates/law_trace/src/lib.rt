@@ -7,8 +7,8 @@ ghost use Rattle.ct_entry.specs.declared.acts.End.TheVariants.{Limit, Finished, 
 ghost use Rattle.def_trace.specs.Trace.{deed_line, off_line, summary_line};
 ghost use Rattle.def_trace.specs.Quiet.{quiet};
 
-/// A store and a load of a serial port, a call, an allocation, a free, a trap, a span with
-/// interrupts off.
+/// A store and a load of a serial port, a call, an allocation, a free, a trap, a span with interrupts off. And the
+/// summaries of runs that end at a limit, by all threads' end, and with none to run.
 pub fn lines_are_written()
     ensures store { deed_line 4
         (record { thread = 0; actor = 0; entry = 4; act = Store 0x10000000 4 65 })
@@ -31,10 +31,6 @@ pub fn lines_are_written()
         ≡ codes "2 trap t0 c0 28 2 5" ++ 10 ∷ [] }
     ensures off { off_line 3 (record { thread = 0; actor = 0; export = 7 })
         ≡ codes "3 off t0 c0 e7" ++ 10 ∷ [] }
-{}
-
-/// Runs that end at a limit, by all threads' end, and with none to run.
-pub fn summaries_are_written()
     ensures limit { summary_line (quiet Limit 3)
         ≡ codes "end limit steps 3 ticks 0 calls 0 devices 0 allocations 0 frees 0 traps 0" ++ 10 ∷ [] }
     ensures finished { summary_line

@@ -1,6 +1,6 @@
 use Rattle.std.proofs.Common.{refl}
 use Rattle.std.specs.Fmt.{digits}
-use Rattle.def_trace.specs.Trace.{deed_line, off_line}
+use Rattle.def_trace.specs.Trace.{deed_line, off_line, summary_line}
 use Rattle.law_trace.proofs.lines_are_written.Goals as goal
 
 pub returns-clause-store : goal.returns-clause-store
@@ -34,3 +34,15 @@ returns-clause-trap c = refl
 pub returns-clause-off : goal.returns-clause-off
 unfolding off_line digits
 returns-clause-off c = refl
+
+pub returns-clause-limit : goal.returns-clause-limit
+unfolding summary_line digits
+returns-clause-limit c = refl
+
+pub returns-clause-finished : goal.returns-clause-finished
+unfolding summary_line digits
+returns-clause-finished c = refl
+
+pub returns-clause-idle : goal.returns-clause-idle
+unfolding summary_line digits
+returns-clause-idle c = refl
