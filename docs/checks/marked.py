@@ -202,16 +202,14 @@ MARKED = {
     "ct_machine": {
         "inner": "Known::of Machine::lawful Machine::totals",
     },
-    "law_program": {
+    "law_tables": {
         "table":
-            "choices_of_descriptions services_by_name numbers_of_demo limits_of_files limits_of_ram "
-            "limits_of_versions limits_of_lists limits_of_numbers native_routines answers_of_routines "
-            "numbers_of_traps types_of_seals places_in_ram sizes_in_images members_of_firmware "
-            "members_of_objects members_of_compartments members_of_libraries order_of_lists bytes_of_names "
-            "ranges_meet rights_of_kinds rights_by_letters words_of_roots mnemonics_of_integers "
-            "mnemonics_of_memory mnemonics_of_capabilities pseudo_instructions names_of_registers "
-            "reaches_of_statements statuses_by_number kinds_in_images",
-        "part": "image_then_run upgrade_then_run upgrade_reports_alike",
+            "bytes_of_names choices_of_descriptions limits_of_files limits_of_images members_of_descriptions "
+            "names_of_registers native_routines numbers_in_images numbers_of_demo numbers_of_traps places_in_ram "
+            "ranges_meet rights_of_kinds types_of_seals words_of_statements",
+    },
+    "law_program": {
+        "table": "numbers_of_the_program",
         "instance": "samples_are_told",
     },
     "ct_run": {

@@ -6,9 +6,12 @@ ghost use Rattle.def_desc.specs.declared.tables.Shape.TheVariants as shape;
 ghost use Rattle.def_desc.specs.declared.tables.Choice.TheVariants as choice;
 ghost use Rattle.def_desc.specs.Tables.{row, inner, members_of, outer_lists, inner_lists};
 
-/// The firmware, RAM and threads.
-#[tactic(auto, unfolding(def_desc::specs::Tables::members_of))]
-pub fn members_of_firmware()
+/// The members of the firmware, RAM and threads; of devices, shared and sealed objects; of compartments, their
+/// imports, quotas and exports (a key is a number, and has none); of libraries, their imports and exports. And the
+/// lists of a description after the firmware and RAM, and those of a compartment and of a library after it, in the
+/// order in which they are judged.
+#[tactic(auto, unfolding(def_desc::specs::Tables::members_of, def_desc::specs::Tables::outer_lists, def_desc::specs::Tables::inner_lists))]
+pub fn members_of_descriptions()
     ensures firmware { members_of part.Firmware
         ≡ row (codes "firmware") shape.Text true
         ∷ row (codes "version") (shape.Number 1 2) false
@@ -30,11 +33,6 @@ pub fn members_of_firmware()
         ∷ row (codes "priority") (shape.Number 0 15) true
         ∷ row (codes "stack") (shape.Multiple 256 32752) true
         ∷ row (codes "frames") (shape.Number 1 96) true ∷ [] }
-{}
-
-/// Devices, shared and sealed objects.
-#[tactic(auto, unfolding(def_desc::specs::Tables::members_of))]
-pub fn members_of_objects()
     ensures device { members_of part.Device
         ≡ row (codes "name") shape.Text true
         ∷ row (codes "kind") (shape.Among choice.Kind) true
@@ -46,11 +44,6 @@ pub fn members_of_objects()
         ≡ row (codes "name") shape.Text true
         ∷ row (codes "type") (shape.Number 13 15) true
         ∷ row (codes "bytes") (shape.Bytes 1 1048576) true ∷ [] }
-{}
-
-/// Compartments, their imports, quotas and exports; a key is a number, and has none.
-#[tactic(auto, unfolding(def_desc::specs::Tables::members_of))]
-pub fn members_of_compartments()
     ensures compartment { members_of part.Compartment
         ≡ row (codes "name") shape.Text true
         ∷ row (codes "code") shape.Code true
@@ -78,42 +71,31 @@ pub fn members_of_compartments()
         ∷ row (codes "args") (shape.Number 0 6) false
         ∷ row (codes "stack") (shape.Number 0 32752) false
         ∷ row (codes "passes") (shape.Among choice.Passes) false ∷ [] }
-{}
-
-/// Libraries, their imports and exports.
-#[tactic(auto, unfolding(def_desc::specs::Tables::members_of))]
-pub fn members_of_libraries()
     ensures library { members_of part.Library
         ≡ row (codes "name") shape.Text true
         ∷ row (codes "code") shape.Code true
         ∷ row (codes "imports") (shape.List 128) false
         ∷ row (codes "exports") (shape.List 64) false ∷ [] }
-    ensures import { members_of part.Limport
+    ensures library_import { members_of part.Limport
         ≡ row (codes "as") shape.Text true
         ∷ row (codes "library") shape.Text true ∷ [] }
-    ensures export { members_of part.Lexport
+    ensures library_export { members_of part.Lexport
         ≡ row (codes "name") shape.Text true
         ∷ row (codes "at") shape.Offset true
         ∷ row (codes "posture") (shape.Among choice.LibraryPosture) false ∷ [] }
-{}
-
-/// The lists of a description after the firmware and RAM, and those of a compartment and of a library
-/// after it, in the order in which they are judged.
-#[tactic(auto, unfolding(def_desc::specs::Tables::outer_lists, def_desc::specs::Tables::inner_lists))]
-pub fn order_of_lists()
-    ensures firmware { outer_lists
+    ensures firmware_lists { outer_lists
         ≡ inner part.Device (codes "devices")
         ∷ inner part.Shared (codes "shared")
         ∷ inner part.Sealed (codes "sealed")
         ∷ inner part.Compartment (codes "compartments")
         ∷ inner part.Library (codes "libraries")
         ∷ inner part.Thread (codes "threads") ∷ [] }
-    ensures compartment { inner_lists part.Compartment
+    ensures compartment_lists { inner_lists part.Compartment
         ≡ inner part.Import (codes "imports")
         ∷ inner part.Quota (codes "quotas")
         ∷ inner part.Key (codes "keys")
         ∷ inner part.Export (codes "exports") ∷ [] }
-    ensures library { inner_lists part.Library
+    ensures library_lists { inner_lists part.Library
         ≡ inner part.Limport (codes "imports")
         ∷ inner part.Lexport (codes "exports") ∷ [] }
 {}

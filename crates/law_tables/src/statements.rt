@@ -21,10 +21,13 @@ ghost use Rattle.def_source.specs.declared.words.Head.TheVariants as head;
 ghost use Rattle.def_source.specs.declared.words.TheConstants.{DIRECTIVES, HEADS, REGISTERS};
 ghost use Rattle.def_source.specs.Source.{directive_of, head_of, register_of};
 
-/// Integer instructions, and branches; 96 words begin a statement in all, these and those below.
-#[tactic(auto, unfolding(def_source::specs::Source::head_of))]
-pub fn mnemonics_of_integers()
-    ensures registers { map head_of
+/// Integer instructions, and branches; 96 words begin a statement in all. Loads and stores, with and without a leading
+/// `c`; the three instructions with an upper immediate. Capability instructions: of two registers, of an immediate, and
+/// of one source. Jumps, words without operands, pseudo instructions, and directives. And how far back a branch and a
+/// jump reach, and the greatest alignment, in bytes.
+#[tactic(auto, unfolding(def_source::specs::Source::head_of, def_source::specs::Source::directive_of))]
+pub fn words_of_statements()
+    ensures integer_registers { map head_of
         (codes "add" ∷ codes "sub" ∷ codes "sll" ∷ codes "slt" ∷ codes "sltu" ∷ codes "xor"
         ∷ codes "srl" ∷ codes "sra" ∷ codes "or" ∷ codes "and" ∷ codes "mul" ∷ codes "mulh"
         ∷ codes "mulhsu" ∷ codes "mulhu" ∷ codes "div" ∷ codes "divu" ∷ codes "rem"
@@ -34,7 +37,7 @@ pub fn mnemonics_of_integers()
         ∷ integer.Srl ∷ integer.Sra ∷ integer.Or ∷ integer.And ∷ integer.Mul ∷ integer.Mulh
         ∷ integer.Mulhsu ∷ integer.Mulhu ∷ integer.Div ∷ integer.Divu ∷ integer.Rem
         ∷ integer.Remu ∷ []) }
-    ensures immediates { map head_of
+    ensures integer_immediates { map head_of
         (codes "addi" ∷ codes "slti" ∷ codes "sltiu" ∷ codes "xori" ∷ codes "ori"
         ∷ codes "andi" ∷ [])
         ≡ map (λ o. Some (head.Immediate (immediate.Signed o)))
@@ -47,11 +50,6 @@ pub fn mnemonics_of_integers()
         ≡ map (λ o. Some (head.Branch o))
         (branch.Beq ∷ branch.Bne ∷ branch.Blt ∷ branch.Bge ∷ branch.Bltu ∷ branch.Bgeu ∷ []) }
     ensures words { length HEADS ≡ 96 }
-{}
-
-/// Loads and stores, with and without a leading `c`; the three instructions with an upper immediate.
-#[tactic(auto, unfolding(def_source::specs::Source::head_of))]
-pub fn mnemonics_of_memory()
     ensures loads { map head_of
         (codes "lb" ∷ codes "lh" ∷ codes "lw" ∷ codes "clc" ∷ codes "lbu" ∷ codes "lhu" ∷ [])
         ≡ map (λ o. Some (head.Load o))
@@ -66,12 +64,7 @@ pub fn mnemonics_of_memory()
         ≡ map (λ o. Some (head.Store o)) (store.Sb ∷ store.Sh ∷ store.Sw ∷ []) }
     ensures upper { map head_of (codes "lui" ∷ codes "auipcc" ∷ codes "auicgp" ∷ [])
         ≡ map (λ o. Some (head.Upper o)) (upper.Lui ∷ upper.AuiPcc ∷ upper.AuiCgp ∷ []) }
-{}
-
-/// Capability instructions: of two registers, of an immediate, and of one source.
-#[tactic(auto, unfolding(def_source::specs::Source::head_of))]
-pub fn mnemonics_of_capabilities()
-    ensures registers { map head_of
+    ensures capability_registers { map head_of
         (codes "csetbounds" ∷ codes "csetboundsexact" ∷ codes "cseal" ∷ codes "cunseal"
         ∷ codes "candperm" ∷ codes "csetaddr" ∷ codes "cincaddr" ∷ codes "csub"
         ∷ codes "csethigh" ∷ codes "ctestsubset" ∷ codes "csetequalexact" ∷ [])
@@ -80,10 +73,10 @@ pub fn mnemonics_of_capabilities()
         ∷ capability.CUnseal ∷ capability.CAndPerm ∷ capability.CSetAddr ∷ capability.CIncAddr
         ∷ capability.CSub ∷ capability.CSetHigh ∷ capability.CTestSubset
         ∷ capability.CSetEqualExact ∷ []) }
-    ensures immediates { map head_of (codes "cincaddrimm" ∷ codes "csetboundsimm" ∷ [])
+    ensures capability_immediates { map head_of (codes "cincaddrimm" ∷ codes "csetboundsimm" ∷ [])
         ≡ map (λ o. Some (head.Immediate o))
         (immediate.CIncAddrImm ∷ immediate.CSetBoundsImm ∷ []) }
-    ensures sources { map head_of
+    ensures capability_sources { map head_of
         (codes "cgetperm" ∷ codes "cgettype" ∷ codes "cgetbase" ∷ codes "cgetlen"
         ∷ codes "cgettag" ∷ codes "crrl" ∷ codes "cram" ∷ codes "cmove" ∷ codes "ccleartag"
         ∷ codes "cgetaddr" ∷ codes "cgethigh" ∷ codes "cgettop" ∷ [])
@@ -91,11 +84,6 @@ pub fn mnemonics_of_capabilities()
         (source.CGetPerm ∷ source.CGetType ∷ source.CGetBase ∷ source.CGetLen ∷ source.CGetTag
         ∷ source.Crrl ∷ source.Cram ∷ source.CMove ∷ source.CClearTag ∷ source.CGetAddr
         ∷ source.CGetHigh ∷ source.CGetTop ∷ []) }
-{}
-
-/// Jumps, words without operands, pseudo instructions, and directives.
-#[tactic(auto, unfolding(def_source::specs::Source::head_of, def_source::specs::Source::directive_of))]
-pub fn pseudo_instructions()
     ensures jumps { map head_of (codes "jal" ∷ codes "cjalr" ∷ [])
         ≡ Some head.Jal ∷ Some head.RegisterJump ∷ [] }
     ensures bare { map head_of (codes "fence" ∷ codes "ecall" ∷ codes "ebreak" ∷ [])
@@ -114,7 +102,10 @@ pub fn pseudo_instructions()
         ≡ map (λ d. Some d)
         (directive.Text ∷ directive.Data ∷ directive.Word ∷ directive.Byte ∷ directive.Zero
         ∷ directive.Align ∷ []) }
-    ensures no_other { length DIRECTIVES ≡ 6 }
+    ensures no_other_directive { length DIRECTIVES ≡ 6 }
+    ensures branch_reach { BRANCH_REACH ≡ 4096 }
+    ensures jump_reach { JUMP_REACH ≡ 1048576 }
+    ensures alignment { MOST_ALIGNMENT ≡ 4096 }
 {}
 
 /// Registers by their names, with and without a leading `c`, and by their numbers, also those that
@@ -148,11 +139,4 @@ pub fn names_of_registers()
         ∷ codes "x30" ∷ codes "x31" ∷ [])
         ≡ map (λ n. Some n) (range_with_len 0 32) }
     ensures no_other { length REGISTERS ≡ 96 }
-{}
-
-/// How far back a branch and a jump reach, and the greatest alignment, in bytes.
-pub fn reaches_of_statements()
-    ensures branch { BRANCH_REACH ≡ 4096 }
-    ensures jump { JUMP_REACH ≡ 1048576 }
-    ensures alignment { MOST_ALIGNMENT ≡ 4096 }
 {}

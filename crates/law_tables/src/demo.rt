@@ -3,10 +3,9 @@
 ghost use Rattle.std.specs.Prelude.{◌≡◌, [], ◌∷◌, map, true, false};
 ghost use Rattle.def_gen.specs.declared.TheConstants as gen;
 ghost use Rattle.def_gen.specs.Numbers.{count_of, following, globals_of, passes_data, object_size};
-ghost use Rattle.def_program.specs.declared.TheConstants.{DEMO_STEPS};
 
 /// How many compartments a number gives, the row of numbers, what a compartment has by its number, RAM,
-/// quantum, serial port, quota, exports and threads, and the steps of a run.
+/// quantum, serial port, quota, exports and threads.
 pub fn numbers_of_demo()
     ensures counts { map count_of (0 ∷ 62 ∷ 63 ∷ []) ≡ 2 ∷ 64 ∷ 2 ∷ [] }
     ensures row { map following (0 ∷ 1 ∷ []) ≡ 1013904223 ∷ 1015568748 ∷ [] }
@@ -19,5 +18,4 @@ pub fn numbers_of_demo()
     ensures quota { gen.QUOTA ≡ 4096 }
     ensures export { gen.ARGUMENTS ∷ gen.EXPORT_STACK ∷ [] ≡ 1 ∷ 64 ∷ [] }
     ensures thread { gen.PRIORITY ∷ gen.THREAD_STACK ∷ [] ≡ 1 ∷ 8192 ∷ [] }
-    ensures steps { DEMO_STEPS ≡ 100000 }
 {}

@@ -1,5 +1,4 @@
-//! The numbers of the machine: native routines and what they answer, traps, seals, how RAM and images
-//! are laid out.
+//! The numbers of the machine: native routines and what they answer, traps, seals, how RAM is laid out.
 
 ghost use Rattle.std.specs.Prelude.{◌≡◌, [], ◌∷◌};
 ghost use Rattle.def_native.specs.declared.TheConstants as routine;
@@ -9,11 +8,10 @@ ghost use Rattle.def_profile.specs.declared.native.TheConstants as native;
 ghost use Rattle.def_profile.specs.declared.seals.TheConstants as seal;
 ghost use Rattle.def_profile.specs.declared.traps.TheConstants as trap;
 ghost use Rattle.def_profile.specs.Areas.{area_length};
-ghost use Rattle.def_image.specs.declared.format.TheConstants as format;
-ghost use Rattle.def_image.specs.Spelling.{magic};
 
 /// Where native routines stand, and their numbers: the switch, the return, yield, sleep, wait, wake,
-/// allocate, free, remaining, and the four of tokens.
+/// allocate, free, remaining, and the four of tokens. What they answer where they refuse, negated, and
+/// what a caller gets of a callee that trapped.
 pub fn native_routines()
     ensures base { native.NATIVE_BASE ≡ 0x00010000 }
     ensures end { native.NATIVE_END ≡ 0x00011000 }
@@ -27,15 +25,11 @@ pub fn native_routines()
         ∷ [] ≡ 9 ∷ 10 ∷ 11 ∷ 12 ∷ [] }
     ensures last { routine.LAST_NATIVE ≡ 12 }
     ensures return_entry { native.RETURN_ENTRY ≡ 0x00010010 }
-{}
-
-/// What routines answer where they refuse, negated; what a caller gets of a callee that trapped.
-pub fn answers_of_routines()
-    ensures heap { answer.NO_QUOTA ∷ answer.PAST_LIMIT ∷ answer.NO_PLACE ∷ answer.NO_SIZE
+    ensures heap_answers { answer.NO_QUOTA ∷ answer.PAST_LIMIT ∷ answer.NO_PLACE ∷ answer.NO_SIZE
         ∷ answer.NO_PLACE_YET ∷ answer.NO_OBJECT ∷ [] ≡ 1 ∷ 2 ∷ 3 ∷ 4 ∷ 5 ∷ 6 ∷ [] }
-    ensures tokens { answer.NO_KEY ∷ answer.NO_TOKEN ∷ [] ≡ 7 ∷ 8 ∷ [] }
-    ensures calls { answer.NO_STACK ∷ answer.TOO_DEEP ∷ [] ≡ 11 ∷ 12 ∷ [] }
-    ensures waits { answer.DIFFERS ≡ 21 }
+    ensures token_answers { answer.NO_KEY ∷ answer.NO_TOKEN ∷ [] ≡ 7 ∷ 8 ∷ [] }
+    ensures call_answers { answer.NO_STACK ∷ answer.TOO_DEEP ∷ [] ≡ 11 ∷ 12 ∷ [] }
+    ensures wait_answers { answer.DIFFERS ≡ 21 }
     ensures unwound { answer.UNWOUND ≡ 0xFFFFFFFF }
 {}
 
@@ -75,15 +69,4 @@ pub fn places_in_ram()
     ensures frame { area_length 1 ≡ 224 }
     ensures chunk { layout.CHUNK_HEAD ≡ 8 }
     ensures device { layout.DEVICE_SIZE ≡ 16 }
-{}
-
-/// Bytes of an image's parts: header, device, shared object, and of sealed object, compartment and
-/// library what stands before their bytes and tables; a slot or export; a thread. And the first four.
-pub fn sizes_in_images()
-    ensures header { format.HEADER ≡ 84 }
-    ensures objects { format.DEVICE ∷ format.SHARED ∷ format.SEALED_HEAD ∷ [] ≡ 40 ∷ 40 ∷ 48 ∷ [] }
-    ensures owners { format.COMPARTMENT_HEAD ∷ format.LIBRARY_HEAD ∷ format.THREAD ∷ []
-        ≡ 68 ∷ 52 ∷ 56 ∷ [] }
-    ensures entry { format.ENTRY ≡ 48 }
-    ensures magic { magic ≡ 0x43 ∷ 0x54 ∷ 0x46 ∷ 0x57 ∷ [] }
 {}

@@ -1,4 +1,4 @@
-//! The rights of each kind of report entry, by the names of permissions.
+//! The rights of each kind of report entry, by the names of permissions, and those of the roots.
 
 ghost use Rattle.std.specs.Prelude.{◌≡◌, [], ◌∷◌, map, codes};
 ghost use Rattle.def_profile.specs.declared.rights.TheConstants as right;
@@ -6,7 +6,9 @@ ghost use Rattle.def_image.specs.Rights.{device_rights, carrying_rights};
 ghost use Rattle.def_report.specs.Rights.{rights_text};
 
 /// The twelve permissions in bit order, and what boot makes: code, globals and stacks; services, sealed
-/// objects, exports, quotas and keys; and what an allocation gives.
+/// objects, exports, quotas and keys; and what an allocation gives. The rights that a device's import may
+/// have, R, W and RW, and those that a shared object's may have besides, RC, WC and RWC. And the high words
+/// of the three roots.
 #[tactic(auto, unfolding(def_report::specs::Rights::rights_text))]
 pub fn rights_of_kinds()
     ensures bits { map rights_text
@@ -24,21 +26,11 @@ pub fn rights_of_kinds()
     ensures export { rights_text right.EXPORT_RIGHTS ≡ codes "GL LD" }
     ensures quota { rights_text right.QUOTA_RIGHTS ≡ codes "GL LD" }
     ensures key { rights_text right.KEY_RIGHTS ≡ codes "GL US SE" }
-{}
-
-/// The rights that a device's import may have, R, W and RW, and those that a shared object's may have
-/// besides, RC, WC and RWC.
-#[tactic(auto, unfolding(def_report::specs::Rights::rights_text))]
-pub fn rights_by_letters()
-    ensures device { map rights_text device_rights
+    ensures device_letters { map rights_text device_rights
         ≡ codes "GL LD" ∷ codes "GL SD" ∷ codes "GL SD LD" ∷ [] }
-    ensures shared { map rights_text carrying_rights
+    ensures shared_letters { map rights_text carrying_rights
         ≡ codes "GL LG LM LD MC" ∷ codes "GL SD MC" ∷ codes "GL LG SD LM LD MC" ∷ [] }
-{}
-
-/// The high words of the three roots.
-pub fn words_of_roots()
-    ensures memory { right.MEMORY_ROOT ≡ 0x7E3C0100 }
-    ensures executable { right.EXECUTABLE_ROOT ≡ 0x5E3C0100 }
-    ensures sealing { right.SEALING_ROOT ≡ 0x4E3C0100 }
+    ensures memory_root { right.MEMORY_ROOT ≡ 0x7E3C0100 }
+    ensures executable_root { right.EXECUTABLE_ROOT ≡ 0x5E3C0100 }
+    ensures sealing_root { right.SEALING_ROOT ≡ 0x4E3C0100 }
 {}

@@ -9,8 +9,9 @@ ghost use Rattle.def_desc.specs.declared.tables.TheConstants.{KINDS, POSTURES, L
 ghost use Rattle.def_desc.specs.Tables.{kind_of, posture_of, library_posture_of, passes_of, service_of, form_names, righted_names, code_names, device_rights, shared_rights};
 
 /// Kinds of devices, postures, what exports pass, the members of which an import and a code have one,
-/// rights by letters, and the quantum where none is given.
-#[tactic(auto, unfolding(def_desc::specs::Tables::kind_of, def_desc::specs::Tables::posture_of, def_desc::specs::Tables::library_posture_of, def_desc::specs::Tables::passes_of, def_desc::specs::Tables::form_names, def_desc::specs::Tables::righted_names, def_desc::specs::Tables::code_names, def_desc::specs::Tables::device_rights, def_desc::specs::Tables::shared_rights))]
+/// rights by letters, the quantum where none is given, and the services that an import may name, by the
+/// numbers of their routines.
+#[tactic(auto, unfolding(def_desc::specs::Tables::kind_of, def_desc::specs::Tables::posture_of, def_desc::specs::Tables::library_posture_of, def_desc::specs::Tables::passes_of, def_desc::specs::Tables::form_names, def_desc::specs::Tables::righted_names, def_desc::specs::Tables::code_names, def_desc::specs::Tables::device_rights, def_desc::specs::Tables::shared_rights, def_desc::specs::Tables::service_of))]
 pub fn choices_of_descriptions()
     ensures kinds { map kind_of (codes "uart" ∷ codes "timer" ∷ codes "gpio" ∷ [])
         ≡ Some Uart ∷ Some Timer ∷ Some Gpio ∷ [] }
@@ -33,18 +34,14 @@ pub fn choices_of_descriptions()
     ensures shared { shared_rights ≡ codes "R" ∷ codes "W" ∷ codes "RW"
         ∷ codes "RC" ∷ codes "WC" ∷ codes "RWC" ∷ [] }
     ensures quantum { QUANTUM ≡ 100 }
-{}
-
-/// The services that an import may name, by the numbers of their routines.
-#[tactic(auto, unfolding(def_desc::specs::Tables::service_of))]
-pub fn services_by_name()
-    ensures turns { map service_of
+    ensures turn_services { map service_of
         (codes "yield" ∷ codes "sleep" ∷ codes "wait" ∷ codes "wake" ∷ [])
         ≡ Some 2 ∷ Some 3 ∷ Some 4 ∷ Some 5 ∷ [] }
-    ensures heap { map service_of (codes "allocate" ∷ codes "free" ∷ codes "remaining" ∷ [])
+    ensures heap_services { map service_of
+        (codes "allocate" ∷ codes "free" ∷ codes "remaining" ∷ [])
         ≡ Some 6 ∷ Some 7 ∷ Some 8 ∷ [] }
-    ensures tokens { map service_of
+    ensures token_services { map service_of
         (codes "token_key" ∷ codes "token_new" ∷ codes "token_open" ∷ codes "token_free" ∷ [])
         ≡ Some 9 ∷ Some 10 ∷ Some 11 ∷ Some 12 ∷ [] }
-    ensures no_other { length SERVICES ≡ 11 }
+    ensures no_other_service { length SERVICES ≡ 11 }
 {}
