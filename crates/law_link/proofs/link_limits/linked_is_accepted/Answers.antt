@@ -1,5 +1,8 @@
-use Rattle.law_link.proofs.Whole.{written, alone, no_fault_written}
-use Rattle.law_link.proofs.link_limits.written_is_accepted.Goals as goal
+use Rattle.law_link.proofs.Whole.{faultless, written, alone, no_fault_written}
+use Rattle.law_link.proofs.link_limits.linked_is_accepted.Goals as goal
+
+pub returns-clause-parts : goal.returns-clause-parts
+returns-clause-parts c = faultless
 
 pub returns-clause-image : goal.returns-clause-image
 returns-clause-image c = written
