@@ -92,14 +92,10 @@ MARKED = {
         "inner": "parts_of copied sealed_bytes compartment_bytes library_bytes places_of fields_come_back written",
     },
     "law_image_samples": {
-        "instance":
-            "limits_fail regions_fail indexes_fail board_stands board_regions board_boots tiny_boots "
-            "whole_boots tiny_spelled tiny_stands upgraded_stands upgraded_fail whole_stands "
-            "whole_limits_fail whole_regions_fail whole_indexes_fail whole_rights_fail",
-        "table": "rights_fail",
+        "instance": "tiny_stands tiny_altered board_stands whole_stands whole_altered",
     },
     "law_answers": {
-        "instance": "cut_answers limit_answers region_answers index_answers right_answers later_answers",
+        "instance": "answers_to_tiny",
     },
     "ct_image": {
         "inner":
@@ -116,9 +112,7 @@ MARKED = {
             "passes_of service_of members_of inner_lists spots_of",
     },
     "law_desc": {
-        "instance":
-            "small_descriptions great_numbers numbers_left_out faults_of_form faults_of_meaning "
-            "board_is_well_formed",
+        "instance": "samples_are_judged",
     },
     "ct_desc_rows": {
         "inner": "key_name rows_of target_at Import::target",
@@ -130,10 +124,10 @@ MARKED = {
         "inner": "called compartment_slots library_slots",
     },
     "law_link_samples": {
-        "instance": "samples_link tiny_is_linked board_is_linked link_faults",
+        "instance": "samples_link samples_are_linked",
     },
     "law_report": {
-        "instance": "edges_of_three tiny_reported board_reported whole_reported",
+        "instance": "edges_of_three samples_are_reported",
     },
     "ct_entries": {
         "inner": "handlers export_number",
