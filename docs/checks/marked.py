@@ -79,14 +79,10 @@ MARKED = {
         "inner": "parts_of copied sealed_bytes compartment_bytes library_bytes places_of fields_come_back written",
     },
     "law_image_samples": {
-        "instance":
-            "limits_fail regions_fail indexes_fail board_stands board_regions board_boots tiny_boots "
-            "whole_boots tiny_spelled tiny_stands upgraded_stands upgraded_fail whole_stands "
-            "whole_limits_fail whole_regions_fail whole_indexes_fail whole_rights_fail",
-        "table": "rights_fail",
+        "instance": "tiny_stands tiny_altered board_stands whole_stands whole_altered",
     },
     "law_answers": {
-        "instance": "cut_answers limit_answers region_answers index_answers right_answers later_answers",
+        "instance": "answers_to_tiny",
     },
     "ct_image": {
         "inner":
@@ -100,9 +96,7 @@ MARKED = {
             "passes_of service_of members_of inner_lists spots_of",
     },
     "law_desc": {
-        "instance":
-            "small_descriptions great_numbers numbers_left_out faults_of_form faults_of_meaning "
-            "board_is_well_formed",
+        "instance": "samples_are_judged",
     },
     "ct_desc_rows": {
         "inner": "key_name rows_of target_at Import::target",
@@ -114,10 +108,10 @@ MARKED = {
         "inner": "called compartment_slots library_slots",
     },
     "law_link_samples": {
-        "instance": "samples_link tiny_is_linked board_is_linked link_faults",
+        "instance": "samples_link samples_are_linked",
     },
     "law_report": {
-        "instance": "edges_of_three tiny_reported board_reported whole_reported",
+        "instance": "edges_of_three samples_are_reported",
     },
     "ct_entries": {
         "inner": "handlers export_number",
@@ -186,16 +180,14 @@ MARKED = {
     "ct_machine": {
         "inner": "Known::of Machine::lawful Machine::totals",
     },
-    "law_program": {
+    "law_tables": {
         "table":
-            "choices_of_descriptions services_by_name numbers_of_demo limits_of_files limits_of_ram "
-            "limits_of_versions limits_of_lists limits_of_numbers native_routines answers_of_routines "
-            "numbers_of_traps types_of_seals places_in_ram sizes_in_images members_of_firmware "
-            "members_of_objects members_of_compartments members_of_libraries order_of_lists bytes_of_names "
-            "ranges_meet rights_of_kinds rights_by_letters words_of_roots mnemonics_of_integers "
-            "mnemonics_of_memory mnemonics_of_capabilities pseudo_instructions names_of_registers "
-            "reaches_of_statements statuses_by_number kinds_in_images",
-        "part": "image_then_run upgrade_then_run upgrade_reports_alike",
+            "bytes_of_names choices_of_descriptions limits_of_files limits_of_images members_of_descriptions "
+            "names_of_registers native_routines numbers_in_images numbers_of_demo numbers_of_traps places_in_ram "
+            "ranges_meet rights_of_kinds types_of_seals words_of_statements",
+    },
+    "law_program": {
+        "table": "numbers_of_the_program",
         "instance": "samples_are_told",
     },
     "ct_run": {

@@ -31,28 +31,37 @@ ghost use Rattle.law_image_samples.specs.Tiny.{tiny};
 ghost use Rattle.def_link.specs.Links.{RowsLinkTo};
 ghost use Rattle.law_link_samples.specs.Samples.{board_rows, board_sources, tiny_rows};
 
-pub use allowed::{allowed_devices_are_held, policies_hold_over_runs, rules_name_devices};
+pub use allowed::policies_hold_over_runs;
 use law_link_samples::samples_link;
 pub use within::machines_stay_within;
 
-/// After any list of events from its boot the machine of every sound image is confined, with what
-/// stands beside, and each deed and each span with interrupts off that it tells is licensed.
-pub fn lawful_runs()
-    ensures keeps { (p : PartsRow) (es : List Event) → Sound p
-        → Keeps (image_of p) (run (platform_of p) (boot_state p) es) }
-    ensures licensed { (p : PartsRow) (es : List Event) → Sound p
-        → AllLicensed (image_of p).entries (happenings_of (platform_of p) (boot_state p) es) }
-{}
-
-/// Of any bytes that are an image: the machine's image of its parts is partitioned; the machine is confined
-/// after any list of events from its boot, and each deed and each span with interrupts off that these
-/// tell is licensed by the image's entries.
+/// Of any bytes that are an image: the machine's image of its parts is partitioned; the machine is confined after any
+/// list of events from its boot, and each deed and each span with interrupts off that these tell is licensed by the
+/// image's entries (`partitioned`, `confined`, `licensed`). The same of the parts that lawful rows and their sources
+/// are linked to (`linked_partitioned`, `linked_confined`, `linked_licensed`).
+///
+/// And of every sound image: the machine is confined, with what stands beside, and what it tells is licensed
+/// (`sound_keeps`, `sound_licensed`).
 pub fn accepted_images_run()
     ensures partitioned { (bytes : List ℕ) (p : PartsRow) → IsImage bytes p
         → Partitioned (image_of p) }
     ensures confined { (bytes : List ℕ) (p : PartsRow) (es : List Event) → IsImage bytes p
         → Confined (image_of p) (run (platform_of p) (boot_state p) es) }
     ensures licensed { (bytes : List ℕ) (p : PartsRow) (es : List Event) → IsImage bytes p
+        → AllLicensed (image_of p).entries (happenings_of (platform_of p) (boot_state p) es) }
+    ensures linked_partitioned { (d : DescRow) (sources : List (List ℕ)) (p : PartsRow)
+        → RowsLinkTo d sources p → Partitioned (image_of p) }
+    ensures linked_confined { (d : DescRow) (sources : List (List ℕ)) (p : PartsRow)
+        (es : List Event)
+        → RowsLinkTo d sources p
+        → Confined (image_of p) (run (platform_of p) (boot_state p) es) }
+    ensures linked_licensed { (d : DescRow) (sources : List (List ℕ)) (p : PartsRow)
+        (es : List Event)
+        → RowsLinkTo d sources p
+        → AllLicensed (image_of p).entries (happenings_of (platform_of p) (boot_state p) es) }
+    ensures sound_keeps { (p : PartsRow) (es : List Event) → Sound p
+        → Keeps (image_of p) (run (platform_of p) (boot_state p) es) }
+    ensures sound_licensed { (p : PartsRow) (es : List Event) → Sound p
         → AllLicensed (image_of p).entries (happenings_of (platform_of p) (boot_state p) es) }
 {}
 
@@ -89,18 +98,6 @@ pub fn accepted_images_are_safe()
         → SweptBeforeReuse (platform_of p) (boot_state p) }
     ensures quotas { (bytes : List ℕ) (p : PartsRow) (es : List Event) (q : ℕ) → IsImage bytes p
         → charges q (run (platform_of p) (boot_state p) es).objects ≤ (root (image_of p) q).limit }
-{}
-
-/// The same of the parts that lawful rows and their sources are linked to.
-pub fn linked_images_run()
-    ensures partitioned { (d : DescRow) (sources : List (List ℕ)) (p : PartsRow)
-        → RowsLinkTo d sources p → Partitioned (image_of p) }
-    ensures confined { (d : DescRow) (sources : List (List ℕ)) (p : PartsRow) (es : List Event)
-        → RowsLinkTo d sources p
-        → Confined (image_of p) (run (platform_of p) (boot_state p) es) }
-    ensures licensed { (d : DescRow) (sources : List (List ℕ)) (p : PartsRow) (es : List Event)
-        → RowsLinkTo d sources p
-        → AllLicensed (image_of p).entries (happenings_of (platform_of p) (boot_state p) es) }
 {}
 
 /// The premises are met, by what the rows and sources of two samples are linked to: the smallest

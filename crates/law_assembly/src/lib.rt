@@ -17,18 +17,15 @@ ghost use Rattle.def_assembly.specs.Decoding.{AllSay};
 ghost use Rattle.def_assembly.specs.Loading.{after, MayWrite, SetsRegister, AreApart, LeadsTo, LeadsOver, LeadsToSlot, to_slot};
 ghost use Rattle.def_assembly.specs.Written.{WritesStatement, WritesDirective};
 
-pub use source::{faults_are_least, labels_are_sums, sections_are_sums};
+pub use source::{faults_are_least, labels_are_sums};
 
-/// The tokens after a first word are read as a statement just where the word begins that statement
-/// and the tokens are its operands, each written as its kind, with a comma between each two.
+/// The tokens after a first word are read as a statement just where the word begins that statement and the tokens are
+/// its operands, each written as its kind, with a comma between each two (`statements`). The same of directives
+/// (`directives`).
 pub fn forms_are_written()
-    ensures { (h : Head) (ts : Row) (p : Part Name)
+    ensures statements { (h : Head) (ts : Row) (p : Part Name)
         → (form_of h ts ≡ Some p) ↔ WritesStatement h ts p }
-{}
-
-/// The same of directives.
-pub fn directives_are_written()
-    ensures { (d : Directive) (ts : Row) (p : Part Name)
+    ensures directives { (d : Directive) (ts : Row) (p : Part Name)
         → (directive_form d ts ≡ Some p) ↔ WritesDirective d ts p }
 {}
 

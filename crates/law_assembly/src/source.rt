@@ -15,25 +15,24 @@ ghost use Rattle.def_object.specs.Object.{label_in, is_label, text_of, initial_o
 ghost use Rattle.def_assembly.specs.Faults.{LineBreaks, IsLineFault, IsSourceFault, NoneBreaks};
 ghost use Rattle.def_assembly.specs.Sums.{AreSizes, IsPlaced, section_at, total};
 
-/// A label's value is the sum of the lengths of the statements before it that stand in its section;
-/// it is the first of its name. A name has none exactly where no statement is a label of that name.
+/// A label's value is the sum of the lengths of the statements before it that stand in its section; it is the first of
+/// its name. A name has none exactly where no statement is a label of that name.
+///
+/// Each list of statements has lengths, one list of them, and the bytes of each section are as many as the lengths of
+/// its statements add up to.
 pub fn labels_are_sums()
-    ensures some { (all : Statements) (sizes : ℕ → ℕ) (name : Name) (l : Label)
+    ensures label_some { (all : Statements) (sizes : ℕ → ℕ) (name : Name) (l : Label)
         → AreSizes all sizes → label_in all name ≡ Some l → IsPlaced all sizes name l }
-    ensures none { (all : Statements) (name : Name) → label_in all name ≡ None
+    ensures label_none { (all : Statements) (name : Name) → label_in all name ≡ None
         → (k : ℕ) (x : Statement Name) → slice_get all k ≡ Some x → is_label name x.part ≡ false }
-{}
-
-/// Each list of statements has lengths, one list of them, and the bytes of each section are as many
-/// as the lengths of its statements add up to.
-pub fn sections_are_sums()
-    ensures some { (all : Statements) → (sizes : ℕ → ℕ) × AreSizes all sizes }
-    ensures one { (all : Statements) (sizes others : ℕ → ℕ) → AreSizes all sizes
+    ensures section_some { (all : Statements) → (sizes : ℕ → ℕ) × AreSizes all sizes }
+    ensures section_one { (all : Statements) (sizes others : ℕ → ℕ) → AreSizes all sizes
         → AreSizes all others → (k : ℕ) (x : Statement Name) → slice_get all k ≡ Some x
         → sizes k ≡ others k }
-    ensures text { (all : Statements) (sizes : ℕ → ℕ) (slots : List Name) → AreSizes all sizes
+    ensures section_text { (all : Statements) (sizes : ℕ → ℕ) (slots : List Name)
+        → AreSizes all sizes
         → length (text_of all slots) ≡ total (section_at all) sizes section.Text (length all) }
-    ensures initial { (all : Statements) (sizes : ℕ → ℕ) (slots : List Name)
+    ensures section_initial { (all : Statements) (sizes : ℕ → ℕ) (slots : List Name)
         → AreSizes all sizes
         → length (initial_of all slots) ≡ total (section_at all) sizes section.Data (length all) }
 {}

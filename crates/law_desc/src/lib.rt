@@ -7,8 +7,5 @@ mod samples;
 mod wellformed;
 
 pub use answers::one_or_the_other;
-pub use samples::{
-    board_is_well_formed, faults_of_form, faults_of_meaning, great_numbers, numbers_left_out,
-    small_descriptions,
-};
+pub use samples::samples_are_judged;
 pub use wellformed::well_formed_is_lawful;

@@ -7,8 +7,17 @@ ghost use Rattle.def_desc.specs.declared.faults.PartWord.TheVariants as part;
 ghost use Rattle.def_desc.specs.Reading.{at_of, description_of};
 ghost use Rattle.def_desc.specs.WellFormed.{IsFaulty, fault_of};
 
-/// Small descriptions, and what is wrong with them.
-pub fn small_descriptions()
+/// Small descriptions, and what is wrong with them. A number from 2^32 on isn't cut before it is judged: an export may
+/// begin anywhere, as far as a description goes, and a key's number is outside its limit before 0 is the second such
+/// number; the place of an export is the file's number, whatever its size. What a description means that leaves a
+/// number out: version 1, a rate of 64 granules, which the second version has too, and a quantum of 100 steps.
+///
+/// Of each other rule a description that breaks it, and where: an open brace alone, members that aren't listed, a name
+/// with a capital letter, names that stand twice; rights of another kind, a service that isn't listed, a device at no
+/// multiple of 16, two at one address, RAM over the native entries; and of two faults the one of the lesser number,
+/// though it stands later. And the sample with an application, a driver, a library, two threads, a quota and code in
+/// files is well-formed.
+pub fn samples_are_judged()
     ensures well_formed { fault_of tiny ≡ None }
     ensures empty { fault_of empty ≡ Some (at 2 part.Firmware 0 0) }
     ensures no_device { fault_of
@@ -17,12 +26,6 @@ pub fn small_descriptions()
         (all (altered import (codes "device") (string (codes "uart9")) ∷ []))))
         ≡ Some (at 7 part.Import 0 0) }
     ensures sweep { fault_of (with tiny (codes "sweep") (num 32)) ≡ Some (at 6 part.Firmware 0 0) }
-{}
-
-/// A number from 2^32 on isn't cut before it is judged: an export may begin anywhere, as far as a
-/// description goes, and a key's number is outside its limit before 0 is the second such number. The place
-/// of an export is the file's number, whatever its size.
-pub fn great_numbers()
     ensures at { fault_of
         (tiny_of
         (altered app (codes "exports")
@@ -32,20 +35,10 @@ pub fn great_numbers()
         (tiny_of (with app (codes "keys") (all (num 4294967296 ∷ num 0 ∷ []))))
         ≡ Some (at 6 part.Key 0 0) }
     ensures place { (n : ℕ) → (at_of (with empty (codes "at") (num n))).offset ≡ n }
-{}
-
-/// What a description means that leaves a number out: version 1, a rate of 64 granules, which the second
-/// version has too, and a quantum of 100 steps.
-pub fn numbers_left_out()
-    ensures version { (description_of empty).version ≡ 1 }
-    ensures rate { (description_of empty).sweep ≡ 64 }
-    ensures rate_2 { (description_of (with empty (codes "version") (num 2))).sweep ≡ 64 }
-    ensures quantum { (description_of empty).quantum ≡ 100 }
-{}
-
-/// Of each other rule a description that breaks it, and where: an open brace alone, members that
-/// aren't listed, a name with a capital letter, names that stand twice.
-pub fn faults_of_form()
+    ensures left_out_version { (description_of empty).version ≡ 1 }
+    ensures left_out_rate { (description_of empty).sweep ≡ 64 }
+    ensures left_out_rate_2 { (description_of (with empty (codes "version") (num 2))).sweep ≡ 64 }
+    ensures left_out_quantum { (description_of empty).quantum ≡ 100 }
     ensures no_text { IsFaulty (codes "{") (at 1 part.Firmware 0 0) }
     ensures unlisted { fault_of (with tiny (codes "colour") (num 1))
         ≡ Some (at 3 part.Firmware 0 0) }
@@ -63,12 +56,6 @@ pub fn faults_of_form()
     ensures switch { fault_of
         (tiny_importing (altered import (codes "as") (text (codes "switch"))))
         ≡ Some (at 5 part.Import 0 0) }
-{}
-
-/// Rights of another kind, a service that isn't listed, a device at no multiple of 16, two at one
-/// address, RAM over the native entries; and of two faults the one of the lesser number, though it
-/// stands later.
-pub fn faults_of_meaning()
     ensures rights { fault_of
         (tiny_importing (altered import (codes "rights") (text (codes "RC"))))
         ≡ Some (at 8 part.Import 0 0) }
@@ -84,10 +71,5 @@ pub fn faults_of_meaning()
     ensures lesser_number { fault_of
         (with (tiny_run_by (with thread (codes "colour") (num 1))) (codes "sweep") (num 32))
         ≡ Some (at 3 part.Thread 0 0) }
-{}
-
-/// The sample with an application, a driver, a library, two threads, a quota and code in files is
-/// well-formed.
-pub fn board_is_well_formed()
-    ensures { fault_of board ≡ None }
+    ensures board { fault_of board ≡ None }
 {}

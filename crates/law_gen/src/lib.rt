@@ -4,13 +4,4 @@
 
 mod gen_links;
 
-ghost use Rattle.std.specs.Prelude.{◌≡◌, None, ℕ};
-ghost use Rattle.def_desc.specs.WellFormed.{fault_of};
-ghost use Rattle.def_gen.specs.Description.{firmware};
-
 pub use gen_links::generated_links;
-
-/// The description of a generated firmware has no fault.
-pub fn generated_is_well_formed()
-    ensures { (seed : ℕ) → fault_of (firmware seed) ≡ None }
-{}

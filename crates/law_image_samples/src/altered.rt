@@ -1,6 +1,6 @@
 //! What is found in the smallest image altered.
 
-ghost use Rattle.std.specs.Prelude.{◌≡◌, length, Some, [], ◌∷◌, ◌++◌, replicate, codes};
+ghost use Rattle.std.specs.Prelude.{◌≡◌, length, Some, [], ◌∷◌, ◌++◌, replicate, codes, None};
 ghost use Rattle.ct_entry.specs.declared.rows.Mode.TheVariants.{Inherit};
 ghost use Rattle.def_image.specs.Spelling.{raw_of, raw_device, raw_thread, raw_gate, name_field};
 ghost use Rattle.def_image.specs.Checks.{first};
@@ -8,11 +8,14 @@ ghost use Rattle.def_image.specs.Limits.{limit_checks};
 ghost use Rattle.def_image.specs.Lying.{region_checks};
 ghost use Rattle.def_image.specs.Indexes.{index_checks};
 ghost use Rattle.def_image.specs.Rights.{right_checks};
+ghost use Rattle.def_image.specs.Parts.{upgraded};
 ghost use Rattle.law_image_samples.specs.Tiny.{tiny, app, app_code, the_main, the_switch, the_uart, the_thread, uart0, raw_tiny, raw_app, with_app, with_slots, with_switch, with_uart, with_main, with_thread, raw_with, slot_byte, export_byte, slot_named};
 
-/// Limits and forms: a number, a name or padding of the smallest image altered, and where that is
-/// found.
-pub fn limits_fail()
+/// The smallest image altered, and where that is found: limits and forms, by a number, a name or padding; regions,
+/// devices and the heap that lie where they may not; slots and the thread that name what is not there, or out of order;
+/// slots with rights that are not those of their kind; and, of version 2, numbers that differ between the versions, and
+/// places that moved.
+pub fn tiny_altered()
     ensures devices { first
         (limit_checks (record raw_tiny { devices = replicate 17 (raw_device uart0) }))
         ≡ Some 8 }
@@ -103,10 +106,6 @@ pub fn limits_fail()
     ensures frames { first
         (limit_checks (raw_of (with_thread (record the_thread { frames = 97 }))))
         ≡ Some 408 }
-{}
-
-/// Regions, devices and the heap, altered so that they lie where they may not.
-pub fn regions_fail()
     ensures ram_native { first (region_checks (record tiny { ram = 0x10000; trusted = 0x10160 }))
         ≡ Some 36 }
     ensures trusted { first (region_checks (record tiny { trusted = 0x80000168 })) ≡ Some 44 }
@@ -145,11 +144,7 @@ pub fn regions_fail()
         ≡ Some 172 }
     ensures stack { first (region_checks (with_thread (record the_thread { stack = 0x80000050 })))
         ≡ Some 388 }
-{}
-
-/// Slots and the thread, altered to name what is not there, or out of order.
-pub fn indexes_fail()
-    ensures service { first (index_checks (with_switch (record the_switch.row { first = 2 })))
+    ensures index_service { first (index_checks (with_switch (record the_switch.row { first = 2 })))
         ≡ Some 192 }
     ensures switch_kind { first (index_checks (with_switch (record the_uart.row { first = 0 })))
         ≡ Some 192 }
@@ -163,12 +158,24 @@ pub fn indexes_fail()
         ≡ Some 396 }
     ensures export { first (index_checks (with_thread (record the_thread { export = 1 })))
         ≡ Some 396 }
-{}
-
-/// Slots with rights that are not those of their kind.
-pub fn rights_fail()
     ensures executable { first (right_checks (with_uart (record the_uart.row { rights = 40 })))
         ≡ Some 240 }
-    ensures service { first (right_checks (with_switch (record the_switch.row { rights = 51 })))
+    ensures right_service { first
+        (right_checks (with_switch (record the_switch.row { rights = 51 })))
         ≡ Some 192 }
+    ensures rate { first (limit_checks (raw_of (record (upgraded tiny) { sweep = 0 }))) ≡ Some 52 }
+    ensures widest_rate { first (limit_checks (raw_of (record (upgraded tiny) { sweep = 65536 })))
+        ≡ None }
+    ensures wider_rate { first (limit_checks (raw_of (record (upgraded tiny) { sweep = 65537 })))
+        ≡ Some 52 }
+    ensures widest_ram { first
+        (limit_checks (raw_of (record (upgraded tiny) { ram = 0x80000000; size = 0x4000000 })))
+        ≡ None }
+    ensures wider_ram { first
+        (limit_checks (raw_of (record (upgraded tiny) { size = 0x4000010 })))
+        ≡ Some 40 }
+    ensures first_ram { first (limit_checks (raw_of (record tiny { size = 0x800010 }))) ≡ Some 40 }
+    ensures upgraded_globals { first
+        (region_checks (upgraded (with_app (record app { globals = 0x80000030 }))))
+        ≡ Some 176 }
 {}

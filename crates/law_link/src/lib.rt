@@ -8,5 +8,5 @@ mod link_limits;
 mod link_parts;
 
 pub use link_code::code_is_built;
-pub use link_limits::{linked_is_faultless, written_is_accepted};
+pub use link_limits::linked_is_accepted;
 pub use link_parts::{regions_are_placed, rows_are_kept};

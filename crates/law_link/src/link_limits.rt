@@ -1,5 +1,5 @@
-//! What a lawful description and its sources are linked to has no fault of an image, and is accepted when it is written.
-//! Functions with empty bodies whose contracts are the laws.
+//! What a lawful description and its sources are linked to has no fault of an image, and is accepted when it is
+//! written. A function with an empty body whose contract is the law.
 
 ghost use Rattle.std.specs.Prelude.{◌≡◌, List, ℕ};
 ghost use Rattle.def_desc.specs.Rows.{DescRow};
@@ -8,16 +8,12 @@ ghost use Rattle.def_image.specs.Parts.{PartsRow};
 ghost use Rattle.def_image.specs.Spelling.{image_bytes};
 ghost use Rattle.def_link.specs.Links.{RowsLinkTo};
 
-/// What lawful rows and their sources are linked to is faultless: it has a spelling, a version that
-/// is taken, and no check of limits, regions, indexes or rights fails.
-pub fn linked_is_faultless()
-    ensures { (d : DescRow) (sources : List (List ℕ)) (p : PartsRow)
+/// What lawful rows and their sources are linked to is faultless: it has a spelling, a version that is taken, and no
+/// check of limits, regions, indexes or rights fails (`parts`). It is accepted when it is written: the bytes are the
+/// image of these parts and of no others, and they have no fault (`image`, `alone`, `faultless`).
+pub fn linked_is_accepted()
+    ensures parts { (d : DescRow) (sources : List (List ℕ)) (p : PartsRow)
         → RowsLinkTo d sources p → IsFaultless p }
-{}
-
-/// What lawful rows and their sources are linked to is accepted when it is written: the bytes are
-/// the image of these parts and of no others, and they have no fault.
-pub fn written_is_accepted()
     ensures image { (d : DescRow) (sources : List (List ℕ)) (p : PartsRow)
         → RowsLinkTo d sources p → IsImage (image_bytes p) p }
     ensures alone { (d : DescRow) (sources : List (List ℕ)) (p q : PartsRow)

@@ -10,7 +10,7 @@ ghost use Rattle.law_image_samples.specs.Tiny.{tiny};
 ghost use Rattle.def_link.specs.Links.{RowsLinkTo};
 ghost use Rattle.law_link_samples.specs.Samples.{tiny_rows, filed, tiny_source, board_rows, board_sources};
 
-pub use samples::{board_is_linked, link_faults, tiny_is_linked};
+pub use samples::samples_are_linked;
 
 /// The smallest sample is lawful and is linked to the parts of its image, by its words and by their
 /// source; and so is the sample with two compartments, a library and two threads, to some parts.

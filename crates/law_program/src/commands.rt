@@ -22,28 +22,23 @@ ghost use Rattle.def_program.specs.Written.{IsRunWritten, event_lines};
 ghost use Rattle.def_program.specs.declared.Status.{Status};
 ghost use Rattle.def_events.specs.Kinds.{IsUncounted};
 
-/// The parts that a command's files stand for, whatever bytes these are, are sound.
-pub fn files_stand_for_sound_parts()
-    ensures { (c : Command) (files : List (List ℕ)) (p : PartsRow) → StandFor c files p → Sound p }
-{}
-
-/// Of sound parts: each deed, and each span with interrupts off, of the run that a command asks for is
-/// licensed by the image's entries.
-pub fn commands_are_licensed()
-    ensures { (c : Command) (p : PartsRow) → Sound p → IsLicensedCommand c p }
-{}
-
-/// Of sound parts the run that a command asks for is safe. Its calls are clean and its accesses licensed;
-/// nothing is loaded, stored, waited for or woken through a capability of an object after its free; each
-/// allocation hands out a fresh object; a trap is that of the first check that fails; charges follow what is
-/// told; what the thread that carries on holds reaches RAM, devices and native entries alone; a frame's error
-/// handler is entered where a trap is told that enters it, and only once; keys and tokens are kept; a freed chunk
-/// is handed out again only after a whole sweep that began after its free; and after every event the live charges
-/// on each quota are at most its limit. What it tells is what was done, and what is done is told; what an event
-/// changes it changes for a reason that is listed; whatever stands comes of what stood, and a capability without
-/// GL stands in a stack alone, of all granules. So it is whatever the run's script says.
+/// The parts that a command's files stand for, whatever bytes these are, are sound (`sound`). Of sound parts: each
+/// deed, and each span with interrupts off, of the run that a command asks for is licensed by the image's entries
+/// (`licensed`); and the run is safe (`safe`).
+///
+/// Its calls are clean and its accesses licensed; nothing is loaded, stored, waited for or woken through a capability
+/// of an object after its free; each allocation hands out a fresh object; a trap is that of the first check that fails;
+/// charges follow what is told; what the thread that carries on holds reaches RAM, devices and native entries alone; a
+/// frame's error handler is entered where a trap is told that enters it, and only once; keys and tokens are kept; a
+/// freed chunk is handed out again only after a whole sweep that began after its free; and after every event the live
+/// charges on each quota are at most its limit. What it tells is what was done, and what is done is told; what an event
+/// changes it changes for a reason that is listed; whatever stands comes of what stood, and a capability without GL
+/// stands in a stack alone, of all granules. So it is whatever the run's script says.
 pub fn commands_are_safe()
-    ensures { (c : Command) (p : PartsRow) → Sound p → IsSafeCommand c p }
+    ensures sound { (c : Command) (files : List (List ℕ)) (p : PartsRow)
+        → StandFor c files p → Sound p }
+    ensures licensed { (c : Command) (p : PartsRow) → Sound p → IsLicensedCommand c p }
+    ensures safe { (c : Command) (p : PartsRow) → Sound p → IsSafeCommand c p }
 {}
 
 /// The lines of a run are those of what its events did, in their order, each with its step's number,

@@ -13,7 +13,7 @@ ghost use Rattle.def_program.specs.Turns.{Asks, Ends, Follows};
 ghost use Rattle.law_image_samples.specs.Tiny.{tiny};
 ghost use Rattle.law_link_samples.specs.Samples.{tiny_rows, tiny_in, filed, tiny_source, unknown_mnemonic};
 
-use law_link_samples::{link_faults, tiny_is_linked};
+use law_link_samples::samples_are_linked;
 
 /// First the command's file is due, if it has one. Of the smallest sample's description then, by its words, the
 /// report, the image and the run; with too little RAM the refusal; of its form with a source first
@@ -40,6 +40,5 @@ pub fn samples_are_told()
     ensures by_image { (name bytes : List ℕ) (limit : ℕ) (p : PartsRow) → IsImage bytes p
         → Follows (RunImage name limit None) (bytes ∷ []) (Ends status.Done (run_text p [] limit)) }
 {
-    tiny_is_linked();
-    link_faults();
+    samples_are_linked();
 }

@@ -36,30 +36,23 @@ pub fn edges_of_three()
     ensures passing { edges (entries_of (sharing with_c true)) 3 ≡ (0, 1) ∷ (1, 2) ∷ [] }
 {}
 
-/// The report line of the smallest sample.
-pub fn tiny_reported()
-    ensures { report_line tiny ≡ tiny_line }
-{}
-
-/// Of the larger sample the members beside the entries, and entries of eight kinds.
-pub fn board_reported()
-    ensures frame { frame_text board ≡ board_frame }
-    ensures switch { entry_text board 2 ≡ board_switch }
-    ensures library { entry_text board 3 ≡ board_library }
-    ensures call { entry_text board 4 ≡ board_call }
-    ensures service { entry_text board 5 ≡ board_service }
-    ensures quota { entry_text board 6 ≡ board_quota }
-    ensures data_export { entry_text board 12 ≡ board_data_export }
-    ensures library_export { entry_text board 14 ≡ board_library_export }
-    ensures stack { entry_text board 16 ≡ board_stack }
-{}
-
-/// The same of an image with a slot of each kind: a shared and a sealed object, a key, and an export
-/// with posture disabled.
-pub fn whole_reported()
-    ensures frame { frame_text whole ≡ whole_frame }
-    ensures shared { entry_text whole 4 ≡ whole_shared }
-    ensures sealed { entry_text whole 5 ≡ whole_sealed }
-    ensures key { entry_text whole 9 ≡ whole_key }
-    ensures handler { entry_text whole 12 ≡ whole_handler }
+/// The report line of the smallest sample. Of the larger sample the members beside the entries, and entries of eight
+/// kinds. The same of an image with a slot of each kind: a shared and a sealed object, a key, and an export with
+/// posture disabled.
+pub fn samples_are_reported()
+    ensures tiny { report_line tiny ≡ tiny_line }
+    ensures board_frame { frame_text board ≡ board_frame }
+    ensures board_switch { entry_text board 2 ≡ board_switch }
+    ensures board_library { entry_text board 3 ≡ board_library }
+    ensures board_call { entry_text board 4 ≡ board_call }
+    ensures board_service { entry_text board 5 ≡ board_service }
+    ensures board_quota { entry_text board 6 ≡ board_quota }
+    ensures board_data_export { entry_text board 12 ≡ board_data_export }
+    ensures board_library_export { entry_text board 14 ≡ board_library_export }
+    ensures board_stack { entry_text board 16 ≡ board_stack }
+    ensures whole_frame { frame_text whole ≡ whole_frame }
+    ensures whole_shared { entry_text whole 4 ≡ whole_shared }
+    ensures whole_sealed { entry_text whole 5 ≡ whole_sealed }
+    ensures whole_key { entry_text whole 9 ≡ whole_key }
+    ensures whole_handler { entry_text whole 12 ≡ whole_handler }
 {}
