@@ -109,6 +109,9 @@ MARKED = {
     "law_events": {
         "part": "fresh_objects",
     },
+    "law_secret_samples": {
+        "instance": "walls_stand",
+    },
     "ct_desc_value": {
         "inner":
             "word_of bytes_of has_kinds keeps_limits has_only text_at number_at list_in list_at has has_text "
