@@ -1,5 +1,5 @@
 -- Nobody calls: whatever events come, each thread's frames are of the compartment that it began in.
-use Rattle.std.proofs.Common.{ℕ, ◌≡◌, ◌≤◌, ◌⊎◌, ◌&&◌, inl, inr, false, not, List, [], ◌∷◌, length, Option, Some, None, refl, sym, ap, ◌∙◌, subst, arith}
+use Rattle.std.proofs.Common.{ℕ, ◌≡◌, ◌≤◌, ◌&&◌, inl, inr, false, not, List, [], ◌∷◌, length, Option, Some, None, refl, sym, ap, ◌∙◌, subst, arith}
 use Rattle.law_lists.proofs.Sets.{after_set_split}
 use Rattle.law_lists.proofs.Tests.{chosen}
 use Rattle.ct_entry.specs.declared.acts.Act.{Act}
@@ -10,17 +10,14 @@ use Rattle.def_sched.specs.Picks.{pick}
 use Rattle.def_machine.specs.Platform.{Platform}
 use Rattle.def_machine.specs.State.{State, Thread, Frame, nobody, thread}
 use Rattle.def_machine.specs.Threads.{picked, statuses_of}
-use Rattle.def_confined.specs.Facts.{Facts}
 use Rattle.def_confined.specs.Keeps.{Keeps}
 use Rattle.def_confined.specs.Licensed.{IsLicensed}
-use Rattle.def_confined.specs.Partitioned.{Partitioned}
 use Rattle.def_image.specs.Sound.{Sound}
 use Rattle.def_boot.specs.Boot.{image_of, platform_of}
 use Rattle.def_step.specs.declared.Event.{Event}
 use Rattle.def_step.specs.Events.{happens, one_more_step, picked_as, picked_from, preempted, preempted_from}
 use Rattle.def_step.specs.Instructions.{actor_of}
 use Rattle.def_safety.specs.Each.{ready}
-use Rattle.def_safety.specs.Wired.{Wired}
 use Rattle.def_integrity.specs.Threads.{FramesFaded, FramesGo, ThreadTouched, as_before, by_call, by_handler, by_end, by_own_step, by_wake, by_tick, by_sweep}
 use Rattle.def_truly.specs.Changes.{IsCallAct, TellsSuchBy}
 use Rattle.law_boot.proofs.Holding.{holds}

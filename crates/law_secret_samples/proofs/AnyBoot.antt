@@ -20,7 +20,7 @@ use Rattle.def_step.specs.declared.Event.TheVariants.{Step, Tick, Sweep, Input}
 use Rattle.def_step.specs.declared.Next.{Next}
 use Rattle.def_step.specs.declared.Next.TheVariants.{Returning, Instruction, Native, Nothing}
 use Rattle.def_step.specs.Checks.{first_failed}
-use Rattle.def_step.specs.Events.{continued, happens, noted, one_more_step, picked_as, picked_from, preempted, scheduled, told_of}
+use Rattle.def_step.specs.Events.{continued, happens, noted, one_more_step, picked_as, picked_from, preempted, told_of}
 use Rattle.def_step.specs.Handlers.{return_taken, trap_taken}
 use Rattle.def_step.specs.Instructions.{Effect, after_fetch, around, carried_out, executed, fetch_checks, goes_on, instruction_end, named_by, next_at, operand, ran, served, space_of, trapped}
 use Rattle.def_step.specs.Operands.{class_of, operands_of}

@@ -1,5 +1,5 @@
 -- What the images boot: one machine, and states that differ in the secret alone, which the prowler's thread doesn't see.
-use Rattle.std.proofs.Common.{ℕ, zero, suc, ◌≡◌, ◌+◌, ◌-◌, ◌*◌, ◌%◌, ◌<◌, ◌≤◌, ◌⊎◌, ◌&&◌, inl, inr, true, false, nat_le, nat_lt, List, [], ◌∷◌, Option, Some, None, refl, sym, ap, ◌∙◌, subst, arith, slice_set}
+use Rattle.std.proofs.Common.{ℕ, zero, suc, ◌≡◌, ◌+◌, ◌-◌, ◌*◌, ◌%◌, ◌<◌, ◌≤◌, ◌&&◌, inl, inr, true, false, nat_le, nat_lt, List, [], ◌∷◌, Option, Some, None, refl, sym, ap, ◌∙◌, subst, arith, slice_set}
 use Rattle.std.proofs.lemmas.Bool.{leb-true, ltb-true}
 use Rattle.law_lists.proofs.Tests.{both_left, both_right, chosen, lt_tells}
 use Rattle.ct_entry.specs.declared.rows.Kind.TheVariants as kind
@@ -13,8 +13,7 @@ use Rattle.def_memory.specs.Granules.{granule_at, plain}
 use Rattle.def_reach.specs.Roots.{Listing, root_of}
 use Rattle.def_machine.specs.Image.{Image, Region, Fixed, Globals, root, stack_base}
 use Rattle.def_machine.specs.Memory.{bytes_stored}
-use Rattle.def_machine.specs.Platform.{Platform}
-use Rattle.def_machine.specs.State.{State, Frame}
+use Rattle.def_machine.specs.State.{Frame}
 use Rattle.def_image.specs.Regions.{RegionRow, regions_of}
 use Rattle.def_image.specs.Spelling.{raw_of}
 use Rattle.def_boot.specs.Boot.{boot_state, image_of, platform_of, bases_of}

@@ -11,7 +11,6 @@ use Rattle.def_words.specs.Permissions.{bit, set_where, store_data, unpacked}
 use Rattle.def_reach.specs.Roots.{Origin, Listing, Root, no_root, trusted_root, listed_root, gate_for, root_of, compartment_of, is_owned, is_stack}
 use Rattle.def_reach.specs.Sharing.{Edge, IsEdgeList, Imports, Reaches}
 use Rattle.def_machine.specs.Image.{root}
-use Rattle.def_image.specs.Regions.{regions_of}
 use Rattle.def_boot.specs.Boot.{image_of}
 use Rattle.def_boot.specs.Entries.{entry_rows}
 use Rattle.def_boot.specs.Gates.{entries_of}

@@ -1,7 +1,5 @@
 -- The images are accepted, whatever byte the secret is.
-use Rattle.std.proofs.Common.{ℕ, ◌≡◌, ◌<◌, [], ◌∷◌, None, refl, arith}
-use Rattle.def_words.specs.LeastBounds.{exponent_for}
-use Rattle.def_words.specs.Permissions.{bit, set_where, form_of, packed, unpacked, normal_set}
+use Rattle.std.proofs.Common.{ℕ, ◌≡◌, ◌<◌, None, refl}
 use Rattle.def_image.specs.Accepted.{IsFaultless}
 use Rattle.def_image.specs.Checks.{first}
 use Rattle.def_image.specs.Limits.{limit_checks}

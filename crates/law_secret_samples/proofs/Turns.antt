@@ -1,5 +1,5 @@
 -- The keeper's thread acts away from what the prowler's sees, and so the two runs tell the prowler's the same.
-use Rattle.std.proofs.Common.{ℕ, ◌≡◌, ◌<◌, List, [], ◌∷◌, Some, None, refl, sym, ap, ◌∙◌, subst, arith}
+use Rattle.std.proofs.Common.{ℕ, ◌≡◌, ◌<◌, List, [], ◌∷◌, refl, sym, ap, ◌∙◌, subst, arith}
 use Rattle.ct_entry.specs.declared.acts.Happened.{Happened}
 use Rattle.def_memory.specs.declared.Granule.{Granule}
 use Rattle.def_machine.specs.Memory.{bytes_stored}

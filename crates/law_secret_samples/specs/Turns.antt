@@ -1,6 +1,6 @@
 -- Two runs that are told moment by moment, each by the machine of its own image; thread 0 is the prowler's, thread 1 the
 -- keeper's.
-use Rattle.std.specs.Prelude.{ℕ, ◌≡◌, List, [], ◌∷◌, Some}
+use Rattle.std.specs.Prelude.{◌≡◌, List, [], ◌∷◌, Some}
 use Rattle.def_machine.specs.Platform.{Platform}
 use Rattle.def_machine.specs.State.{State}
 use Rattle.def_step.specs.declared.Event.{Event}
