@@ -89,6 +89,9 @@ MARKED = {
             "Image::of Image::parts Image::copy Image::upgraded Image::text Image::init index_fault "
             "region_fault right_fault",
     },
+    "law_secret_samples": {
+        "instance": "walls_stand",
+    },
     "ct_desc_value": {
         "inner":
             "word_of bytes_of has_kinds keeps_limits has_only text_at number_at list_in list_at has has_text "

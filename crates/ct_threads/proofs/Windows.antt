@@ -1,7 +1,7 @@
--- A window: where it holds a tagged capability's address a fetch passes and finds a word, it is the whole of those that
--- its capability opens, and it suits the capability at each other address.
-use Rattle.std.proofs.Common.{ℕ, ◌+◌, ◌-◌, ◌*◌, ◌%◌, ◌^◌, ◌<◌, ◌≤◌, ◌≡◌, ◌==◌, ◌&&◌, Bool, true, false, nat_le, nat_lt, max, min, List, [], ◌∷◌, length, is_none, arith, refl, sym, ap, ◌∙◌, subst}
-use Rattle.std.proofs.lemmas.Bool.{leb-true, ltb-true, eqb-true, le-leb, lt-ltb, le-ltb, eq-eqb, ne_eqb, and_parts, and_from, and_left, and_right}
+-- A window: where it holds a tagged capability's address a fetch passes and finds a word, and it suits the capability at
+-- each other address.
+use Rattle.std.proofs.Common.{ℕ, ◌+◌, ◌-◌, ◌*◌, ◌%◌, ◌^◌, ◌<◌, ◌≤◌, ◌≡◌, ◌==◌, ◌&&◌, Bool, true, false, nat_le, nat_lt, List, [], ◌∷◌, length, is_none, arith, refl, sym, ap, ◌∙◌, subst}
+use Rattle.std.proofs.lemmas.Bool.{leb-true, eqb-true, le-leb, le-ltb, eq-eqb, ne_eqb, and_parts, and_from, and_left, and_right}
 use Rattle.def_profile.specs.declared.native.TheConstants.{NATIVE_BASE, NATIVE_UNIT, RETURN_ENTRY}
 use Rattle.def_words.specs.declared.Cap.{Cap}
 use Rattle.def_words.specs.declared.Bounds.{Bounds}
@@ -20,7 +20,7 @@ use Rattle.def_step.specs.Instructions.{fetch_checks, fetched, is_native_entry, 
 use Rattle.ct_loadstore.specs.Shapes.{space_of}
 use Rattle.ct_threads.specs.declared.window.Window.{Window}
 use Rattle.ct_threads.specs.Steps.{first_after_native, finds_word, is_word_of_ram, no_bank}
-use Rattle.ct_threads.specs.Windows.{window_holds, HoldsEach, IsWindow, LiesPastNative, Opens, Suits}
+use Rattle.ct_threads.specs.Windows.{window_holds, IsWindow, LiesPastNative, Opens, Suits}
 
 -- ---- a fetch
 
@@ -62,83 +62,20 @@ next_found c ram gs w found is =
     let past = and_parts (nat_le first_after_native (cap_address c)) (lies_in ram gs (cap_address c) 4 && (cap_address c % 4 == 0)) there.1 in
     next_past (space_of ram gs no_bank 0) (cap_address c) (leb-true first_after_native (cap_address c) past.0) ∙ ap (λ n. next_word (instruction_in n)) (sym is)
 
--- ---- of a capability with its bounds
+-- ---- of no address
 
-inside : (w : Window) (at : ℕ) → window_holds w at ≡ true → (w.from ≤ at) × (at ≤ w.last)
-inside w at is = let ends = and_parts (nat_le w.from at) (nat_le at w.last) is in (leb-true w.from at ends.0, leb-true at w.last ends.1)
-
-pub all_of : (c : Cap) (ram size from end : ℕ) → from ≡ max (cap_base c) (max ram first_after_native) → end ≡ min (cap_top c) (ram + size) → (is_unsealed c && (has c execute && nat_lt (cap_top c) (2 ^ 32))) ≡ true → 4 ≤ end - from
-    → IsWindow (record { from = from; last = end - 4 }) c ram size
-all_of c ram size from end begins stops runs some =
-    let kinds = and_parts (is_unsealed c) (has c execute && nat_lt (cap_top c) (2 ^ 32)) runs in
-    let more = and_parts (has c execute) (nat_lt (cap_top c) (2 ^ 32)) kinds.1 in
-    record {
-  suits = λ at within tagged. (let in_it = inside (record { from = from; last = end - 4 }) at within in
-      let low : from ≤ at = in_it.0 in
-      let high : at ≤ end - 4 = in_it.1 in
-      record {
-        unsealed = kinds.0;
-        executes = more.0;
-        base = omega (arith, begins, low);
-        top = omega (arith, stops, high, some);
-        small = ltb-true (cap_top c) (2 ^ 32) more.1;
-      });
-  lies = λ at within. (let in_it = inside (record { from = from; last = end - 4 }) at within in
-      let low : from ≤ at = in_it.0 in
-      let high : at ≤ end - 4 = in_it.1 in
-      record {
-        native = omega (arith, begins, low);
-        begin = omega (arith, begins, low);
-        end = omega (arith, stops, high, some);
-      });
-}
-
--- between the two ends
-lies_so : (c : Cap) (ram size from end at : ℕ) → from ≡ max (cap_base c) (max ram first_after_native) → end ≡ min (cap_top c) (ram + size) → Opens c at → LiesPastNative ram size at
-    → (from ≤ at) × (at + 4 ≤ end)
-lies_so c ram size from end at begins stops opens lies =
-    let base = opens.base in
-    let top = opens.top in
-    let native = lies.native in
-    let begin = lies.begin in
-    let last = lies.end in
-    (omega (arith, begins, base, native, begin), omega (arith, stops, top, last))
-
-pub whole_of : (c : Cap) (ram size from end : ℕ) → from ≡ max (cap_base c) (max ram first_after_native) → end ≡ min (cap_top c) (ram + size)
-    → HoldsEach (record { from = from; last = end - 4 }) c ram size
-whole_of c ram size from end begins stops at opens lies =
-    let ends = lies_so c ram size from end at begins stops opens lies in
-    let low : from ≤ at = ends.0 in
-    let high : at + 4 ≤ end = ends.1 in
-    and_from (nat_le from at) (nat_le at (end - 4)) (le-leb from at low) (le-leb at (end - 4) (omega (arith, high)))
+none_held : (at : ℕ) → window_holds (record { from = 1; last = 0 }) at ≡ true → ⊥
+none_held at within =
+    let ends = and_parts (nat_le 1 at) (nat_le at 0) within in
+    let low : 1 ≤ at = leb-true 1 at ends.0 in
+    let high : at ≤ 0 = leb-true at 0 ends.1 in
+    omega (arith, low, high)
 
 pub empty_is : (c : Cap) (ram size : ℕ) → IsWindow (record { from = 1; last = 0 }) c ram size
 empty_is c ram size = record {
-  suits = λ at within tagged. (let in_it = inside (record { from = 1; last = 0 }) at within in
-      let low : 1 ≤ at = in_it.0 in
-      let high : at ≤ 0 = in_it.1 in
-      absurd (omega (arith, low, high)));
-  lies = λ at within. (let in_it = inside (record { from = 1; last = 0 }) at within in
-      let low : 1 ≤ at = in_it.0 in
-      let high : at ≤ 0 = in_it.1 in
-      absurd (omega (arith, low, high)));
+  suits = λ at within tagged. absurd (none_held at within);
+  lies = λ at within. absurd (none_held at within);
 }
-
--- none, where the capability opens no word
-pub unfit : (c : Cap) (ram size : ℕ) → (is_unsealed c && (has c execute && nat_lt (cap_top c) (2 ^ 32))) ≡ false → HoldsEach (record { from = 1; last = 0 }) c ram size
-unfit c ram size none at opens lies =
-    let small : nat_lt (cap_top c) (2 ^ 32) ≡ true = lt-ltb (cap_top c) (2 ^ 32) opens.small in
-    let all : (is_unsealed c && (has c execute && nat_lt (cap_top c) (2 ^ 32))) ≡ true = rw (opens.unsealed, opens.executes, small) refl in
-    absurd (let clash : true ≡ false = sym all ∙ none in cc)
-
--- none, where none lies between the ends
-pub too_short : (c : Cap) (ram size from end : ℕ) → from ≡ max (cap_base c) (max ram first_after_native) → end ≡ min (cap_top c) (ram + size) → end - from < 4
-    → HoldsEach (record { from = 1; last = 0 }) c ram size
-too_short c ram size from end begins stops short at opens lies =
-    let ends = lies_so c ram size from end at begins stops opens lies in
-    let low : from ≤ at = ends.0 in
-    let high : at + 4 ≤ end = ends.1 in
-    absurd (omega (arith, low, high, short))
 
 -- ---- at another address
 

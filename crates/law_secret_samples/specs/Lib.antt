@@ -1,0 +1,2 @@
+pub mod Walls
+pub mod Turns
