@@ -1,5 +1,5 @@
 -- The rule that is found for a list of words is the one that is spelled so.
-use Rattle.std.proofs.Common.{◌≡◌, ◌≢◌, ℕ, ◌<◌, ◌≤◌, List, [], ◌∷◌, true, false, Option, Some, None, inl, inr, refl, ap, sym, ◌∙◌, subst, arith, length, option_map, option_and_then, codes, decimal, nat_lt, ◌&&◌}
+use Rattle.std.proofs.Common.{◌≡◌, ◌≢◌, ℕ, ◌<◌, ◌≤◌, List, [], ◌∷◌, true, false, Option, Some, None, inl, inr, refl, ap, sym, ◌∙◌, subst, arith, length, option_map, codes, decimal, nat_lt, ◌&&◌}
 use Rattle.std.specs.Str.{bytes_eq}
 use Rattle.std.proofs.lemmas.Slice.Eq.{bytes_eq-Decides}
 use Rattle.law_lists.proofs.Tests.{bool_tells, both_left, both_right, lt_tells}
