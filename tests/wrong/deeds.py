@@ -76,6 +76,37 @@ MACHINES = [
            "    ∷ (is_range_inside x at (at + a.width), capability_trap BOUNDS_CODE a.by)\n"
            "    ∷ (has x load_data, capability_trap LOAD_CODE a.by)\n"
            "    ∷ (at % a.width == 0, plain_trap MISALIGNED_LOAD)")),
+    wrong("word_asks_for_mc", "a store of a word asks for the right to store capabilities where its value is tagged",
+          "law_truly::checks_stand_in_order", "StoreOrder.bounds, passes",
+          ("def_step/specs/Accesses.antt",
+           "store_checks a x at (a.whole && y.tag)",
+           "store_checks a x at y.tag")),
+    wrong("store_order", "a store of a capability is asked for its bounds before the right to store one",
+          "law_truly::checks_stand_in_order", "StoreOrder.capability, bounds",
+          ("def_step/specs/Accesses.antt",
+           "    ∷ (not carries || has x memory_capability, capability_trap STORE_CAPABILITY_CODE a.by)\n"
+           "    ∷ (is_range_inside x at (at + a.width), capability_trap BOUNDS_CODE a.by)\n",
+           "    ∷ (is_range_inside x at (at + a.width), capability_trap BOUNDS_CODE a.by)\n"
+           "    ∷ (not carries || has x memory_capability, capability_trap STORE_CAPABILITY_CODE a.by)\n")),
+    wrong("fetch_asks_for_eight", "a fetch asks for eight bytes in bounds",
+          "law_truly::checks_stand_in_order", "FetchOrder.passes",
+          ("def_step/specs/Instructions.antt",
+           "is_range_inside pcc (cap_address pcc) (cap_address pcc + 4),",
+           "is_range_inside pcc (cap_address pcc) (cap_address pcc + 8),")),
+    wrong("jump_target_first", "a jump is asked for its target before the right to execute",
+          "law_truly::checks_stand_in_order", "JumpOrder.right, aligned",
+          ("def_step/specs/Jumps.antt",
+           "    ∷ (has x execute, capability_trap EXECUTE_CODE at)\n"
+           "    ∷ (register_target x n % 4 == 0, plain_trap MISALIGNED_FETCH)\n",
+           "    ∷ (register_target x n % 4 == 0, plain_trap MISALIGNED_FETCH)\n"
+           "    ∷ (has x execute, capability_trap EXECUTE_CODE at)\n")),
+    wrong("stack_bounds_first", "a call looks at the bounds of its stack before the right to store local capabilities",
+          "law_truly::checks_stand_in_order", "StackOrder.right, bounds",
+          ("def_step/specs/Switch.antt",
+           "    ∷ (has c store_local, capability_trap STORE_CODE 2)\n"
+           "    ∷ ((cap_base c == base) && is_in_range base top (cap_address c), capability_trap BOUNDS_CODE 2)\n",
+           "    ∷ ((cap_base c == base) && is_in_range base top (cap_address c), capability_trap BOUNDS_CODE 2)\n"
+           "    ∷ (has c store_local, capability_trap STORE_CODE 2)\n")),
     wrong("gate_before_link", "a call looks at its import before its way back",
           "law_truly::checks_stand_in_order", "CallOrder.back",
           ("def_step/specs/Switch.antt",

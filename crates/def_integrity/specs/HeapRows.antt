@@ -14,7 +14,7 @@ use Rattle.def_safety.specs.Each.{ready}
 use Rattle.def_integrity.specs.Acting.{Acting, TellsAct}
 
 -- An allocation that is told put a live object among the others, with the next number; the deed names its quota's
--- entry. It has a row where it is a key or a token.
+-- entry. The object has a row where it is a key or a token.
 pub record IsHandedOut (s : State) (told : Option Deed) (after : State) : Type 0 where
   pub by : Acting s
   pub object : Object

@@ -124,7 +124,8 @@ pub data Asks (b : Platform) (s : State) (t length : ℕ) : Type 0 where
   by_key : RunsRoutine b s t TOKEN_KEY → length ≡ 8 → Asks b s t length
 
 -- Thread t runs a routine that hands an object out, and its c1 leads back. c10 is a quota, and the entry its root, to
--- which the object is charged; it has the length that was asked for and the next number, and stands among the others.
+-- which the object is charged; it is as long as what was asked for, rounded up, has the next number, and stands among
+-- the others.
 pub record IsAllocationTold (b : Platform) (s : State) (t entry number base bytes charged : ℕ)
     (objects : List Object) (next : ℕ) : Type 0 where
   pub asked : ℕ

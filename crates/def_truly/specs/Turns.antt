@@ -101,7 +101,7 @@ pub record ThreadTicked (old new : Thread) : Type 0 where
   pub posture : new.posture ≡ old.posture
 
 -- What a tick leaves. A thread that runs goes on only where it holds interrupts off, and then the tick is pending.
--- Each thread's sleep is one tick shorter; all else is as it was.
+-- Each thread's sleep is one tick shorter; all else but the counts is as it was.
 pub record TickTaken (s after : State) : Type 0 where
   pub runs : (t : ℕ) → (after.running ≡ Some t) ↔ HoldsOff s t
   pub pending : (after.pending ≡ true) ↔ ((s.pending ≡ true) ⊎ ((t : ℕ) × HoldsOff s t))

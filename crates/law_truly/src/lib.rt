@@ -3,13 +3,14 @@
 //! written machine's rules and other laws share. They speak of the written machine alone.
 #![tactic(auto)]
 
-ghost use Rattle.std.specs.Prelude.{◌≡◌, ◌<◌, ◌↔◌, ℕ, Bool, List, Some, None, length};
+ghost use Rattle.std.specs.Prelude.{◌≡◌, ◌<◌, ◌↔◌, ℕ, true, false, List, Some, None, length};
 ghost use Rattle.def_boot.specs.Boot.{boot_state, platform_of};
 ghost use Rattle.def_confined.specs.Facts.{Facts};
 ghost use Rattle.def_confined.specs.Keeps.{Keeps};
 ghost use Rattle.def_confined.specs.Partitioned.{Partitioned};
 ghost use Rattle.def_image.specs.Parts.{PartsRow};
 ghost use Rattle.def_image.specs.Sound.{Sound};
+ghost use Rattle.def_machine.specs.Image.{Image};
 ghost use Rattle.def_machine.specs.Objects.{placed_among, quarantine};
 ghost use Rattle.def_machine.specs.Platform.{Platform};
 ghost use Rattle.def_machine.specs.State.{Object, State, Thread, thread};
@@ -29,7 +30,9 @@ ghost use Rattle.def_words.specs.Seals.{posture_through};
 ghost use Rattle.def_truly.specs.ThreadEnds.{EndsThread};
 ghost use Rattle.def_step.specs.declared.Access.{Access};
 ghost use Rattle.def_truly.specs.FailedChecks.{FailsTrap};
-ghost use Rattle.def_truly.specs.Orders.{CallOrder, FetchOrder, JumpOrder, LoadOrder, StoreOrder};
+ghost use Rattle.def_truly.specs.Orders.{
+    CallOrder, FetchOrder, GateOrder, JumpOrder, LoadOrder, ReturnOrder, StackOrder, StoreOrder, WordOrder,
+};
 ghost use Rattle.def_truly.specs.Instructions.{InstructionsKeep};
 ghost use Rattle.def_events.specs.Running.{RunsFramed};
 ghost use Rattle.def_truly.specs.DeviceAccesses.{AccessesTold};
@@ -112,13 +115,19 @@ pub fn rules_are_plain()
     ensures quarantined { (n : ℕ) (rs : List Object) → IsTakenBack n rs (quarantine n rs) }
 {}
 
-/// Where several checks fail, the trap is of the one that comes first: of a fetch, a load, a store, a jump by a
-/// register, and a call.
+/// Where several checks fail, the trap is of the one that comes first, and where none does there is none: of a fetch
+/// (`fetch`), a load (`load`), a store (`store`), a jump by a register (`jump`), the word of a wait or a wake (`word`),
+/// and a call: what it asks of its way back (`back`), of its import (`gate`), of its stack (`stack`), in this order
+/// (`call`).
 pub fn checks_stand_in_order()
     ensures fetch { (pcc : Cap) → FetchOrder pcc }
-    ensures load { (a : Access) (x : Cap) (at : ℕ) → LoadOrder a x at }
-    ensures store { (a : Access) (x : Cap) (at : ℕ) (carries : Bool) → StoreOrder a x at carries }
+    ensures load { (a : Access) (x y : Cap) (at : ℕ) → a.loads ≡ true → LoadOrder a x y at }
+    ensures store { (a : Access) (x y : Cap) (at : ℕ) → a.loads ≡ false → StoreOrder a x y at }
     ensures jump { (to at : ℕ) (x : Cap) (n : ℕ) → JumpOrder to at x n }
+    ensures word { (i : Image) (s : State) (c : Cap) → WordOrder i s c }
+    ensures back { (c : Cap) → ReturnOrder c }
+    ensures gate { (c : Cap) → GateOrder c }
+    ensures stack { (base top : ℕ) (c : Cap) → StackOrder base top c }
     ensures call { (base top : ℕ) (caller : Thread) → CallOrder base top caller }
 {}
 
