@@ -47,7 +47,7 @@ SURFACE = {
                "Heap::quarantined Heap::paint Heap::flush Heap::find",
     "ct_token": "Tokens Tokens::new Tokens::add_key Tokens::add_token Tokens::drop_row Tokens::is_key Tokens::opens opened",
     "ct_revoke": "Front sweep_all Front::idle Front::running Front::at Front::begin Front::slice Front::finished Front::end",
-    "ct_switch": "Thread Area First Fresh Called Thread::new save resume call return_to_caller unwind end_with",
+    "ct_switch": "Thread Area First Fresh Called Thread::new save resume call return_to_caller end_with",
     "ct_handler": "Start record_at write_record fresh answer",
     "ct_sched": "Sched Status Sched::new Sched::pick Sched::tick Sched::sleep Sched::wait Sched::wake Sched::end "
                 "Sched::status",

@@ -38,13 +38,7 @@ pub(crate) fn return_to_caller<M: Memory>(rows: &mut Rows, mem: &mut M, t: u32, 
 }
 
 /// The innermost frame of the running thread ends with a value. `false` exactly where that ends the thread.
-pub(crate) fn end_with<M: Memory>(
-    rows: &mut Rows,
-    mem: &mut M,
-    t: u32,
-    e: &Entries,
-    value: u32,
-) -> bool
+pub(crate) fn end_with<M: Memory>(rows: &mut Rows, mem: &mut M, t: u32, value: u32) -> bool
     requires holds { IsEngine (M.granules mem.old) rows.old }
     requires runs { rows.old.running ≡ Some t }
     requires top { TopLies (engine_view (M.granules mem.old) rows.old) t }
@@ -54,7 +48,7 @@ pub(crate) fn end_with<M: Memory>(
     ensures seen { engine_view (M.granules mem.new) rows.new
         ≡ ended_with (engine_view (M.granules mem.old) rows.old) t value }
 {
-    let more = end_row(&mut rows.list[t as usize], mem, e, value);
+    let more = end_row(&mut rows.list[t as usize], mem, value);
     rows.running = still(t, more);
     more
 }

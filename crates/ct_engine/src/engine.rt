@@ -201,13 +201,13 @@ impl<M: Memory + Drop> Engine<M> {
 
     /// The innermost frame of the running thread is unwound after a trap: the return with c10 = -1 and c11 = 0. `false`
     /// exactly where the frame was the thread's last. docs/use/machine.md.
-    pub fn unwind(&mut self, t: u32, e: &Entries) -> bool
+    pub fn unwind(&mut self, t: u32) -> bool
         requires runs { self.old.running ≡ Some t }
         requires top { TopLies self.old t }
         ensures result { result ≡ nat_lt 1 (length (thread self.old t).frames) }
         ensures is { self.new ≡ ended_with self.old t UNWOUND }
     {
-        calls::end_with(&mut self.rows, &mut self.mem, t, e, UNWOUND)
+        calls::end_with(&mut self.rows, &mut self.mem, t, UNWOUND)
     }
 
     /// The running thread trapped: its compartment's error handler, the export with this number, is entered where
@@ -235,14 +235,14 @@ impl<M: Memory + Drop> Engine<M> {
     /// The innermost frame of the running thread, whose error handler was entered, ends: where the address of c10 is 1
     /// it is the return with c10 = that of c11 and c11 = 0, else the unwind. `false` exactly where the frame was the
     /// thread's last. docs/use/machine.md.
-    pub fn end_handler(&mut self, t: u32, e: &Entries) -> bool
+    pub fn end_handler(&mut self, t: u32) -> bool
         requires runs { self.old.running ≡ Some t }
         requires top { TopLies self.old t }
         ensures result { result ≡ nat_lt 1 (length (thread self.old t).frames) }
         ensures is { self.new ≡ ended_with self.old t (handler_value (thread self.old t)) }
     {
         let value = value_in(&self.rows, t);
-        calls::end_with(&mut self.rows, &mut self.mem, t, e, value)
+        calls::end_with(&mut self.rows, &mut self.mem, t, value)
     }
 
     /// What stands at an address, where nothing is hidden: an instruction, the return, another native routine by its

@@ -31,7 +31,7 @@ fn take_return<M: Memory + Drop>(engine: &mut Engine<M>, t: u32, entries: &Entri
     ensures is { engine.new ≡ return_at engine.old entries.now t }
 {
     if engine.is_handling(t) {
-        return engine.end_handler(t, entries);
+        return engine.end_handler(t);
     }
     engine.return_to_caller(t, entries)
 }
@@ -53,7 +53,7 @@ fn take_trap<M: Memory + Drop>(
     if engine.handle(t, entries, handler, trap) {
         return true;
     }
-    engine.unwind(t, entries)
+    engine.unwind(t)
 }
 
 /// Where the running thread returned or trapped, its innermost frame ends, or its compartment's error handler, this

@@ -1,7 +1,6 @@
-//! A frame's end: the return, the unwind, and the end of an error handler.
+//! A frame's end: the return, and the end with a value, by which a frame is unwound and an error handler ends.
 
 ghost use Rattle.std.specs.Prelude.{◌≡◌, ◌*◌, ◌<◌, ℕ, Bool, true, nat_lt, length};
-ghost use Rattle.def_profile.specs.declared.answers.TheConstants.{UNWOUND};
 ghost use Rattle.def_words.specs.declared.Cap.{Cap};
 ghost use Rattle.def_memory.specs.Granules.{plain};
 ghost use Rattle.def_machine.specs.State.{Frame};
@@ -22,7 +21,6 @@ use ct_entry::Entries;
 use ct_flow::posture_through;
 use ct_loadstore::filter;
 use ct_mem::Memory;
-use def_profile::answers::UNWOUND;
 
 /// What a frame keeps, through the load filter.
 fn through<M: Memory>(mem: &M, ram: u32, saved: &Saved) -> Saved
@@ -133,25 +131,9 @@ pub fn return_to_caller<M: Memory>(t: &mut Thread, mem: &mut M, e: &Entries) -> 
     leave(t, mem, &saved, first, second)
 }
 
-/// The unwind: the return with c10 = -1 and c11 = 0. `false` exactly where the frame was the thread's last.
-pub fn unwind<M: Memory>(t: &mut Thread, mem: &mut M, e: &Entries) -> bool
-    requires { IsReady (M.granules mem.old) t.old }
-    ensures result { result ≡ nat_lt 1 t.old.depth }
-    ensures thread { thread_of (M.granules mem.new) true t.new
-        ≡ thread_left (M.granules mem.old) t.old (λ f. plain UNWOUND) (λ f. plain 0) }
-    ensures memory { M.granules mem.new ≡ memory_left (M.granules mem.old) t.old }
-    ensures row { t.new
-        ≡ row_left (M.granules mem.old) t.old (λ f. plain UNWOUND) (λ f. plain 0) }
-    ensures others { (u : row.Thread) (runs : Bool)
-        → IsOther t.old u (8 * length (M.granules mem.old))
-        → thread_of (M.granules mem.new) runs u ≡ thread_of (M.granules mem.old) runs u }
-{
-    end_with(t, mem, e, UNWOUND)
-}
-
-/// The end of a frame with a value, as its error handler says: the return with c10 = the value and c11 = 0. `false`
-/// exactly where the frame was the thread's last.
-pub fn end_with<M: Memory>(t: &mut Thread, mem: &mut M, _e: &Entries, value: u32) -> bool
+/// The end of a frame with a value, as its error handler says, or -1 where it is unwound: the return with c10 = the
+/// value and c11 = 0. `false` exactly where the frame was the thread's last.
+pub fn end_with<M: Memory>(t: &mut Thread, mem: &mut M, value: u32) -> bool
     requires { IsReady (M.granules mem.old) t.old }
     ensures result { result ≡ nat_lt 1 t.old.depth }
     ensures thread { thread_of (M.granules mem.new) true t.new

@@ -53,11 +53,11 @@ pub fn return_row<M: Memory>(t: &mut Thread, mem: &mut M, e: &Entries) -> bool
 /// The innermost frame of a thread that runs ends with a value. `false` exactly where that ends the thread.
 ///
 /// Condition: the row is kept, with a frame at least.
-pub fn end_row<M: Memory>(t: &mut Thread, mem: &mut M, e: &Entries, value: u32) -> bool
+pub fn end_row<M: Memory>(t: &mut Thread, mem: &mut M, value: u32) -> bool
     requires kept { IsKept (M.granules mem.old) true t.old }
     requires ready { ready.IsReady (M.granules mem.old) t.old }
     ensures { Ends (M.granules mem.old) (M.granules mem.new) t.old t.new result
         (λ f. plain value) (λ f. plain 0) }
 {
-    end(t, mem, e, value)
+    end(t, mem, value)
 }

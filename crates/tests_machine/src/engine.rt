@@ -84,7 +84,6 @@ fn no_entries(alloc: Global) -> Entries
 /// held.
 #[test]
 fn threads_take_turns(rt: HostRuntime) -> Result<(), NoMemory> {
-    let none = no_entries(rt.alloc());
     let threads = [fresh(1), fresh(2)];
     let heap = Heap::new(rt.alloc(), 0x8000_0000, 0x8000_0600, 512, &[])?;
     let memory = Plain::new(rt.alloc(), 2048)?;
@@ -106,14 +105,13 @@ fn threads_take_turns(rt: HostRuntime) -> Result<(), NoMemory> {
     is(&rt, 3, engine.load(0x250, 4) == 0);
     engine.pick(0);
     is(&rt, 4, engine.register(0, 2).cap.word == 1);
-    is(&rt, 5, !engine.unwind(0, &none));
+    is(&rt, 5, !engine.unwind(0));
     is(&rt, 6, engine.running() == None);
     engine.pick(1);
     is(&rt, 7, engine.register(1, 2).cap.word == 5);
     is(&rt, 8, engine.pcc(1).address() == 0x200);
     is(&rt, 9, engine.running() == Some(1));
     drop(engine);
-    drop(none);
     Ok(())
 }
 

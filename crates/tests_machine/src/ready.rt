@@ -11,7 +11,8 @@ use crate::seen::is;
 use ct_cap::{Cap, Live, Shadow, Trap, shrink};
 use ct_entry::Entries;
 use ct_mem::{Memory, Plain};
-use ct_switch::{Area, Called, Thread, call, resume, return_to_caller, save, unwind};
+use ct_switch::{Area, Called, Thread, call, end_with, resume, return_to_caller, save};
+use def_profile::answers::UNWOUND;
 use def_profile::traps::TAG_CODE;
 use def_refusals::NoMemory;
 use std::alloc::{AllocError, Global};
@@ -56,11 +57,11 @@ fn called(t: &mut Thread, mem: &mut Plain, e: &Entries) -> Option<Called> {
 }
 
 /// The unwind, where it may be made.
-fn unwound(t: &mut Thread, mem: &mut Plain, e: &Entries) -> Option<bool> {
+fn unwound(t: &mut Thread, mem: &mut Plain) -> Option<bool> {
     if !is_ready(t, mem) {
         return None;
     }
-    Some(unwind(t, mem, e))
+    Some(end_with(t, mem, UNWOUND))
 }
 
 /// The return, where it may be made.
@@ -192,8 +193,8 @@ fn enters(rt: &impl Abort, t: &mut Thread, mem: &mut Plain, e: &Entries, entry: 
 }
 
 /// The unwind leaves a frame to go on in, or none.
-fn unwinds(rt: &impl Abort, t: &mut Thread, mem: &mut Plain, e: &Entries, goes_on: bool) {
-    is(rt, 0, unwound(t, mem, e) == Some(goes_on));
+fn unwinds(rt: &impl Abort, t: &mut Thread, mem: &mut Plain, goes_on: bool) {
+    is(rt, 0, unwound(t, mem) == Some(goes_on));
 }
 
 /// The call in c6 is answered so, and all of memory is as before.
@@ -279,11 +280,11 @@ fn go_deep(rt: &impl Abort, t: &mut Thread, mem: &mut Plain, e: &Entries) {
     see(rt, t, mem, &IN_THIRD);
     put(mem, 0x800 + 8, t.regs[3]);
     put(mem, 0x800 + 248, Live::integer(5));
-    unwinds(rt, t, mem, e, true);
+    unwinds(rt, t, mem, true);
     see(rt, t, mem, &BACK_IN_SECOND);
-    unwinds(rt, t, mem, e, true);
+    unwinds(rt, t, mem, true);
     see(rt, t, mem, &BACK_IN_FIRST);
-    unwinds(rt, t, mem, e, false);
+    unwinds(rt, t, mem, false);
     see(rt, t, mem, &ENDED);
 }
 
@@ -455,9 +456,9 @@ fn go_by_layout(rt: &impl Abort, t: &mut Thread, mem: &mut Plain, e: &Entries) {
     enters(rt, t, mem, e, 7, 12);
     see(rt, t, mem, &FRAME_2);
     stops(rt, t, mem);
-    unwinds(rt, t, mem, e, true);
+    unwinds(rt, t, mem, true);
     see(rt, t, mem, &SECOND);
-    unwinds(rt, t, mem, e, true);
+    unwinds(rt, t, mem, true);
     is(rt, 3, t.handling);
     is(rt, 4, shrink(t.regs[2]) == stack);
     see(rt, t, mem, &CALLER);
