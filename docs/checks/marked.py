@@ -155,7 +155,7 @@ MARKED = {
     },
     "ct_threads": {
         "inner":
-            "access call_row return_row end_row next fetch_word handle_row value_of read read_ref jump_row "
+            "access call_row return_row end_row next fetch_trap fetch_word handle_row value_of read read_ref jump_row "
             "put_row branch_row filter_row begin stop_row pick_row Window::empty Window::holds window_of",
     },
     "ct_engine": {

@@ -5,13 +5,13 @@ ghost use Rattle.ct_execute.specs.Deciding.{decision, Decided, IfUnfinished, Ran
 ghost use Rattle.ct_execute.specs.Opening.{MayGo};
 
 use crate::classes::execute_instruction;
-use crate::fetching::fetch_trap;
 use crate::ran::Ran;
 use ct_bus::Bus;
 use ct_cap::Trap;
 use ct_engine::Engine;
 use ct_entry::Entries;
 use ct_mem::Memory;
+use ct_threads::fetch_trap;
 use def_profile::traps::ILLEGAL_INSTRUCTION;
 use def_step::Next;
 

@@ -8,7 +8,6 @@
 
 mod classes;
 mod executing;
-mod fetching;
 mod laws;
 mod quiet;
 mod ran;

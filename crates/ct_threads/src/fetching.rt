@@ -1,24 +1,54 @@
-//! What stands at an address.
+//! The checks of a fetch, and what stands at an address.
 
-ghost use Rattle.std.specs.Prelude.{◌≡◌, ◌+◌, ◌*◌, ◌%◌, ◌≤◌, ◌&&◌, ◌==◌, IfSome, is_some, length};
+ghost use Rattle.std.specs.Prelude.{◌≡◌, ◌+◌, ◌*◌, ◌%◌, ◌≤◌, ◌&&◌, ◌==◌, IfSome, is_none, is_some, length};
 ghost use Rattle.def_words.specs.Authority.{cap_address};
 ghost use Rattle.def_machine.specs.Memory.{lies_in};
-ghost use Rattle.def_step.specs.Instructions.{fetched, next_at, next_native, is_native_entry};
+ghost use Rattle.def_step.specs.Checks.{first_failed};
+ghost use Rattle.def_step.specs.Instructions.{fetch_checks, fetched, next_at, next_native, is_native_entry};
 ghost use Rattle.ct_loadstore.specs.Shapes.{space_of};
 ghost use Rattle.ct_threads.specs.Steps.{finds_word, is_word_of_ram, no_bank, NextInRange};
 ghost use Rattle.ct_threads.specs.Windows.{IsWindow};
 
-use crate::registers::may_fetch;
 use crate::window::Window;
-use ct_cap::Live;
+use ct_cap::{Flags, Live, Perms, Trap};
 use ct_isa::decode;
 use ct_mem::Memory;
 use def_native::LAST_NATIVE;
 use def_profile::native::{NATIVE_BASE, NATIVE_UNIT, RETURN_ENTRY};
+use def_profile::traps::{BOUNDS_CODE, EXECUTE_CODE, PCC_REGISTER, SEAL_CODE, TAG_CODE};
 use def_step::{LAST_ROUTINE, Next};
 
 /// The first address past the entries of native routines.
 pub(crate) const FIRST_AFTER_NATIVE: u32 = NATIVE_BASE + NATIVE_UNIT * (LAST_NATIVE + 1);
+
+/// The first check of a fetch that fails.
+#[tactic(auto, using(ct_perm::proofs::Tests::has_ex))]
+#[inline(always)]
+pub fn fetch_trap(pcc: Live) -> Option<Trap>
+    ensures { result ≡ first_failed (fetch_checks pcc) }
+{
+    if !pcc.cap.tag {
+        return Some(Trap::capability(TAG_CODE, PCC_REGISTER));
+    }
+    if pcc.seal != 0 {
+        return Some(Trap::capability(SEAL_CODE, PCC_REGISTER));
+    }
+    if !pcc.perms.contains(Perms::EX) {
+        return Some(Trap::capability(EXECUTE_CODE, PCC_REGISTER));
+    }
+    if !pcc.covers(pcc.address(), 4) {
+        return Some(Trap::capability(BOUNDS_CODE, PCC_REGISTER));
+    }
+    None
+}
+
+/// Whether each check of a fetch passes.
+#[inline(always)]
+fn may_fetch(pcc: &Live) -> bool
+    ensures { result ≡ is_none (first_failed (fetch_checks pcc.now)) }
+{
+    fetch_trap(*pcc).is_none()
+}
 
 /// Whether an aligned word at an address lies in RAM.
 #[inline(always)]

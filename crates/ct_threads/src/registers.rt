@@ -1,18 +1,16 @@
 //! A row's registers and its program counter, and how its thread goes on.
 
-ghost use Rattle.std.specs.Prelude.{◌≡◌, ◌<◌, is_none, map, slice_index_or};
+ghost use Rattle.std.specs.Prelude.{◌≡◌, ◌<◌, map, slice_index_or};
 ghost use Rattle.def_words.specs.Capability.{integer, raised, with_address};
 ghost use Rattle.def_memory.specs.Granules.{plain};
 ghost use Rattle.def_machine.specs.Memory.{filtered_in};
 ghost use Rattle.def_machine.specs.Registers.{written};
-ghost use Rattle.def_step.specs.Checks.{first_failed};
-ghost use Rattle.def_step.specs.Instructions.{fetch_checks};
 ghost use Rattle.ct_threads.specs.Rows.{row_gone};
 ghost use Rattle.ct_threads.specs.Windows.{Suits};
 
 use crate::window::Window;
 use ct_areas::Thread;
-use ct_cap::{Flags, Live, Perms, Posture, raise, turn};
+use ct_cap::{Live, Posture, raise, turn};
 use ct_loadstore::filter;
 use ct_mem::Memory;
 
@@ -109,23 +107,4 @@ pub fn filter_row<M: Memory>(t: &mut Thread, mem: &M)
     } }
 {
     filter_each(&mut t.regs, mem, t.area.ram);
-}
-
-/// Whether each check of a fetch passes.
-#[tactic(auto, using(ct_perm::proofs::Tests::has_ex))]
-#[inline(always)]
-pub(crate) fn may_fetch(pcc: &Live) -> bool
-    ensures { result ≡ is_none (first_failed (fetch_checks pcc.now)) }
-{
-    if !pcc.cap.tag {
-        return false;
-    }
-    if pcc.seal != 0 {
-        return false;
-    }
-    if !pcc.perms.contains(Perms::EX) {
-        return false;
-    }
-    let at = pcc.address() as u64;
-    pcc.bounds.base <= at && at + 4 <= pcc.bounds.top
 }
