@@ -1,5 +1,5 @@
 -- The running thread's registers pass the load filter.
-use Rattle.std.proofs.Common.{ℕ, ◌≡◌, true, List, ◌∷◌, map, Some, refl, sym, ap, ◌∙◌, subst}
+use Rattle.std.proofs.Common.{ℕ, ◌≡◌, true, List, map, Some, refl, sym, ap, ◌∙◌, subst}
 use Rattle.std.proofs.Math.ListN.{get_or, set}
 use Rattle.law_hidden.proofs.Steps.{filtered_same}
 use Rattle.def_words.specs.declared.Cap.{Cap}

@@ -1,6 +1,6 @@
 -- A trap of the running thread, and its compartment's error handler: what is asked, whether it is entered, and what it
 -- leaves.
-use Rattle.std.specs.Prelude.{ℕ, ◌+◌, ◌-◌, ◌≡◌, Bool, false, cond, List, [], ◌∷◌, slice_set}
+use Rattle.std.specs.Prelude.{ℕ, ◌+◌, ◌≡◌, Bool, false, cond, List, [], ◌∷◌, slice_set}
 use Rattle.ct_entry.specs.Listed.{Listed}
 use Rattle.def_words.specs.declared.Trap.{Trap}
 use Rattle.def_words.specs.Capability.{with_address}

@@ -1,8 +1,8 @@
 -- What an engine keeps: where the threads' areas lie, and what stands in them; that chunks and heap agree; and that there
 -- is room for the rows of keys and tokens.
-use Rattle.std.specs.Prelude.{ℕ, ◌+◌, ◌-◌, ◌*◌, ◌/◌, ◌%◌, ◌≡◌, ◌≤◌, ◌<◌, ◌⊎◌, true, false, List, [], ◌∷◌, length, map, Option, Some, unwrap_or}
+use Rattle.std.specs.Prelude.{ℕ, ◌+◌, ◌*◌, ◌/◌, ◌%◌, ◌≡◌, ◌≤◌, ◌<◌, ◌⊎◌, true, false, List, [], ◌∷◌, length, map, Option, Some, unwrap_or}
 use Rattle.def_memory.specs.declared.Granule.{Granule}
-use Rattle.def_memory.specs.Granules.{plain, cap_in}
+use Rattle.def_memory.specs.Granules.{cap_in}
 use Rattle.def_memory.specs.Ranges.{is_tagged}
 use Rattle.def_chunks.specs.declared.heads.TheConstants.{SLOT}
 use Rattle.def_chunks.specs.Heaps.{HeapRow, Laid}

@@ -1,6 +1,6 @@
 //! A trap's error handler, and its end, of the running thread.
 
-ghost use Rattle.std.specs.Prelude.{◌≡◌, ◌<◌, ◌-◌, ◌/◌, Some, length, List};
+ghost use Rattle.std.specs.Prelude.{◌≡◌, ◌<◌, ◌-◌, Some, length, List};
 ghost use Rattle.def_memory.specs.declared.Granule.{Granule};
 ghost use Rattle.def_step.specs.Handlers.{handler_value};
 ghost use Rattle.ct_engine.specs.Kept.{IsEngine};

@@ -1,11 +1,10 @@
 //! One instruction that does nothing that is told, on the running thread where it stands.
 
-ghost use Rattle.std.specs.Prelude.{ℕ, ◌≡◌, ◌%◌, ◌==◌, Some, IfSome, true, false};
+ghost use Rattle.std.specs.Prelude.{ℕ, ◌≡◌, ◌%◌, ◌==◌, Some, true, false};
 ghost use Rattle.ct_entry.specs.Listed.{Listed};
 ghost use Rattle.def_instr.specs.declared.Instr.{Instr};
 ghost use Rattle.def_step.specs.declared.Class.TheVariants as kinds;
 ghost use Rattle.def_step.specs.Devices.{DeviceStates};
-ghost use Rattle.def_step.specs.Instructions.{next_word};
 ghost use Rattle.def_step.specs.Jumps.{target_at};
 ghost use Rattle.def_step.specs.Operands.{class_of, operands_of};
 ghost use Rattle.ct_decode.specs.Reading.{AreRegisters};

@@ -1,5 +1,5 @@
 -- A step that tells nothing: what the code leaves of it is what the written step leaves.
-use Rattle.std.proofs.Common.{ℕ, zero, suc, ◌+◌, ◌*◌, ◌≡◌, ◌&&◌, ◌||◌, is_none, is_some, Bool, true, false, if◌then◌else◌, cond, List, [], ◌∷◌, length, Option, Some, None, option_map, refl, sym, ap, ◌∙◌, subst}
+use Rattle.std.proofs.Common.{ℕ, zero, suc, ◌+◌, ◌*◌, ◌≡◌, ◌&&◌, ◌||◌, is_some, Bool, true, false, if◌then◌else◌, cond, List, [], ◌∷◌, length, Option, Some, None, option_map, refl, sym, ap, ◌∙◌, subst}
 use Rattle.std.proofs.Math.ListN.{get_or, set}
 use Rattle.std.proofs.lemmas.Bool.{eq-eqb}
 use Rattle.ct_entry.specs.declared.acts.Act.{Act}
@@ -19,7 +19,7 @@ use Rattle.def_step.specs.declared.Event.TheVariants.{Step}
 use Rattle.def_step.specs.declared.Next.{Next}
 use Rattle.def_step.specs.declared.Next.TheVariants.{Returning, Instruction, Native, Nothing}
 use Rattle.def_step.specs.Devices.{DeviceStates}
-use Rattle.def_step.specs.Instructions.{actor_of, fetch_checks, next_at}
+use Rattle.def_step.specs.Instructions.{actor_of, next_at}
 use Rattle.def_machine.specs.Platform.{Platform, MachineRow}
 use Rattle.def_step.specs.Events.{holder_by, holder, begun_since, begun, preempted, scheduled, one_more_step, run_on, told_of, happens, end_of}
 use Rattle.ct_sched.specs.Sched.{SchedRow}
@@ -34,7 +34,6 @@ use Rattle.ct_execute.specs.declared.ran.Ran.TheVariants.{Went}
 use Rattle.ct_execute.specs.Deciding.{act_by, Decision, Goes, Returns, Serves, Traps, decision, Decided, Stays, WentQuietly}
 use Rattle.ct_machine.specs.Parts.{state_by, IsKept, IsCounted}
 use Rattle.def_words.specs.Authority.{cap_address}
-use Rattle.def_step.specs.Checks.{first_failed}
 use Rattle.def_step.specs.Operands.{class_of}
 use Rattle.ct_loadstore.specs.Shapes.{space_of}
 use Rattle.ct_execute.specs.Quiet.{goes_quietly, goes_at, goes_by, jump_by, jumps_whole, offset_of}

@@ -1,10 +1,8 @@
 //! A frame's end: the return, and the end with a value, by which a frame is unwound and an error handler ends.
 
-ghost use Rattle.std.specs.Prelude.{◌≡◌, ◌*◌, ◌<◌, ℕ, Bool, true, nat_lt, length};
-ghost use Rattle.def_words.specs.declared.Cap.{Cap};
+ghost use Rattle.std.specs.Prelude.{◌≡◌, ◌*◌, ◌<◌, Bool, true, nat_lt, length};
 ghost use Rattle.def_memory.specs.Granules.{plain};
 ghost use Rattle.def_machine.specs.State.{Frame};
-ghost use Rattle.def_reach.specs.Roots.{root_of};
 ghost use Rattle.ct_areas.specs.declared.thread.Thread as row;
 ghost use Rattle.ct_areas.specs.Threads.{thread_of};
 ghost use Rattle.ct_areas.specs.Parts.{inner_frame, saved_in};

@@ -1,6 +1,6 @@
 //! Searches among the entries.
 
-ghost use Rattle.std.specs.Prelude.{◌≡◌, ◌<◌, ◌≤◌, ◌+◌, ◌-◌, ℕ, true, false, length, slice_get, slice_index_or};
+ghost use Rattle.std.specs.Prelude.{◌≡◌, ◌<◌, ◌≤◌, ◌-◌, ℕ, true, false, length, slice_get, slice_index_or};
 ghost use Rattle.ct_entry.specs.declared.rows.Gate.{Gate};
 ghost use Rattle.def_reach.specs.Roots.{gate_for};
 ghost use Rattle.ct_switch.specs.Exports.{AreSorted, AreTogether, no_row, row_named, is_export_of, table_in};
