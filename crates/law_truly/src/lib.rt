@@ -31,7 +31,15 @@ ghost use Rattle.def_truly.specs.ThreadEnds.{EndsThread};
 ghost use Rattle.def_step.specs.declared.Access.{Access};
 ghost use Rattle.def_truly.specs.FailedChecks.{FailsTrap};
 ghost use Rattle.def_truly.specs.Orders.{
-    CallOrder, FetchOrder, GateOrder, JumpOrder, LoadOrder, ReturnOrder, StackOrder, StoreOrder, WordOrder,
+  CallOrder,
+  FetchOrder,
+  GateOrder,
+  JumpOrder,
+  LoadOrder,
+  ReturnOrder,
+  StackOrder,
+  StoreOrder,
+  WordOrder,
 };
 ghost use Rattle.def_truly.specs.Instructions.{InstructionsKeep};
 ghost use Rattle.def_events.specs.Running.{RunsFramed};
