@@ -107,7 +107,7 @@ for name, title, fault, offset in (("named_otherwise", "id", 3, 16), ("of_a_libr
     altered("key_" + name, data, f"{fault} {slot + offset}")
 
 # A region of no bytes lies within another, and meets none.
-empty = images.owner(False, "empty", 0x80000000, 0, [], [], b"")
+empty = images.owner(False, "empty", 0x80000010, 0, [], [], b"")
 lawful("empty_region", with_numbers(LARGE[:-112] + empty + LARGE[-112:], (24, 3)))
 
 
