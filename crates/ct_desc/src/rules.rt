@@ -12,7 +12,7 @@ use ct_desc_value::members::text_or;
 use ct_desc_value::tables::service_of;
 use def_desc::tables::{DEVICE_RIGHTS, SHARED_RIGHTS};
 use def_desc::{Form, PartWord, Place};
-use def_image::taken::SERVICES_TAKEN;
+use def_native::LAST_NATIVE;
 
 /// A rule that is judged at each place by what stands there.
 #[derive(Clone, Copy, PartialEq, Eq, Drop)]
@@ -61,7 +61,7 @@ fn is_taken(name: &str) -> bool
     ensures { result ≡ spec.is_served Form.Service name.now }
 {
     match service_of(name.as_bytes()) {
-        Some(number) => number <= SERVICES_TAKEN,
+        Some(number) => number <= LAST_NATIVE,
         None => false,
     }
 }

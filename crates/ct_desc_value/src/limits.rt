@@ -13,10 +13,9 @@ use crate::members::{list_at, list_in, number_in, number_or, text_at, text_of};
 use crate::tables::{Member, members_of};
 use crate::walk::Spot;
 use def_desc::{PartWord, Shape};
-use def_image::taken::VERSIONS_TAKEN;
 use def_image::versions::{is_sweep_rate, most_ram, most_threads};
 use def_profile::layout::REGION_UNIT;
-use def_profile::limits::{MOST_BYTES, MOST_FILE_NAME, RAM_END, SWEEP_RATE};
+use def_profile::limits::{LAST_VERSION, MOST_BYTES, MOST_FILE_NAME, RAM_END, SWEEP_RATE};
 use def_profile::seals::{FIRST_KEY_TYPE, LAST_KEY_TYPE};
 use serde_json::Value;
 
@@ -99,7 +98,7 @@ fn keeps_each(value: &Value, members: &[Member]) -> bool
 fn keeps_version(version: u64, value: &Value) -> bool
     ensures { result ≡ spec.keeps_version version (view value.now) }
 {
-    version <= VERSIONS_TAKEN as u64
+    version <= LAST_VERSION as u64
         && is_sweep_rate(version, number_or(value, "sweep", SWEEP_RATE as u64))
         && list_at(value, "threads").len() as u64 <= most_threads(version) as u64
 }

@@ -4,9 +4,9 @@ ghost use Rattle.std.specs.Prelude.{◌≡◌, map};
 ghost use Rattle.def_desc.specs.Members.{says};
 ghost use Rattle.def_desc.specs.Tables as spec;
 
-use ct_entry::{DeviceKind, Mode};
+use ct_entry::{DEVICE_KINDS, DeviceKind, Mode};
 use def_desc::tables::{
-    COMPARTMENT, DEVICE, EXPORT, FIRMWARE, IMPORT, KINDS, LEXPORT, LIBRARY, LIBRARY_POSTURES,
+    COMPARTMENT, DEVICE, EXPORT, FIRMWARE, IMPORT, LEXPORT, LIBRARY, LIBRARY_POSTURES,
     LIMPORT, OF_COMPARTMENT, OF_LIBRARY, PASSES, POSTURES, QUOTA, RAM, SEALED, SERVICES, SHARED,
     THREAD,
 };
@@ -29,7 +29,7 @@ fn find<T: Copy>(table: &[(&'static str, T)], name: &[u8]) -> Option<T>
 pub fn kind_of(text: &str) -> Option<DeviceKind>
     ensures { result ≡ spec.kind_of text.now }
 {
-    find(&KINDS, text.as_bytes())
+    find(&DEVICE_KINDS, text.as_bytes())
 }
 
 /// The posture of a compartment's export.

@@ -11,7 +11,7 @@ use crate::{index_fault, region_fault, right_fault};
 use ct_image_fields::{Cut, MAGIC, read};
 use ct_image_limits::limit_fault;
 use ct_image_parts::{Parts, parts_of, places_of};
-use def_image::taken::VERSIONS_TAKEN;
+use def_profile::limits::LAST_VERSION;
 use std::alloc::Global;
 
 /// Whether bytes begin with the magic and a version that is known.
@@ -22,7 +22,7 @@ fn is_begun(bytes: &[u8]) -> bool
         return false;
     }
     let version = u32::from_le_bytes([bytes[4], bytes[5], bytes[6], bytes[7]]);
-    &bytes[..4] == MAGIC.as_slice() && 1 <= version && version <= VERSIONS_TAKEN
+    &bytes[..4] == MAGIC.as_slice() && 1 <= version && version <= LAST_VERSION
 }
 
 /// The image of parts whose limits and forms hold. Else what is wrong with them first, of where

@@ -6,7 +6,7 @@ ghost use Rattle.ct_image_limits.specs.Owners.{bounds_of};
 
 use crate::checks::{are_zeros, check, outside};
 use def_image::Check;
-use def_image::taken::SERVICES_TAKEN;
+use def_native::LAST_NATIVE;
 use def_profile::limits::{MOST_ARGUMENTS, MOST_QUOTA, MOST_STACK};
 use def_profile::seals::{FIRST_KEY_TYPE, LAST_KEY_TYPE};
 
@@ -49,7 +49,7 @@ fn misnumbered(kind: u8, number: u32) -> bool
     ensures { result ≡ spec.misnumbered kind number }
 {
     match kind {
-        1 => SERVICES_TAKEN < number,
+        1 => LAST_NATIVE < number,
         7 => MOST_QUOTA < number,
         8 => outside(FIRST_KEY_TYPE, LAST_KEY_TYPE, number),
         _ => false,

@@ -9,7 +9,8 @@ use Rattle.def_image.specs.declared.format.TheConstants.{ENTRY, DEVICE, SHARED, 
 use Rattle.def_image.specs.Raw.{RawDevice, RawShared, RawSealed, RawCode, RawCompartment, RawThread, RawImage}
 use Rattle.def_image.specs.Parts.{SharedRow, SealedRow, CompartmentRow, ThreadRow}
 use Rattle.def_image.specs.Profile.{outside}
-use Rattle.def_image.specs.Spelling.{zeros, padding_after, device_number, raw_slot, raw_gate, raw_device, raw_shared, raw_sealed, raw_code, raw_compartment, raw_thread, raw_of, import_field, export_field}
+use Rattle.ct_entry.specs.DeviceKinds.{device_kind_of, device_number}
+use Rattle.def_image.specs.Spelling.{zeros, padding_after, raw_slot, raw_gate, raw_device, raw_shared, raw_sealed, raw_code, raw_compartment, raw_thread, raw_of, import_field, export_field}
 use Rattle.def_image.specs.Shapes.{IsRawEntry, IsDevice, IsShared, IsSealed, IsCode, IsCompartment, IsThread, IsShaped, Clean, SpellableSlot, SpellableGate, SpellableCode, IsSpellable}
 use Rattle.def_image.specs.Sizes.{entries_size, sealed_size, compartment_size, library_size, devices_at, shared_at, sealed_at, compartments_at, libraries_at, threads_at, rate_size}
 use Rattle.def_image.specs.Checks.{first, check}
@@ -17,7 +18,7 @@ use Rattle.def_image.specs.Limits.{name_checks, are_zeros, header_limits, device
 use Rattle.law_image.proofs.Tells.{within_is}
 use Rattle.law_image.proofs.Passing.{left_none, right_none, all_pass, every}
 use Rattle.law_image.proofs.Holding.{limited, compartment_holds, library_holds}
-use Rattle.ct_image_parts.specs.Converted.{device_kind_of, import_of, export_of, slot_of, gate_of, device_of, shared_of, sealed_of, code_of, compartment_of, thread_of, parts_of}
+use Rattle.ct_image_parts.specs.Converted.{import_of, export_of, slot_of, gate_of, device_of, shared_of, sealed_of, code_of, compartment_of, thread_of, parts_of}
 use Rattle.ct_image_parts.specs.Back.{FieldsComeBack}
 use Rattle.ct_image_parts.proofs.NameTexts.{NameFits, name_fits, field_back, text_clean, all_zeros}
 use Rattle.ct_image_parts.proofs.Rows.{AreNarrow, import_back, export_back, device_back, small_there}

@@ -7,11 +7,12 @@ use Rattle.std.proofs.lemmas.Bool.{not-false, eqb-true}
 use Rattle.law_lists.proofs.Tests.{both_left, both_right}
 use Rattle.def_image.specs.declared.Check.{Check}
 use Rattle.def_image.specs.Sound.{IsWithin}
-use Rattle.def_image.specs.Spelling.{number, kind_byte, posture_byte, passes_byte, device_number, import_field, export_field}
+use Rattle.ct_entry.specs.DeviceKinds.{device_kind_of, device_number}
+use Rattle.def_image.specs.Spelling.{number, kind_byte, posture_byte, passes_byte, import_field, export_field}
 use Rattle.def_image.specs.Shapes.{IsField, IsNumber}
 use Rattle.def_image.specs.Limits.{byte_at, number_at, are_zeros, row_limits, gate_limits, Bounds}
 use Rattle.law_image.proofs.Tells.{within_is}
-use Rattle.ct_image_parts.specs.Converted.{kind_of, posture_of, device_kind_of, import_of, export_of}
+use Rattle.ct_image_parts.specs.Converted.{kind_of, posture_of, import_of, export_of}
 
 -- ---- four bytes and four bytes
 

@@ -3,8 +3,7 @@ use Rattle.std.specs.Prelude.{ℕ, ◌==◌, List, map, if◌then◌else◌}
 use Rattle.std.specs.List.{flat_map}
 use Rattle.std.specs.Char.{encode_utf8}
 use Rattle.ct_entry.specs.Listed.{DeviceRow}
-use Rattle.ct_entry.specs.declared.hardware.DeviceKind.{DeviceKind}
-use Rattle.ct_entry.specs.declared.hardware.DeviceKind.TheVariants.{Uart, Timer, Gpio}
+use Rattle.ct_entry.specs.DeviceKinds.{device_kind_of}
 use Rattle.ct_entry.specs.declared.rows.Mode.{Mode}
 use Rattle.ct_entry.specs.declared.rows.Mode.TheVariants.{Inherit, Disabled, Enabled}
 use Rattle.def_image.specs.declared.ImportRow.{ImportRow}
@@ -30,9 +29,6 @@ kind_of n =
 
 abbrev pub posture_of : ℕ → Mode
 posture_of n = if n == 1 then Inherit else if n == 2 then Disabled else Enabled
-
-abbrev pub device_kind_of : ℕ → DeviceKind
-device_kind_of n = if n == 1 then Uart else if n == 2 then Timer else Gpio
 
 -- ---- rows
 

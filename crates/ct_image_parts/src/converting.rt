@@ -52,17 +52,6 @@ fn posture_of(byte: u8) -> Mode
     }
 }
 
-/// The kind of a device, by its number.
-fn device_kind_of(number: u32) -> DeviceKind
-    ensures { result ≡ spec.device_kind_of number }
-{
-    match number {
-        1 => DeviceKind::Uart,
-        2 => DeviceKind::Timer,
-        _ => DeviceKind::Gpio,
-    }
-}
-
 /// The number at an offset of a row.
 fn number_at(row: &[u8; 16], at: usize) -> u32
     requires { at + 4 ≤ 16 }
@@ -143,7 +132,7 @@ impl Made<RawDevice> for Device {
     fn of(alloc: Global, device: &RawDevice) -> Result<Device, AllocError> {
         Ok(Device {
             name: text_of(alloc, &device.name)?,
-            kind: device_kind_of(device.kind),
+            kind: DeviceKind::numbered(device.kind),
             base: device.base,
         })
     }

@@ -6,7 +6,7 @@ ghost use Rattle.def_image.specs.Spelling as spec;
 ghost use Rattle.ct_image_parts.specs.Written as told;
 
 use crate::parts::{Code, Compartment, Export, Parts, Sealed, Shared, Slot, Thread};
-use ct_entry::{Device, DeviceKind};
+use ct_entry::Device;
 use ct_image_fields::MAGIC;
 use ct_tables::{write_export, write_import};
 use def_image::format::NAME;
@@ -98,23 +98,12 @@ impl Put for Export {
     }
 }
 
-/// The number of a device's kind.
-fn device_number(kind: DeviceKind) -> u32
-    ensures { result ≡ spec.device_number kind }
-{
-    match kind {
-        DeviceKind::Uart => 1,
-        DeviceKind::Timer => 2,
-        DeviceKind::Gpio => 3,
-    }
-}
-
 impl Put for Device {
     ghost told = { told.device };
 
     fn put(&self, out: &mut Vec<u8>) -> Result<(), AllocError> {
         put_name(out, self.name.as_str())?;
-        put_number(out, device_number(self.kind))?;
+        put_number(out, self.kind.number())?;
         put_number(out, self.base)
     }
 }

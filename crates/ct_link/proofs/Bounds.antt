@@ -9,6 +9,7 @@ use Rattle.def_image.specs.Sizes.{sum_of}
 use Rattle.def_desc.specs.Lawful.{IsLawful, IsLawfulCompartment, IsLawfulLibrary, IsLawfulExport, IsLawfulShared, IsLawfulSealed, IsLawfulThread}
 use Rattle.def_desc.specs.Rows.{ExportRow, SharedRow, SealedRow, ThreadRow, CompartmentRow, LibraryRow, DescRow}
 use Rattle.def_link.specs.declared.LinkFault.TheVariants as fault
+use Rattle.law_image.proofs.Limited.{threads_most}
 use Rattle.def_link.specs.Linked.{compartment_sizes, library_code_size, area_size}
 use Rattle.law_link.proofs.Lying.{shared_sizes, sealed_sizes, stack_sizes, trusted_size}
 use Rattle.law_link.proofs.Placings.{few_areas}
@@ -19,7 +20,6 @@ use Rattle.ct_link_slots.specs.Exporters.{IsExporter, IsLibraryExporter, AreCoun
 use Rattle.ct_link.specs.Laid.{sizes_with, laid_of, IsPlaced, AreObjects}
 use Rattle.ct_link.specs.Rows.{IsSized, IsSmallOwner, IsSmallLibrary, AreOwn, AreLent, own_built, lent_built}
 use Rattle.ct_link.proofs.Ready.{no_room}
-use Rattle.law_link.proofs.Threads.{most_threads_few}
 
 -- ---- rows
 
@@ -107,7 +107,7 @@ frames_few d law = all_so (IsLawfulThread d) (λ (t : ThreadRow). t.frames ≤ M
 pub threads_few : (d : DescRow) → IsLawful d → length d.threads ≤ MOST_THREADS_2
 threads_few d law =
     let few = law.few.threads in
-    let most = most_threads_few d.version in
+    let most = threads_most d.version in
     omega (arith, few, most)
 
 pub areas_few : (d : DescRow) → IsLawful d → sum_of area_size d.threads ≤ 403456

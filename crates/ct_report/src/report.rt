@@ -13,28 +13,18 @@ use crate::edges::edge_values;
 use crate::labels::labels_of;
 use crate::lines::{add_number, add_text, entry_values};
 use ct_entries::export_number;
-use ct_entry::{Device, DeviceKind, Entries};
+use ct_entry::{Device, Entries};
 use ct_graph::Graph;
 use ct_image_parts::{Code, Compartment, Parts, Thread};
 use serde_json::{Map, Value, json};
 use std::alloc::{AllocError, Global};
-
-fn kind_text(kind: DeviceKind) -> &'static str
-    ensures { result.now ≡ spec.kind_text kind }
-{
-    match kind {
-        DeviceKind::Uart => "uart",
-        DeviceKind::Timer => "timer",
-        DeviceKind::Gpio => "gpio",
-    }
-}
 
 fn device_value(alloc: Global, device: &Device) -> Result<Value, AllocError>
     ensures { IfOk result (λ v. view v ≡ spec.device_data device.now) }
 {
     json!(in alloc; {
         "base": device.base,
-        "kind": kind_text(device.kind),
+        "kind": device.kind.name(),
         "name": &device.name
     })
 }

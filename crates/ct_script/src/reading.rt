@@ -1,12 +1,12 @@
 //! The lines of a text, one after another.
 
 ghost use Rattle.std.specs.Prelude.{ℕ, ◌≡◌, ◌+◌, ◌<◌, ◌≤◌, ◌^◌, length, [], MatchResult};
-ghost use Rattle.def_script.specs.Script.{IsScriptCause, device_named, given_at, is_named, takes_bytes};
+ghost use Rattle.def_script.specs.Script.{IsScriptCause, device_named, given_at, is_named};
 ghost use Rattle.ct_script.specs.Lines.{AreLines, Going, Takes, IsRefusal, dues_of, last_of, with_line};
 
 use crate::fields::first_line;
 use crate::finding::{first_from, gap_from};
-use ct_entry::{Device, DeviceKind};
+use ct_entry::Device;
 use def_script::{Given, ScriptFault};
 use std::alloc::Global;
 use std::marker::Model;
@@ -50,21 +50,11 @@ impl Lines {
     }
 }
 
-/// Whether bytes come to a device of this kind.
-fn takes_bytes(kind: DeviceKind) -> bool
-    ensures { result ≡ takes_bytes kind }
-{
-    match kind {
-        DeviceKind::Uart | DeviceKind::Gpio => true,
-        DeviceKind::Timer => false,
-    }
-}
-
 /// Whether a device has this name, and bytes come to it.
 fn is_named(device: &Device, name: &[u8]) -> bool
     ensures { result ≡ is_named name.now device.now }
 {
-    takes_bytes(device.kind) && device.name.as_bytes() == name
+    device.kind.takes_bytes() && device.name.as_bytes() == name
 }
 
 /// The device of this name to which bytes come.

@@ -10,9 +10,9 @@ use Rattle.def_profile.specs.declared.limits.TheConstants.{LEAST_RAM, LEAST_STAC
 use Rattle.def_native.specs.declared.TheConstants.{YIELD}
 use Rattle.def_profile.specs.declared.native.TheConstants.{NATIVE_BASE, NATIVE_END}
 use Rattle.def_profile.specs.declared.seals.TheConstants.{FIRST_KEY_TYPE, LAST_KEY_TYPE}
-use Rattle.def_profile.specs.Versions.{most_ram, least_sweep, most_sweep}
+use Rattle.def_profile.specs.Versions.{most_ram, most_threads, least_sweep, most_sweep}
 use Rattle.def_texts.specs.Names.{is_name}
-use Rattle.def_image.specs.Profile.{last_version, last_service, most_threads}
+use Rattle.def_image.specs.Profile.{last_version, last_service}
 use Rattle.def_image.specs.Sound.{IsWithin, IsAway}
 use Rattle.def_desc.specs.declared.Ram.{Ram}
 use Rattle.def_desc.specs.declared.tables.Form.{Form}

@@ -7,8 +7,8 @@ use Rattle.serde_json.specs.Find.{get, as_array}
 use Rattle.def_profile.specs.declared.layout.TheConstants.{REGION_UNIT}
 use Rattle.def_profile.specs.declared.limits.TheConstants.{MOST_BYTES, MOST_FILE_NAME, RAM_END, SWEEP_RATE}
 use Rattle.def_profile.specs.declared.seals.TheConstants.{FIRST_KEY_TYPE, LAST_KEY_TYPE}
-use Rattle.def_profile.specs.Versions.{most_ram, least_sweep, most_sweep}
-use Rattle.def_image.specs.Profile.{last_version, most_threads}
+use Rattle.def_profile.specs.Versions.{most_ram, most_threads, least_sweep, most_sweep}
+use Rattle.def_image.specs.Profile.{last_version}
 use Rattle.def_desc.specs.declared.faults.PartWord.{PartWord}
 use Rattle.def_desc.specs.declared.faults.PartWord.TheVariants as part
 use Rattle.def_desc.specs.declared.tables.Shape.{Shape}

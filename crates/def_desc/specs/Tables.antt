@@ -1,12 +1,13 @@
 -- The tables of the members of each part, of its lists, and of the texts that a member may be.
 use Rattle.std.specs.Prelude.{ℕ, List, [], Bool, Option, map}
 use Rattle.ct_entry.specs.declared.hardware.DeviceKind.{DeviceKind}
+use Rattle.ct_entry.specs.declared.hardware.TheConstants.{DEVICE_KINDS}
 use Rattle.ct_entry.specs.declared.rows.Mode.{Mode}
 use Rattle.def_desc.specs.declared.faults.PartWord.{PartWord}
 use Rattle.def_desc.specs.declared.faults.PartWord.TheVariants as part
 use Rattle.def_desc.specs.declared.tables.Shape.{Shape}
 use Rattle.def_desc.specs.declared.tables.Passes.{Passes}
-use Rattle.def_desc.specs.declared.tables.TheConstants.{FIRMWARE, RAM, DEVICE, SHARED, SEALED, COMPARTMENT, IMPORT, QUOTA, EXPORT, LIBRARY, LIMPORT, LEXPORT, THREAD, OUTER, OF_COMPARTMENT, OF_LIBRARY, KINDS, POSTURES, LIBRARY_POSTURES, PASSES, SERVICES, FORMS, RIGHTED, CODE, DEVICE_RIGHTS, SHARED_RIGHTS}
+use Rattle.def_desc.specs.declared.tables.TheConstants.{FIRMWARE, RAM, DEVICE, SHARED, SEALED, COMPARTMENT, IMPORT, QUOTA, EXPORT, LIBRARY, LIMPORT, LEXPORT, THREAD, OUTER, OF_COMPARTMENT, OF_LIBRARY, POSTURES, LIBRARY_POSTURES, PASSES, SERVICES, FORMS, RIGHTED, CODE, DEVICE_RIGHTS, SHARED_RIGHTS}
 use Rattle.def_desc.specs.Members.{says}
 
 -- a member of a part: its name, what stands there, and whether it must be there
@@ -52,7 +53,7 @@ inner_lists part.Library = map (λ r. inner r.0 r.1.now) OF_LIBRARY
 inner_lists _ = []
 
 unfoldable pub kind_of : List ℕ → Option DeviceKind
-kind_of text = says (λ r. r.0.now) (λ r. r.1) text KINDS
+kind_of text = says (λ r. r.0.now) (λ r. r.1) text DEVICE_KINDS
 
 unfoldable pub posture_of : List ℕ → Option Mode
 posture_of text = says (λ r. r.0.now) (λ r. r.1) text POSTURES

@@ -3,7 +3,7 @@
 //! A member's row is its name, what stands there, and whether it must be there.
 
 use crate::PartWord;
-use ct_entry::{DeviceKind, Mode};
+use ct_entry::Mode;
 use def_native as native;
 use def_profile::limits::{
     LAST_VERSION, LEAST_RAM, LEAST_STACK, MOST_ARGUMENTS, MOST_BYTES, MOST_COMPARTMENTS,
@@ -355,13 +355,6 @@ pub const OF_COMPARTMENT: [(PartWord, &'static str); 4] = [
 pub const OF_LIBRARY: [(PartWord, &'static str); 2] = [
     (PartWord::Limport, "imports"),
     (PartWord::Lexport, "exports"),
-];
-
-/// The kinds of devices.
-pub const KINDS: [(&'static str, DeviceKind); 3] = [
-    ("uart", DeviceKind::Uart),
-    ("timer", DeviceKind::Timer),
-    ("gpio", DeviceKind::Gpio),
 ];
 
 /// The postures of a compartment's export; the first is the default.

@@ -58,7 +58,7 @@ count_limits r =
     ∷ check 16 (nat_lt most.MOST_OBJECTS (length r.sealed))
     ∷ check 20 (nat_lt most.MOST_COMPARTMENTS (length r.compartments))
     ∷ check 24 (nat_lt most.MOST_LIBRARIES (length r.libraries))
-    ∷ check 28 (nat_lt (profile.most_threads r.version) (length r.threads))
+    ∷ check 28 (nat_lt (version.most_threads r.version) (length r.threads))
     ∷ []
 
 -- its numbers and the firmware's name

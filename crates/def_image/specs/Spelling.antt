@@ -3,8 +3,7 @@ use Rattle.std.specs.Prelude.{ℕ, ◌-◌, ◌%◌, ◌==◌, List, [], ◌∷�
 use Rattle.std.specs.List.{flat_map}
 use Rattle.std.specs.Int.{w32, to_le_bytes}
 use Rattle.ct_entry.specs.Listed.{DeviceRow}
-use Rattle.ct_entry.specs.declared.hardware.DeviceKind.{DeviceKind}
-use Rattle.ct_entry.specs.declared.hardware.DeviceKind.TheVariants.{Uart, Timer, Gpio}
+use Rattle.ct_entry.specs.DeviceKinds.{device_number}
 use Rattle.ct_entry.specs.declared.rows.Mode.{Mode}
 use Rattle.ct_entry.specs.declared.rows.Mode.TheVariants.{Inherit, Disabled, Enabled}
 use Rattle.def_image.specs.declared.ImportRow.{ImportRow}
@@ -115,11 +114,6 @@ abbrev pub export_field : ExportRow → List ℕ
 export_field r =
     number r.offset ++ number r.stack
     ++ r.args ∷ posture_byte r.posture ∷ passes_byte r.capabilities ∷ 0 ∷ number r.entry
-
-abbrev pub device_number : DeviceKind → ℕ
-device_number Uart = 1
-device_number Timer = 2
-device_number Gpio = 3
 
 abbrev pub raw_slot : SlotRow → RawEntry
 raw_slot s = record { row = import_field s.row; name = name_field s.name }

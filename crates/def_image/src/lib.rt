@@ -1,10 +1,8 @@
-//! What a linked image consists of, as plain data: its table rows, the sizes of its parts, and how
-//! much of the format is taken. Parts, spelling and what an image is asked for stand in specs/;
+//! What a linked image consists of, as plain data: its table rows, and the sizes of its parts. Parts, spelling and what an image is asked for stand in specs/;
 //! nothing here computes but what differs from version to version.
 #![tactic(auto)]
 
 pub mod format;
-pub mod taken;
 pub mod versions;
 
 use ct_entry::Mode;

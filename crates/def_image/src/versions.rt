@@ -3,11 +3,9 @@
 ghost use Rattle.std.specs.Prelude.{◌≡◌};
 ghost use Rattle.std.specs.Int.{is_in_range};
 ghost use Rattle.def_profile.specs.Versions as versions;
-ghost use Rattle.def_image.specs.Profile as profile;
 ghost use Rattle.def_image.specs.Sizes as sizes;
 
 use crate::format::NUMBER;
-use crate::taken::THREADS_TAKEN;
 use def_profile::limits::{
     LEAST_SWEEP_RATE, MOST_RAM, MOST_RAM_2, MOST_SWEEP_RATE, MOST_THREADS, MOST_THREADS_2,
     SWEEP_RATE,
@@ -22,17 +20,12 @@ pub fn most_ram(version: u64) -> u32
 
 /// Threads, at most.
 pub fn most_threads(version: u64) -> u32
-    ensures { result ≡ profile.most_threads version }
+    ensures { result ≡ versions.most_threads version }
 {
-    let most = if version == 1 {
+    if version == 1 {
         MOST_THREADS
     } else {
         MOST_THREADS_2
-    };
-    if THREADS_TAKEN <= most {
-        THREADS_TAKEN
-    } else {
-        most
     }
 }
 

@@ -3,8 +3,7 @@ use Rattle.std.specs.Prelude.{ℕ, ◌+◌, ◌-◌, List, [], ◌∷◌, ◌++�
 use Rattle.serde_json.specs.Data.{Data, string, array, object, no_members, member}
 use Rattle.serde_json.specs.View.{items_of}
 use Rattle.serde_json.specs.Written.{compact_text}
-use Rattle.ct_entry.specs.declared.hardware.DeviceKind.{DeviceKind}
-use Rattle.ct_entry.specs.declared.hardware.DeviceKind.TheVariants.{Uart, Timer, Gpio}
+use Rattle.ct_entry.specs.DeviceKinds.{kind_text}
 use Rattle.ct_entry.specs.Listed.{DeviceRow, Listed}
 use Rattle.def_image.specs.Parts.{CodeRow, CompartmentRow, ThreadRow, PartsRow}
 use Rattle.def_image.specs.Members.{gate_number}
@@ -15,11 +14,6 @@ use Rattle.def_report.specs.Lines.{num, numbered}
 
 abbrev pub list : List Data → Data
 list ds = array (items_of ds)
-
-abbrev pub kind_text : DeviceKind → List ℕ
-kind_text Uart = codes "uart"
-kind_text Timer = codes "timer"
-kind_text Gpio = codes "gpio"
 
 abbrev pub device_data : DeviceRow → Data
 device_data x = object

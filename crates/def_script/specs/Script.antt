@@ -2,8 +2,7 @@
 -- spelled: each line is put together from what it says, so no text is taken apart here.
 use Rattle.std.specs.Prelude.{ℕ, ◌≡◌, ◌+◌, ◌-◌, ◌==◌, ◌<◌, ◌≤◌, ◌&&◌, ◌⊎◌, ◌++◌, ◌∷◌, [], Bool, true, false, not, List, All, AllPairs, Option, None, IsSome, unwrap_or, map, filter, flat_map, length, position, slice_index_or, bytes_eq, decimal}
 use Rattle.std.specs.List.{list_all}
-use Rattle.ct_entry.specs.declared.hardware.DeviceKind.{DeviceKind}
-use Rattle.ct_entry.specs.declared.hardware.DeviceKind.TheVariants.{Uart, Timer, Gpio}
+use Rattle.ct_entry.specs.DeviceKinds.{takes_bytes}
 use Rattle.ct_entry.specs.Listed.{DeviceRow}
 use Rattle.def_profile.specs.declared.limits.TheConstants.{MOST_STEPS}
 use Rattle.def_script.specs.declared.Given.{Given}
@@ -35,12 +34,6 @@ abbrev pub spelled : Row → List ℕ
 spelled r = decimal r.step ++ 32 ∷ (r.name ++ 32 ∷ (decimal r.byte ++ 10 ∷ []))
 
 -- ---- devices
-
--- bytes come to serial ports and gpios
-abbrev pub takes_bytes : DeviceKind → Bool
-takes_bytes Uart = true
-takes_bytes Timer = false
-takes_bytes Gpio = true
 
 abbrev pub is_named : List ℕ → DeviceRow → Bool
 is_named name d = takes_bytes d.kind && bytes_eq d.name name

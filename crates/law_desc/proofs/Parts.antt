@@ -10,8 +10,8 @@ use Rattle.serde_json.specs.Data.{Data, null}
 use Rattle.serde_json.specs.Find.{get, as_str}
 use Rattle.law_lists.proofs.Alls.{all_mapped}
 use Rattle.law_lists.proofs.Tests.{both_left, both_right}
-use Rattle.def_profile.specs.Versions.{most_ram, least_sweep, most_sweep}
-use Rattle.def_image.specs.Profile.{last_version, most_threads}
+use Rattle.def_profile.specs.Versions.{most_ram, most_threads, least_sweep, most_sweep}
+use Rattle.def_image.specs.Profile.{last_version}
 use Rattle.def_image.specs.Sound.{IsWithin}
 use Rattle.def_desc.specs.declared.Ram.{Ram}
 use Rattle.def_desc.specs.declared.faults.PartWord.{PartWord}

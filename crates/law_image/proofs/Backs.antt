@@ -14,7 +14,8 @@ use Rattle.def_image.specs.declared.SlotKind.{SlotKind}
 use Rattle.def_image.specs.declared.SlotKind.TheVariants.{Service, Device, Shared, Sealed, Call, Library, Quota, Key}
 use Rattle.def_image.specs.Parts.{SlotRow, GateRow, SharedRow, SealedRow, CodeRow, CompartmentRow, ThreadRow, PartsRow}
 use Rattle.def_image.specs.Raw.{RawDevice, RawShared, RawSealed, RawCode, RawCompartment, RawThread, RawImage}
-use Rattle.def_image.specs.Spelling.{zeros, name_field, kind_byte, posture_byte, passes_byte, device_number, import_field, export_field, raw_slot, raw_gate, raw_device, raw_shared, raw_sealed, raw_code, raw_compartment, raw_thread, raw_of, image_bytes}
+use Rattle.ct_entry.specs.DeviceKinds.{device_kind_of, device_number}
+use Rattle.def_image.specs.Spelling.{zeros, name_field, kind_byte, posture_byte, passes_byte, import_field, export_field, raw_slot, raw_gate, raw_device, raw_shared, raw_sealed, raw_code, raw_compartment, raw_thread, raw_of, image_bytes}
 use Rattle.def_image.specs.Shapes.{Clean, IsNumber, SpellableSlot, SpellableGate, SpellableCode, IsSpellable}
 use Rattle.def_image.specs.Limits.{name_of, byte_at, number_at}
 use Rattle.def_image.specs.Reading.{OneReading}
@@ -72,11 +73,7 @@ unfolding passes_in
 passes_back true = refl
 passes_back false = refl
 
-device_in : ℕ → DeviceKind
-device_in n = if n == 1 then Uart else if n == 2 then Timer else Gpio
-
-device_back : (k : DeviceKind) → device_in (device_number k) ≡ k
-unfolding device_in
+device_back : (k : DeviceKind) → device_kind_of (device_number k) ≡ k
 device_back Uart = refl
 device_back Timer = refl
 device_back Gpio = refl
@@ -157,7 +154,7 @@ device_again d = record { name = d.name; kind = d.kind; base = d.base }
 same_device : (x y : DeviceRow) → Clean x.name → Clean y.name → raw_device x ≡ raw_device y → x ≡ y
 same_device x y hx hy e =
     let names : x.name ≡ y.name = same_name x.name y.name hx hy (ap (λ (r : RawDevice). r.name) e) in
-    let kinds : x.kind ≡ y.kind = sym (device_back x.kind) ∙ ap (λ (r : RawDevice). device_in r.kind) e ∙ device_back y.kind in
+    let kinds : x.kind ≡ y.kind = sym (device_back x.kind) ∙ ap (λ (r : RawDevice). device_kind_of r.kind) e ∙ device_back y.kind in
     let bases : x.base ≡ y.base = ap (λ (r : RawDevice). r.base) e in
     let all : device_again x ≡ device_again y = cc in
     all

@@ -9,8 +9,7 @@ use Rattle.def_image.specs.declared.format.TheConstants.{SHARED, THREAD}
 use Rattle.def_image.specs.Parts.{SharedRow, SealedRow, ThreadRow, PartsRow}
 use Rattle.def_image.specs.Spelling.{raw_of, raw_device, raw_shared, raw_sealed, raw_compartment, raw_code, raw_thread}
 use Rattle.def_image.specs.Sizes.{sealed_size, shared_at, sealed_at, threads_at}
-use Rattle.def_image.specs.declared.taken.TheConstants.{THREADS_TAKEN}
-use Rattle.def_image.specs.Profile.{most_threads, outside}
+use Rattle.def_image.specs.Profile.{outside}
 use Rattle.def_image.specs.Checks.{first, walked, check}
 use Rattle.def_image.specs.Limits.{header_limits, name_checks, shared_limits, sealed_limits, thread_limits, thread_limits_by, shared_name, sealed_name, thread_name, owner_names, overfills, are_zeros}
 use Rattle.def_image.specs.Sound.{IsWithin, AreFew, SealedFits}
@@ -20,13 +19,6 @@ use Rattle.law_image.proofs.Holding.{Limited}
 use Rattle.law_image.proofs.Members.{map_at, map_taken}
 
 -- ---- the header
-
-threads_taken : (v : ℕ) → most_threads v ≤ version.most_threads v
-threads_taken v = by (nat_eq v 1)
-  where
-    by : (b : Bool) → cond (nat_le THREADS_TAKEN (cond b 16 64)) THREADS_TAKEN (cond b 16 64) ≤ cond b 16 64
-    by true = omega arith
-    by false = omega arith
 
 -- of any version
 pub threads_most : (v : ℕ) → version.most_threads v ≤ 64
@@ -69,7 +61,7 @@ header_fits p e =
         sealed = few_of raw_sealed p.sealed 64 h.1.1.0;
         compartments = few_of raw_compartment p.compartments 64 h.1.1.1.0;
         libraries = few_of raw_code p.libraries 32 h.1.1.1.1.0;
-        threads = (let a = few_of raw_thread p.threads (most_threads p.version) h.1.1.1.1.1.0 in let b = threads_taken p.version in omega (arith, a, b));
+        threads = few_of raw_thread p.threads (version.most_threads p.version) h.1.1.1.1.1.0;
       };
       quantum = within_is 1 1000000 p.quantum h.1.1.1.1.1.1.0;
       ram = eqb-true (p.ram % 16) 0 (not-false (nat_eq (p.ram % 16) 0) h.1.1.1.1.1.1.1.0);

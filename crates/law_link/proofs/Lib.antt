@@ -1,4 +1,3 @@
-pub mod Threads
 pub mod Walks
 pub mod Linkeds
 pub mod Granted

@@ -15,7 +15,7 @@ use Rattle.def_image.specs.Raw.{RawImage}
 use Rattle.def_image.specs.Parts.{CodeRow as CodePart, CompartmentRow as CompartmentPart, PartsRow}
 use Rattle.def_image.specs.Spelling.{name_field, raw_device, raw_shared, raw_sealed, raw_code, raw_compartment, raw_thread, raw_of}
 use Rattle.def_image.specs.Sizes.{sum_of, rate_size, sealed_size, compartment_size, library_size, devices_at, shared_at, sealed_at, compartments_at, libraries_at, threads_at}
-use Rattle.def_image.specs.Profile.{outside, most_threads}
+use Rattle.def_image.specs.Profile.{outside}
 use Rattle.def_image.specs.Checks.{first, walked, check}
 use Rattle.def_image.specs.Limits as lim
 use Rattle.def_image.specs.Limits.{name_checks, is_missized, header_limits, device_limits, shared_limits, sealed_limits, compartment_name, compartment_limits, library_name, first_library_entry, library_limits, thread_limits, limit_checks}
@@ -101,7 +101,7 @@ pub record HeaderGood (p : PartsRow) : Type 0 where
   pub sealed : length p.sealed ≤ 64
   pub compartments : length p.compartments ≤ 64
   pub libraries : length p.libraries ≤ 32
-  pub threads : length p.threads ≤ most_threads p.version
+  pub threads : length p.threads ≤ version.most_threads p.version
   pub quantum : outside 1 1000000 p.quantum ≡ false
   pub ram : p.ram % 16 ≡ 0
   pub size : p.size % 16 ≡ 0
@@ -122,7 +122,7 @@ header_pass p h =
     let c3 = check 16 (nat_lt 64 (length r.sealed)) in
     let c4 = check 20 (nat_lt 64 (length r.compartments)) in
     let c5 = check 24 (nat_lt 32 (length r.libraries)) in
-    let c6 = check 28 (nat_lt (most_threads p.version) (length r.threads)) in
+    let c6 = check 28 (nat_lt (version.most_threads p.version) (length r.threads)) in
     let c7 = check 32 (outside 1 1000000 p.quantum) in
     let c8 = check 36 (not (p.ram % 16 == 0)) in
     let c9 = check 40 (is_missized r) in
@@ -134,7 +134,7 @@ header_pass p h =
     (next_none c3 (c4 ∷ c5 ∷ c6 ∷ c7 ∷ c8 ∷ c9 ∷ c10 ∷ n) (few raw_sealed p.sealed 64 h.sealed)
     (next_none c4 (c5 ∷ c6 ∷ c7 ∷ c8 ∷ c9 ∷ c10 ∷ n) (few raw_compartment p.compartments 64 h.compartments)
     (next_none c5 (c6 ∷ c7 ∷ c8 ∷ c9 ∷ c10 ∷ n) (few raw_code p.libraries 32 h.libraries)
-    (next_none c6 (c7 ∷ c8 ∷ c9 ∷ c10 ∷ n) (few raw_thread p.threads (most_threads p.version) h.threads)
+    (next_none c6 (c7 ∷ c8 ∷ c9 ∷ c10 ∷ n) (few raw_thread p.threads (version.most_threads p.version) h.threads)
     (next_none c7 (c8 ∷ c9 ∷ c10 ∷ n) h.quantum
     (next_none c8 (c9 ∷ c10 ∷ n) (ap not (eq-eqb (p.ram % 16) 0 h.ram))
     (next_none c9 (c10 ∷ n) missized
@@ -262,7 +262,7 @@ parts_good d cs ls law rows library_rows good_cs good_ls e =
         sealed = (let f = law.few.sealed in let c = sealed_length (drop (3 * length cs + length ls + length d.shared) all) d.sealed in omega (arith, f, c));
         compartments = (let c = compartments_length d 1 all cs in omega (arith, c_few, c_count, c));
         libraries = (let c = libraries_length d (1 + sum_of compartment_entries cs) (drop (3 * length cs) all) ls in omega (arith, l_few, l_count, c));
-        threads = subst (λ k. k ≤ most_threads d.version) (sym (threads_length d (drop (3 * length cs + length ls + length d.shared + length d.sealed) all) d.threads)) law.few.threads;
+        threads = subst (λ k. k ≤ version.most_threads d.version) (sym (threads_length d (drop (3 * length cs + length ls + length d.shared + length d.sealed) all) d.threads)) law.few.threads;
         quantum = inside 1 1000000 d.quantum law.quantum;
         ram = law.ram.base;
         size = law.ram.size;

@@ -12,7 +12,8 @@ use Rattle.def_layout.specs.Placement.{region_length, region_base, placed}
 use Rattle.def_image.specs.declared.format.TheConstants.{DEVICE, SHARED, THREAD}
 use Rattle.def_image.specs.Raw.{RawDevice, RawShared, RawSealed, RawThread, RawImage}
 use Rattle.def_image.specs.Parts.{SharedRow as SharedPart, SealedRow as SealedPart, ThreadRow as ThreadPart}
-use Rattle.def_image.specs.Spelling.{device_number, padding_after, raw_device, raw_shared, raw_sealed, raw_thread}
+use Rattle.ct_entry.specs.DeviceKinds.{device_number}
+use Rattle.def_image.specs.Spelling.{padding_after, raw_device, raw_shared, raw_sealed, raw_thread}
 use Rattle.def_image.specs.Sizes.{sealed_size}
 use Rattle.def_image.specs.Profile.{outside}
 use Rattle.def_image.specs.Checks.{first, walked, check}

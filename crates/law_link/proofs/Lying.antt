@@ -21,9 +21,9 @@ use Rattle.def_desc.specs.Rows.{SharedRow, SealedRow, ThreadRow, DescRow}
 use Rattle.def_desc.specs.Lawful.{IsLawful, IsLawfulDevice, IsLawfulShared, IsLawfulSealed, IsLawfulThread, AreApart}
 use Rattle.def_link.specs.Owners.{compartment_unit, library_unit}
 use Rattle.def_link.specs.Linked.{BuiltCompartment, BuiltLibrary, library_code_size, compartment_sizes, area_size, sizes_of, base_at, compartment_parts, compartment_entries, library_parts, shared_parts, sealed_parts, thread_parts, parts_of}
+use Rattle.law_image.proofs.Limited.{threads_most}
 use Rattle.law_image.proofs.Members.{all_at}
 use Rattle.law_image.proofs.Passing.{joined_none, one_none}
-use Rattle.law_link.proofs.Threads.{most_threads_few}
 use Rattle.def_link.specs.Links.{RowsLinkTo}
 use Rattle.law_link.proofs.Walks.{next_none, walk_each, walk_joined}
 use Rattle.law_link.proofs.Linkeds.{Parts, parts, GoodCompartment, GoodLibrary, compartments_good, libraries_good}
@@ -183,7 +183,7 @@ stretches d cs ls law good_cs good_ls e =
     let t = map (λ (t : ThreadRow). t.stack) d.threads in
     let frames = all_so (IsLawfulThread d) (λ (t : ThreadRow). t.frames ≤ 96) d.threads (λ t h. h.frames.1) law.thread in
     let few = law.few.threads in
-    let most = most_threads_few d.version in
+    let most = threads_most d.version in
     let small = few_areas d.threads 64 frames (omega (arith, few, most)) in
     let length_is : trusted_length p ≡ region_length n = ap (λ k. region_length (16 + k)) (areas d (drop (3 * length cs + length ls + length d.shared + length d.sealed) all) d.threads) in
     record {

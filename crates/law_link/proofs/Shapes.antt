@@ -12,7 +12,8 @@ use Rattle.def_image.specs.declared.SlotKind.{SlotKind}
 use Rattle.def_image.specs.declared.SlotKind.TheVariants as kind
 use Rattle.def_image.specs.Parts.{SlotRow, GateRow}
 use Rattle.def_image.specs.Limits.{Bounds}
-use Rattle.def_image.specs.Spelling.{number, kind_byte, posture_byte, passes_byte, device_number, raw_slot, raw_gate, raw_device}
+use Rattle.ct_entry.specs.DeviceKinds.{device_number}
+use Rattle.def_image.specs.Spelling.{number, kind_byte, posture_byte, passes_byte, raw_slot, raw_gate, raw_device}
 use Rattle.def_image.specs.Shapes.{IsRawEntry, IsDevice, SpellableSlot, SpellableGate}
 use Rattle.law_link.proofs.Fields.{name_is, name_is_field}
 use Rattle.law_link.proofs.Rows.{SlotGood, GateGood}

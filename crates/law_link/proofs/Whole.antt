@@ -24,9 +24,9 @@ use Rattle.def_image.specs.Checks.{first}
 use Rattle.def_image.specs.Limits as lim
 use Rattle.def_image.specs.Limits.{compartment_bounds, library_bounds}
 use Rattle.def_image.specs.Accepted.{IsFaultless, IsImage, FaultAt}
+use Rattle.law_image.proofs.Limited.{threads_most}
 use Rattle.law_image.proofs.Backs.{one_reading}
 use Rattle.law_image.proofs.Faults.{no_fault}
-use Rattle.law_link.proofs.Threads.{most_threads_few}
 use Rattle.def_desc.specs.Rows.{ThreadRow, DescRow}
 use Rattle.def_desc.specs.Lawful.{IsLawful, IsLawfulDevice, IsLawfulThread}
 use Rattle.def_link.specs.Linked.{sizes_of, thread_parts, parts_of}
@@ -214,7 +214,7 @@ shaped p g s k =
     let n4 = g.header.compartments in
     let n5 = g.header.libraries in
     let n6 = g.header.threads in
-    let most = most_threads_few p.version in
+    let most = threads_most p.version in
     let c1 : length r.devices ≡ length p.devices = length-map p.devices raw_device in
     let c2 : length r.shared ≡ length p.shared = length-map p.shared raw_shared in
     let c3 : length r.sealed ≡ length p.sealed = length-map p.sealed raw_sealed in

@@ -3,9 +3,10 @@
 
 ghost use Rattle.std.specs.Prelude.{◌≡◌, [], ◌∷◌, Some, map, length, codes};
 ghost use Rattle.ct_entry.specs.declared.hardware.DeviceKind.TheVariants.{Uart, Timer, Gpio};
+ghost use Rattle.ct_entry.specs.declared.hardware.TheConstants.{DEVICE_KINDS};
 ghost use Rattle.ct_entry.specs.declared.rows.Mode.TheVariants.{Inherit, Disabled, Enabled};
 ghost use Rattle.def_desc.specs.declared.tables.Passes.TheVariants.{Capabilities, Data};
-ghost use Rattle.def_desc.specs.declared.tables.TheConstants.{KINDS, POSTURES, LIBRARY_POSTURES, PASSES, SERVICES, QUANTUM};
+ghost use Rattle.def_desc.specs.declared.tables.TheConstants.{POSTURES, LIBRARY_POSTURES, PASSES, SERVICES, QUANTUM};
 ghost use Rattle.def_desc.specs.Tables.{kind_of, posture_of, library_posture_of, passes_of, service_of, form_names, righted_names, code_names, device_rights, shared_rights};
 
 /// Kinds of devices, postures, what exports pass, the members of which an import and a code have one,
@@ -15,7 +16,7 @@ ghost use Rattle.def_desc.specs.Tables.{kind_of, posture_of, library_posture_of,
 pub fn choices_of_descriptions()
     ensures kinds { map kind_of (codes "uart" ∷ codes "timer" ∷ codes "gpio" ∷ [])
         ≡ Some Uart ∷ Some Timer ∷ Some Gpio ∷ [] }
-    ensures no_other_kind { length KINDS ≡ 3 }
+    ensures no_other_kind { length DEVICE_KINDS ≡ 3 }
     ensures postures { map posture_of (codes "enabled" ∷ codes "disabled" ∷ [])
         ≡ Some Enabled ∷ Some Disabled ∷ [] }
     ensures no_other_posture { length POSTURES ≡ 2 }

@@ -5,7 +5,8 @@ ghost use Rattle.ct_entry.specs.declared.hardware.DeviceKind.TheVariants as devi
 ghost use Rattle.ct_entry.specs.declared.rows.Mode.TheVariants as mode;
 ghost use Rattle.def_image.specs.declared.SlotKind.TheVariants as kind;
 ghost use Rattle.def_image.specs.declared.format.TheConstants as format;
-ghost use Rattle.def_image.specs.Spelling.{device_number, kind_byte, magic, passes_byte, posture_byte};
+ghost use Rattle.ct_entry.specs.DeviceKinds.{device_number};
+ghost use Rattle.def_image.specs.Spelling.{kind_byte, magic, passes_byte, posture_byte};
 
 /// Bytes of an image's parts: header, device, shared object, and of sealed object, compartment and
 /// library what stands before their bytes and tables; a slot or export; a thread. The first four bytes.

@@ -4,8 +4,8 @@ ghost use Rattle.std.specs.Prelude.{◌≡◌};
 ghost use Rattle.def_profile.specs.declared.layout.TheConstants.{REGION_UNIT};
 ghost use Rattle.def_profile.specs.declared.limits.TheConstants as limit;
 ghost use Rattle.def_profile.specs.declared.seals.TheConstants.{FIRST_KEY_TYPE, LAST_KEY_TYPE};
-ghost use Rattle.def_profile.specs.Versions.{most_ram, least_sweep, most_sweep};
-ghost use Rattle.def_image.specs.Profile.{last_version, last_service, most_threads};
+ghost use Rattle.def_profile.specs.Versions.{most_ram, most_threads, least_sweep, most_sweep};
+ghost use Rattle.def_image.specs.Profile.{last_version, last_service};
 ghost use Rattle.def_policy.specs.declared.TheConstants.{MOST_TOTAL};
 
 /// Bytes of a file and of names, steps of a run, and the total that a policy may name.
