@@ -13,10 +13,8 @@ use Rattle.def_script.specs.declared.ScriptFault.{ScriptFault}
 use Rattle.def_script.specs.declared.ScriptFault.TheVariants.{At, NoMemory}
 use Rattle.def_script.specs.Script.{Row, IsScriptRow, IsScript, NoScriptLine, BreaksScript, IsScriptCause, ReadsAsScript, due, device_named, last_step, spelled}
 use Rattle.law_script.proofs.Lines.{line_long}
+use Rattle.law_script.proofs.Scripts.{no_row}
 use Rattle.ct_script.specs.Lines.{LinesRow, Going, Takes, Late, Lost, IsRefusal, AreLines, NeverFalls, dues_of, last_of, step_of, given_of}
-
-abbrev no_row : Row
-no_row = record { step = 0; name = []; byte = 0 }
 
 abbrev NotLater : Row → Row → Type 0
 NotLater a b = a.step ≤ b.step

@@ -26,7 +26,7 @@ plain_seal : cap_seal (plain 0) ≡ 0
 unfolding cap_seal
 plain_seal = refl
 
-abbrev is_device : Origin → Bool
+abbrev pub is_device : Origin → Bool
 is_device (Listing kind.Device) = true
 is_device _ = false
 

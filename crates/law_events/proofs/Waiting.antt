@@ -78,7 +78,7 @@ given_length [] ss = refl
 given_length (t ∷ ts) [] = refl
 given_length (t ∷ ts) (x ∷ xs) = ap suc (given_length ts xs)
 
-status_at : (ts : List Thread) (t : ℕ) → status_of (statuses_of ts) t ≡ (get_or ts t nobody).status
+pub status_at : (ts : List Thread) (t : ℕ) → status_of (statuses_of ts) t ≡ (get_or ts t nobody).status
 status_at [] t = refl
 status_at (x ∷ xs) zero = refl
 status_at (x ∷ xs) (suc t) = status_at xs t

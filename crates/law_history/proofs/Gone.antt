@@ -23,16 +23,14 @@ use Rattle.def_step.specs.Routines.{answers}
 use Rattle.def_machine.specs.Platform.{Platform}
 use Rattle.law_moves.proofs.Rows.{among_each, each_take, left_each}
 use Rattle.law_moves.proofs.Quarantines.{gone, quarantine_each}
+use Rattle.law_moves.proofs.Begins.{begun}
 use Rattle.law_routines.proofs.Objects.{Found, made_says}
 use Rattle.law_routines.proofs.Leaving.{Moves}
 use Rattle.law_routines.proofs.Stepping.{Steps, IfDone, carried, executed_left}
 use Rattle.def_safety.specs.Chunks.{IsNotOf}
 use Rattle.def_safety.specs.Each.{ready}
 use Rattle.def_safety.specs.Temporal.{OfLive}
-use Rattle.law_history.proofs.Sweeping.{begun, swept_case, sliced_case}
-
-abbrev counted : State → State
-counted s = record s { counts = record s.counts { sweeps = s.counts.sweeps + 1 } }
+use Rattle.law_history.proofs.Sweeping.{swept_case, sliced_case, counted}
 
 abbrev pub IsGone : ℕ → Object → Type 0
 IsGone n r = r.number ≡ n → r.live ≡ false

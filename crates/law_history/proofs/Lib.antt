@@ -50,3 +50,4 @@ pub mod Within
 pub mod Safety
 pub mod Reusing
 pub mod Running
+pub mod Devices

@@ -57,6 +57,7 @@ use Rattle.law_moves.proofs.Ends.{unmarked_cap}
 use Rattle.law_moves.proofs.Frees.{freed_cap}
 use Rattle.law_moves.proofs.JumpsMoves.{in_rooted}
 use Rattle.law_moves.proofs.Slices.{granule_at_slice}
+use Rattle.law_moves.proofs.Begins.{begun}
 use Rattle.law_routines.proofs.Accesses.{by_access}
 use Rattle.law_routines.proofs.Stepping.{IfDone}
 use Rattle.law_events.proofs.Accesses.{store_passes, when_false, width_of}
@@ -68,7 +69,7 @@ use Rattle.law_started.proofs.Globality.{boots_local}
 use Rattle.law_started.proofs.Whole.{keeps}
 use Rattle.law_history.proofs.Attenuating.{through_store}
 use Rattle.law_history.proofs.Routines.{executed_goes}
-use Rattle.law_history.proofs.Sweeping.{begun, swept_case, sliced_case}
+use Rattle.law_history.proofs.Sweeping.{swept_case, sliced_case}
 
 -- c, in granule k, is local only in a stack
 abbrev LocalAt : Image → ℕ → Cap → Type 0
@@ -203,7 +204,7 @@ module _ (b : Platform) (s : State) (t : ℕ) (parts : Partitioned b.image) (hel
 
 -- ---- before a step, and a sweep
 
-ready_ram : (b : Platform) (s : State) → (ready b s).granules ≡ s.granules
+pub ready_ram : (b : Platform) (s : State) → (ready b s).granules ≡ s.granules
 ready_ram b s = at_pick (preempted (one_more_step s)) (preempted (one_more_step s)).running ∙ at_stop (one_more_step s) (one_more_step s).running
   where
     at_choice : (z : State) (o : Option ℕ) → (picked_as b z o).granules ≡ z.granules

@@ -146,6 +146,18 @@ module _ (At : Type 0) (Q : State → Option (ℕ × Act) → Type 0) (i : Image
 
 -- ---- a step
 
+-- what is asked of what an instruction with an effect leaves and tells
+abbrev pub IfEffect : (State → Option Deed → Type 0) → State → ℕ → Cap → Result Effect Trap → Type 0
+IfEffect Q s t x (Err why) = Unit {0}
+IfEffect Q s t x (Ok d) = Q (put_done s t d) (option_map (deed s t x.shadow.root) d.act)
+
+abbrev pub Both : (State → Option Deed → Type 0) → State × Option Deed → Type 0
+Both Q r = Q r.0 r.1
+
+-- the fetch of thread t passes its checks
+abbrev pub MayFetch : State → ℕ → Type 0
+MayFetch s t = first_failed (fetch_checks (thread s t).pcc) ≡ None
+
 -- the deed of a trap
 abbrev pub trap_told : State → ℕ → Trap → Option Deed
 trap_told s t why = Some (deed s t 0 (acts.Trap why.cause why.code why.register))

@@ -22,12 +22,13 @@ use Rattle.def_step.specs.Tokens.{row_among}
 use Rattle.def_safety.specs.Tokened.{IsKeyRow, IsTokenRow}
 use Rattle.law_moves.proofs.Quarantines.{any_quarantine}
 use Rattle.law_moves.proofs.Rows.{any_among, any_left, any_map, each_take}
-use Rattle.law_history.proofs.Sweeping.{begun, swept_case, sliced_case}
+use Rattle.law_history.proofs.Sweeping.{swept_case, sliced_case}
 use Rattle.law_routines.proofs.Leaving.{Moves}
 use Rattle.law_routines.proofs.Objects.{made_says}
 use Rattle.law_routines.proofs.Stepping.{Steps, IfDone, carried, executed_left}
 use Rattle.law_history.proofs.Keying.{among_row, row_of_among, left_row, row_left}
 use Rattle.law_moves.proofs.Objects.{each_unit}
+use Rattle.law_moves.proofs.Begins.{begun}
 
 -- a row of the object of a number, with what it says of it
 abbrev Says : Option ℕ → ℕ → Token → Type 0

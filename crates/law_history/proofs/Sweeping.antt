@@ -9,10 +9,12 @@ use Rattle.def_machine.specs.Objects.{Any, has_quarantined, painted, unpainted}
 use Rattle.def_machine.specs.Heap.{with_slice, slice_end, sweep_over, ram_size, ended_sweep, sweep_began, sweep_on, swept}
 use Rattle.law_moves.proofs.Rows.{any_map, left_any, any_left}
 use Rattle.law_moves.proofs.Slices.{slice_length}
+use Rattle.law_moves.proofs.Begins.{begun}
 use Rattle.def_safety.specs.Reuse.{IsSameObject, Waits, IsPainted}
 
-abbrev pub begun : State → State
-begun s = record s { objects = painted s.objects; front = Some 0 }
+-- a Sweep event is counted
+abbrev pub counted : State → State
+counted s = record s { counts = record s.counts { sweeps = s.counts.sweeps + 1 } }
 
 -- the slice from an offset, and the end where RAM is passed
 abbrev pub sliced_from : Image → State → ℕ → State

@@ -14,12 +14,12 @@ use Rattle.def_safety.specs.Tokened.{IsWhole, TokenFits}
 use Rattle.def_events.specs.Passes.{Widens}
 use Rattle.law_history.proofs.Changes.{with_slice_has, sweep_over_has}
 use Rattle.law_moves.proofs.Rows.{each_take, any_left, left_any, left_each}
-use Rattle.law_history.proofs.Sweeping.{begun, swept_case, sliced_case}
+use Rattle.law_history.proofs.Sweeping.{swept_case, sliced_case}
 use Rattle.law_history.proofs.Everywheres.{OfObject, both, objects_everywhere}
 use Rattle.law_history.proofs.Fitting.{AllFit, moved}
 use Rattle.law_history.proofs.Naming.{Named}
 use Rattle.law_history.proofs.Passing.{fits_pass}
-use Rattle.law_moves.proofs.Begins.{paint_apart}
+use Rattle.law_moves.proofs.Begins.{paint_apart, begun}
 
 -- ---- objects
 

@@ -21,10 +21,11 @@ use Rattle.def_machine.specs.Platform.{Platform}
 use Rattle.def_step.specs.Events.{preempted_from, preempted, picked_as, picked_from, scheduled, continued, one_more_step, stepped, interrupted, happens, run}
 use Rattle.def_step.specs.Quotas.{quota_in}
 use Rattle.law_moves.proofs.Rows.{each_map}
+use Rattle.law_moves.proofs.Begins.{begun}
 use Rattle.law_routines.proofs.Objects.{made_says}
 use Rattle.law_routines.proofs.Leaving.{Moves}
 use Rattle.law_routines.proofs.Stepping.{Steps, IfDone, carried, executed_left}
-use Rattle.law_history.proofs.Sweeping.{begun, swept_case, sliced_case}
+use Rattle.law_history.proofs.Sweeping.{swept_case, sliced_case}
 use Rattle.law_events.proofs.Events.{ready_keeps, event_keeps}
 use Rattle.def_machine.specs.Rows.{RowsFit}
 use Rattle.law_history.proofs.Moving.{added_fit, sealed_fit, gone_fit, painted_fit, left_fit}

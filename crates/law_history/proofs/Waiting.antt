@@ -10,12 +10,10 @@ use Rattle.def_machine.specs.Platform.{Platform}
 use Rattle.def_confined.specs.Confined.{Apart}
 use Rattle.def_confined.specs.Changes.{NewObject}
 use Rattle.law_moves.proofs.Rows.{each_take}
+use Rattle.law_moves.proofs.Begins.{begun}
 use Rattle.def_safety.specs.Reuse.{IsSameObject, Waits, IsPainted, ObjectsMeet, SweepBegins, PassesFrom, SweepsWhole}
 use Rattle.law_history.proofs.Same.{Same, Stays, stepped_stays, ticked_same}
-use Rattle.law_history.proofs.Sweeping.{begun, sliced_from, swept_case, sliced_case, painted_row, waits_row, waits_left, row_tells, none_painted}
-
-abbrev counted : State → State
-counted s = record s { counts = record s.counts { sweeps = s.counts.sweeps + 1 } }
+use Rattle.law_history.proofs.Sweeping.{sliced_from, swept_case, sliced_case, painted_row, waits_row, waits_left, row_tells, none_painted, counted}
 
 -- ---- one Sweep event
 

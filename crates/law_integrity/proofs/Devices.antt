@@ -42,8 +42,10 @@ use Rattle.law_routines.proofs.Accesses.{by_access}
 use Rattle.law_routines.proofs.Stepping.{carried}
 use Rattle.law_events.proofs.Events.{ready_keeps}
 use Rattle.law_history.proofs.Reaching.{uses_reach}
+use Rattle.law_history.proofs.Routines.{IfEffect, Both, MayFetch}
+use Rattle.law_history.proofs.Devices.{interrupted_devices, swept_devices}
 use Rattle.law_integrity.proofs.Accesses.{authority_says}
-use Rattle.law_integrity.proofs.Cases.{IfEffect, Both, MayFetch, executed_case}
+use Rattle.law_integrity.proofs.Cases.{executed_case}
 use Rattle.law_integrity.proofs.Granules.{Uses, acting, head_of}
 
 -- a device is as it was, or the running thread's access reached it
@@ -187,21 +189,6 @@ continued_banks b s (Some t) runs parts k = executed_banks b (ready b s) t (read
 step_reached : (b : Platform) (s : State) (n : ℕ) → Bank b (ready b s) (happens b s Step).1.deed n (device (happens b s Step).0.devices n) → DeviceTouched b s Step n
 step_reached b s n (same e) = as_before (e ∙ ap (λ ds. device ds n) (ready_devices b s))
 step_reached b s n (of_access h) = by_reaching refl h
-
-interrupted_devices : (s : State) (o : Option ℕ) → (interrupted s o).devices ≡ s.devices
-interrupted_devices s None = refl
-interrupted_devices s (Some t) = chosen (λ (z : State). z.devices ≡ s.devices) (thread s t).posture.off (record s { pending = true }) (record s { running = None }) (λ is. refl) (λ not. refl)
-
-on_devices : (i : Image) (s : State) (o : Option ℕ) → (sweep_on i s o).devices ≡ s.devices
-on_devices i s None = refl
-on_devices i s (Some front) = chosen (λ (z : State). z.devices ≡ s.devices) (nat_le (ram_size (with_slice i s front (slice_end i s front))) (slice_end i s front)) (sweep_over i (with_slice i s front (slice_end i s front))) (with_slice i s front (slice_end i s front)) (λ is. refl) (λ not. refl)
-
-began_devices : (s : State) (o : Option ℕ) → (sweep_began s o).devices ≡ s.devices
-began_devices s None = chosen (λ (z : State). z.devices ≡ s.devices) (has_quarantined s.objects) (record s { objects = painted s.objects; front = Some 0 }) s (λ is. refl) (λ not. refl)
-began_devices s (Some front) = refl
-
-swept_devices : (i : Image) (s : State) → (swept i s).devices ≡ s.devices
-swept_devices i s = on_devices i (sweep_began s s.front) (sweep_began s s.front).front ∙ began_devices s s.front
 
 -- where a device is put it is, or there is no such place
 input_at : (ds : List DeviceState) (m : ℕ) (new : DeviceState) → (device (slice_set ds m new) m ≡ new) ⊎ (device (slice_set ds m new) m ≡ device ds m)

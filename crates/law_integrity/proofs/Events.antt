@@ -19,25 +19,11 @@ use Rattle.def_safety.specs.Wired.{Wired}
 use Rattle.def_integrity.specs.Touched.{Touched, as_before, by_store, by_clearing, by_record, by_free, by_sweep, GranulesKept}
 use Rattle.law_events.proofs.Events.{ready_keeps, event_keeps}
 use Rattle.law_history.proofs.Reaching.{uses_reach}
+use Rattle.law_history.proofs.Locals.{ready_ram}
 use Rattle.law_integrity.proofs.Granules.{Left, same, of_store, of_switch, of_trap, of_free, AllLeft, executed_granules}
 use Rattle.law_integrity.proofs.Sweeps.{sweep_says}
 
 -- ---- before a step
-
-ready_ram : (b : Platform) (s : State) → (ready b s).granules ≡ s.granules
-ready_ram b s = at_pick (preempted (one_more_step s)) (preempted (one_more_step s)).running ∙ at_stop (one_more_step s) (one_more_step s).running
-  where
-    at_choice : (z : State) (o : Option ℕ) → (picked_as b z o).granules ≡ z.granules
-    at_choice z None = refl
-    at_choice z (Some t) = refl
-
-    at_pick : (z : State) (o : Option ℕ) → (picked_from b z o).granules ≡ z.granules
-    at_pick z None = at_choice z (pick b.image.priorities (statuses_of z.threads) z.picks)
-    at_pick z (Some t) = refl
-
-    at_stop : (z : State) (o : Option ℕ) → (preempted_from z o).granules ≡ z.granules
-    at_stop z None = refl
-    at_stop z (Some t) = chosen (λ (y : State). y.granules ≡ z.granules) (z.pending && not (thread z t).posture.off) (record z { running = None; pending = false }) z (λ is. refl) (λ not. refl)
 
 -- ---- a step
 

@@ -22,7 +22,8 @@ use Rattle.def_step.specs.Quotas.{let_go}
 use Rattle.def_safety.specs.Each.{ready}
 use Rattle.def_integrity.specs.Threads.{FramesGo, as_before, by_call, by_handler, by_end, OwnFrames}
 use Rattle.law_routines.proofs.Stepping.{carried}
-use Rattle.law_integrity.proofs.Cases.{IfEffect, Both, executed_case}
+use Rattle.law_integrity.proofs.Cases.{executed_case}
+use Rattle.law_history.proofs.Routines.{IfEffect, Both}
 
 -- where a thread is put it is, or there is no such thread
 at_own : (ts : List Thread) (t : ℕ) (new : Thread) → (get_or (slice_set ts t new) t nobody ≡ new) ⊎ (get_or (slice_set ts t new) t nobody ≡ get_or ts t nobody)

@@ -61,7 +61,8 @@ use Rattle.law_events.proofs.Entered.{says, lies}
 use Rattle.law_events.proofs.Switching.{checks_say, caller_of}
 use Rattle.law_events.proofs.Whole.{handler_begins, stack_in_ram}
 use Rattle.law_integrity.proofs.Accesses.{authority_says, granule_says, whole_says}
-use Rattle.law_integrity.proofs.Cases.{IfEffect, Both, MayFetch, trap_told, executed_case}
+use Rattle.law_integrity.proofs.Cases.{executed_case}
+use Rattle.law_history.proofs.Routines.{IfEffect, Both, MayFetch, trap_told}
 
 -- ---- what a granule may be after a step of a thread
 

@@ -30,8 +30,9 @@ use Rattle.law_routines.proofs.Leaving.{allocate_told, free_told}
 use Rattle.law_routines.proofs.Objects.{Found, made_says}
 use Rattle.law_routines.proofs.Stepping.{carried}
 use Rattle.law_events.proofs.Events.{ready_keeps}
-use Rattle.law_integrity.proofs.Cases.{IfEffect, MayFetch, executed_case}
+use Rattle.law_integrity.proofs.Cases.{executed_case}
 use Rattle.law_integrity.proofs.Granules.{acting, head_of}
+use Rattle.law_history.proofs.Routines.{IfEffect, MayFetch}
 
 pub data Rows (s : State) (told : Option Deed) (z : State) : Type 0 where
   same : SameRows s z → Rows s told z

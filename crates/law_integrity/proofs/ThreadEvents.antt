@@ -23,6 +23,7 @@ use Rattle.def_safety.specs.Each.{ready}
 use Rattle.def_integrity.specs.Touched.{IsFiltered}
 use Rattle.def_integrity.specs.Threads.{FramesFaded, ThreadFaded, KeepsRegisters, ThreadTouched, as_before, by_own_step, by_wake, by_tick, by_sweep, ThreadsKept}
 use Rattle.law_moves.proofs.Slices.{thread_sliced, is_itself}
+use Rattle.law_moves.proofs.Ticks.{timed_at}
 use Rattle.law_events.proofs.Events.{ready_keeps}
 use Rattle.law_history.proofs.Reaching.{uses_reach}
 use Rattle.law_integrity.proofs.Threads.{Self, same, own, of_wake, executed_threads}
@@ -67,11 +68,6 @@ step_touched b s u parts k (Some t) runs is =
     (executed_threads b (ready b s) t (ready_keeps b s parts k).confined runs (λ f fs frames passes. (uses_reach b s parts k).word t f fs runs frames passes) u)
 
 -- ---- a tick
-
-timed_at : (ts : List Thread) (u : ℕ) → get_or (map timed ts) u nobody ≡ timed (get_or ts u nobody)
-timed_at [] u = refl
-timed_at (x ∷ xs) zero = refl
-timed_at (x ∷ xs) (suc u) = timed_at xs u
 
 interrupted_threads : (s : State) (o : Option ℕ) → (interrupted s o).threads ≡ s.threads
 interrupted_threads s None = refl

@@ -29,8 +29,10 @@ use Rattle.def_words.specs.Permissions.{load_data}
 use Rattle.def_integrity.specs.Threads.{IsWoken}
 use Rattle.law_routines.proofs.Stepping.{carried}
 use Rattle.law_integrity.proofs.Accesses.{word_says}
-use Rattle.law_integrity.proofs.Cases.{IfEffect, Both, MayFetch, executed_case}
+use Rattle.law_integrity.proofs.Cases.{executed_case}
 use Rattle.law_integrity.proofs.Granules.{acting, head_of}
+use Rattle.law_events.proofs.Waiting.{status_at}
+use Rattle.law_history.proofs.Routines.{IfEffect, Both, MayFetch}
 
 -- ---- lists of threads
 
@@ -50,11 +52,6 @@ statuses_at (x ∷ xs) f from (suc n) (suc u) = elim (statuses_at xs f (from + 1
   | inl same ↦ inl same
   | inr put ↦ inr (put ∙ ap (λ k. with_status (get_or xs u nobody) (f k)) (let e : from + 1 + u ≡ from + suc u = omega arith in e))
 ]
-
-status_at : (ts : List Thread) (u : ℕ) → status_of (statuses_of ts) u ≡ (get_or ts u nobody).status
-status_at [] u = refl
-status_at (x ∷ xs) zero = refl
-status_at (x ∷ xs) (suc u) = status_at xs u
 
 waits_at : (address : ℕ) (s : Status) → waits_for address s ≡ true → s ≡ Waiting address
 waits_at address Ready e = absurd (let clash : false ≡ true = e in cc)

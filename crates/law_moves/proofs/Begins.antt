@@ -38,7 +38,7 @@ paint_charges : (q : ℕ) (rows : List Object) → charges q (painted rows) ≡ 
 paint_charges q [] = refl
 paint_charges q (r ∷ rs) = ap (λ n. cond (r.live && nat_eq r.quota q) r.charge 0 + n) (paint_charges q rs)
 
-abbrev begun : State → State
+abbrev pub begun : State → State
 begun s = record s { objects = painted s.objects; front = Some 0 }
 
 begun_fades : (i : Image) (s : State) → Confined i s → StateFades i s (begun s)

@@ -90,7 +90,7 @@ restatused_keeps i s ts r k =
 
 -- ---- a tick
 
-timed_at : (ts : List Thread) (t : ℕ) → get_or (map timed ts) t nobody ≡ timed (get_or ts t nobody)
+pub timed_at : (ts : List Thread) (t : ℕ) → get_or (map timed ts) t nobody ≡ timed (get_or ts t nobody)
 timed_at [] t = refl
 timed_at (x ∷ xs) zero = refl
 timed_at (x ∷ xs) (suc t) = timed_at xs t

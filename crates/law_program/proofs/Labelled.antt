@@ -14,7 +14,7 @@ use Rattle.def_image.specs.Parts.{SlotRow, GateRow, CodeRow, CompartmentRow, Thr
 use Rattle.def_program.specs.Owners.{owner_name}
 use Rattle.def_boot.specs.Entries.{slot_row, slot_rows, export_rows, library_export_row, compartment_rows, library_rows, stack_row, rows_from, entry_rows}
 use Rattle.def_report.specs.Labels.{Label, owner_label, slot_label, export_label, slots_and_exports, compartment_labels, library_labels, labels_of}
-use Rattle.law_boot.proofs.Standing.{slots_count, exports_count}
+use Rattle.law_boot.proofs.Standing.{slots_count, exports_count, slot_owner}
 
 code_count : (p : PartsRow) (c : CodeRow) → length (slots_and_exports p c) ≡ length c.slots + length c.exports
 code_count p c =
@@ -80,16 +80,6 @@ NamesOwners p ls es = map (λ (l : Label). l.owner) ls ≡ map (λ (e : Entry). 
 names_both : (p : PartsRow) (ks ls : List Label) (xs ys : List Entry) → NamesOwners p ks xs → NamesOwners p ls ys → NamesOwners p (ks ++ ls) (xs ++ ys)
 names_both p ks ls xs ys k l =
     map-append (λ (m : Label). m.owner) ks ls ∙ ap₂ (λ a b. a ++ b) k l ∙ sym (map-append (λ (e : Entry). owner_name p e.owner) xs ys)
-
-slot_owner : (p : PartsRow) (o : Owner) (at : ℕ) (r : ImportRow) (k : SlotKind) → (slot_row p o at r k).owner ≡ o
-slot_owner p o at r slot.Service = refl
-slot_owner p o at r slot.Device = refl
-slot_owner p o at r slot.Shared = refl
-slot_owner p o at r slot.Sealed = refl
-slot_owner p o at r slot.Call = refl
-slot_owner p o at r slot.Library = refl
-slot_owner p o at r slot.Quota = refl
-slot_owner p o at r slot.Key = refl
 
 slots_named : (p : PartsRow) (o : Owner) (name : List ℕ) (at : ℕ) (ss : List SlotRow) → name ≡ owner_name p o → NamesOwners p (map (slot_label p name) ss) (slot_rows p o at ss)
 slots_named p o name at [] is = refl

@@ -41,7 +41,7 @@ aligned (r ∷ rs) (q ∷ qs) left gone hr hq e =
 
 -- ---- nothing follows a line that breaks a rule
 
-abbrev no_row : Row
+abbrev pub no_row : Row
 no_row = record { step = 0; name = []; byte = 0 }
 
 -- a row after others isn't earlier than the last of them

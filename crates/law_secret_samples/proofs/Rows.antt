@@ -17,6 +17,7 @@ use Rattle.def_boot.specs.Gates.{entries_of}
 use Rattle.def_secrecy.specs.View.{ReadsThrough}
 use Rattle.def_secrecy.specs.Others.{StoresThrough}
 use Rattle.law_secret_samples.specs.Walls.{walls}
+use Rattle.law_boot.proofs.Clauses.{is_device}
 
 -- ---- all entries of a report
 
@@ -199,10 +200,6 @@ stores n k x h = stores_at n x k h.no_stack (λ owned. reach_itself n 1 (root (i
 pub no_limit : (n k : ℕ) → (root (image_of (walls n)) k).limit ≡ 0
 unfolding image_of entries_of entry_rows
 no_limit n k = root_at (λ r. r.limit ≡ 0) (entries_of (walls n)) k refl refl (refl, (refl, (refl, (refl, (refl, (refl, (refl, (refl, (refl, (refl, (refl, tt)))))))))))
-
-abbrev is_device : Origin → Bool
-is_device (Listing kind.Device) = true
-is_device _ = false
 
 abbrev NotItsDevice : Root → Type 0
 NotItsDevice r = is_device r.origin ≡ true → For 0 r → ⊥

@@ -36,6 +36,7 @@ use Rattle.def_step.specs.Switch.{Switched, TooDeep, NoStack, Enters, return_che
 use Rattle.def_step.specs.Tokens.{by_key, key_of, made_token, token_key, token_new, with_row, sealed_token, opened_token}
 use Rattle.def_events.specs.Leaving.{Left, IfRan}
 use Rattle.law_history.proofs.Numbered.{by_number}
+use Rattle.law_history.proofs.Routines.{IfEffect, Both, MayFetch, trap_told}
 use Rattle.law_routines.proofs.Cases.{by_next}
 use Rattle.law_routines.proofs.Objects.{Found}
 use Rattle.law_routines.proofs.Leaving.{checked_left, option_tells, stopped, entering, call_told, allocate_told, free_told, yield_left, sleep_left, wait_left, wake_left, free_left, remaining_left, token_open_left, token_free_left}
@@ -145,20 +146,6 @@ module _ (At : ℕ → Type 0) (Q : State → Option (ℕ × Act) → Type 0) (i
   })
 
 -- ---- a step
-
-abbrev pub IfEffect : (State → Option Deed → Type 0) → State → ℕ → Cap → Result Effect Trap → Type 0
-IfEffect Q s t x (Err why) = Unit {0}
-IfEffect Q s t x (Ok d) = Q (put_done s t d) (option_map (deed s t x.shadow.root) d.act)
-
-abbrev pub Both : (State → Option Deed → Type 0) → State × Option Deed → Type 0
-Both Q r = Q r.0 r.1
-
-abbrev pub trap_told : State → ℕ → Trap → Option Deed
-trap_told s t why = Some (deed s t 0 (acts.Trap why.cause why.code why.register))
-
--- the fetch of thread t passes its checks
-abbrev pub MayFetch : State → ℕ → Type 0
-MayFetch s t = first_failed (fetch_checks (thread s t).pcc) ≡ None
 
 -- at its program counter stands the routine of this number
 abbrev pub Stands : Platform → State → ℕ → ℕ → Type 0

@@ -34,9 +34,11 @@ use Rattle.def_step.specs.Quotas.{let_go}
 use Rattle.def_safety.specs.Each.{ready}
 use Rattle.def_truly.specs.Changes.{IsDeviceAct, IsCallAct, IsAllocateAct, IsFreeAct, TellsSuch, TellsSuchBy, live_ones, TellsAll, SilenceKeeps}
 use Rattle.law_routines.proofs.Accesses.{by_access}
-use Rattle.law_truly.proofs.Cases.{IfEffect, Both, executed_case}
+use Rattle.law_truly.proofs.Cases.{executed_case}
 use Rattle.law_truly.proofs.Same.{Calm, Readied, calm, ready_is, ticked_calm, swept_calm, live_charges}
 use Rattle.law_truly.proofs.Spans.{none_begun}
+use Rattle.law_history.proofs.Routines.{IfEffect, Both}
+use Rattle.law_history.proofs.Devices.{interrupted_devices, swept_devices}
 
 -- what a step of a thread may change, with what it tells
 pub record Changes (s z : State) (told : Option Deed) : Type 0 where
@@ -239,21 +241,6 @@ calm_tells b s e c devices spans = record {
   charged = inl (charged_by s (happens b s e).0 c);
   spans = spans;
 }
-
-interrupted_devices : (s : State) (o : Option ℕ) → (interrupted s o).devices ≡ s.devices
-interrupted_devices s None = refl
-interrupted_devices s (Some t) = chosen (λ (z : State). z.devices ≡ s.devices) (thread s t).posture.off (record s { pending = true }) (record s { running = None }) (λ is. refl) (λ not. refl)
-
-on_devices : (i : Image) (s : State) (o : Option ℕ) → (sweep_on i s o).devices ≡ s.devices
-on_devices i s None = refl
-on_devices i s (Some front) = chosen (λ (z : State). z.devices ≡ s.devices) (nat_le (ram_size (with_slice i s front (slice_end i s front))) (slice_end i s front)) (sweep_over i (with_slice i s front (slice_end i s front))) (with_slice i s front (slice_end i s front)) (λ is. refl) (λ not. refl)
-
-began_devices : (s : State) (o : Option ℕ) → (sweep_began s o).devices ≡ s.devices
-began_devices s None = chosen (λ (z : State). z.devices ≡ s.devices) (has_quarantined s.objects) (record s { objects = painted s.objects; front = Some 0 }) s (λ is. refl) (λ not. refl)
-began_devices s (Some front) = refl
-
-swept_devices : (i : Image) (s : State) → (swept i s).devices ≡ s.devices
-swept_devices i s = on_devices i (sweep_began s s.front) (sweep_began s s.front).front ∙ began_devices s s.front
 
 pub tells_all : (b : Platform) (s : State) (e : Event) → Keeps b.image s → TellsAll b s e
 tells_all b s Step k = step_tells b s (ready_is b s) (step_changes b s)

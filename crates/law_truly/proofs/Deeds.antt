@@ -54,7 +54,8 @@ use Rattle.law_events.proofs.Cleans.{framed_there}
 use Rattle.law_events.proofs.Events.{ready_keeps}
 use Rattle.law_history.proofs.Steps.{none_told}
 use Rattle.law_history.proofs.Trapping.{traps_first}
-use Rattle.law_truly.proofs.Cases.{length_in, IfEffect, Both, MayFetch, MayReturn, Stands, executed_case}
+use Rattle.law_history.proofs.Routines.{IfEffect, Both, MayFetch}
+use Rattle.law_truly.proofs.Cases.{length_in, MayReturn, Stands, executed_case}
 use Rattle.law_truly.proofs.FailedChecks.{first_failed_is}
 use Rattle.law_truly.proofs.Running.{innermost, ready_framed, event_framed}
 use Rattle.law_truly.proofs.Spans.{some_begun, calm_begins_none}

@@ -29,9 +29,11 @@ use Rattle.def_step.specs.Quotas.{let_go}
 use Rattle.def_safety.specs.Each.{ready}
 use Rattle.def_events.specs.Running.{RunsFramed}
 use Rattle.law_routines.proofs.Stepping.{carried}
-use Rattle.law_truly.proofs.Cases.{IfEffect, Both, executed_case}
+use Rattle.law_truly.proofs.Cases.{executed_case}
 use Rattle.law_truly.proofs.Same.{Calm}
 use Rattle.law_truly.proofs.Changes.{status_frames, step_changes, tick_calm, sweep_calm, input_calm}
+use Rattle.law_events.proofs.Waiting.{status_at}
+use Rattle.law_history.proofs.Routines.{IfEffect, Both}
 
 pub innermost : (fs : List Frame) → (fs ≡ [] → ⊥) → (f : Frame) × (gs : List Frame) × (fs ≡ f ∷ gs)
 innermost [] h = absurd (h refl)
@@ -45,11 +47,6 @@ found_holds p (y ∷ ys) x e = chosen (λ (o : Option ℕ). o ≡ Some x → p x
     (λ is same. (let one : y ≡ x = cc in subst (λ n. p n ≡ true) one is))
     (λ not later. found_holds p ys x later)
     e
-
-pub status_at : (ts : List Thread) (u : ℕ) → status_of (statuses_of ts) u ≡ (get_or ts u nobody).status
-status_at [] u = refl
-status_at (x ∷ xs) zero = refl
-status_at (x ∷ xs) (suc u) = status_at xs u
 
 ended_idle : (x : Status) → is_ready x ≡ true → x ≡ Ended → ⊥
 ended_idle x e is = (let clash : false ≡ true = sym (ap is_ready is) ∙ e in cc)

@@ -20,7 +20,8 @@ use Rattle.def_machine.specs.Threads.{picked, statuses_of, timed}
 use Rattle.def_step.specs.Events.{interrupted, one_more_step, picked_as, picked_from, preempted_from, scheduled}
 use Rattle.def_truly.specs.Turns.{GoesOn, HoldsOff, IsNext, IsPicked, IsReady, IsStopped, NoneGoesOn, NoneIsReady, TakesTurn, TicksStop, SameTurn, OneTickLess, ThreadTicked, TickTaken, TurnTaken, TurnsStay}
 use Rattle.law_sched.proofs.Picks.{foremost_is, foremost_ready, foremost_tells, no_pick_is_idle}
-use Rattle.law_truly.proofs.Running.{status_at}
+use Rattle.law_moves.proofs.Ticks.{timed_at}
+use Rattle.law_events.proofs.Waiting.{status_at}
 
 -- ---- statuses
 
@@ -217,11 +218,6 @@ module _ (b : Platform) (s : State) where
           subst (λ (o : Option ℕ). TurnTaken b s (picked_from b (before_turn o s.pending) o)) (sym runs) (going t g (pends_on (λ u stopped. not_both t u g stopped))))
 
 -- ---- a tick
-
-timed_at : (ts : List Thread) (u : ℕ) → get_or (map timed ts) u nobody ≡ timed (get_or ts u nobody)
-timed_at [] u = refl
-timed_at (x ∷ xs) zero = refl
-timed_at (x ∷ xs) (suc u) = timed_at xs u
 
 -- a status after a tick
 one_tick_less : (x : Status) → OneTickLess x (after_tick x)
