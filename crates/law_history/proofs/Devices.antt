@@ -1,10 +1,11 @@
 -- Ticks and sweeps leave the devices as they are.
-use Rattle.std.proofs.Common.{ℕ, ◌≡◌, nat_le, Option, Some, None, refl, ◌∙◌}
+use Rattle.std.proofs.Common.{ℕ, ◌≡◌, nat_le, true, Option, Some, None, refl, ◌∙◌}
 use Rattle.law_lists.proofs.Tests.{chosen}
 use Rattle.def_machine.specs.Image.{Image}
-use Rattle.def_machine.specs.State.{State}
+use Rattle.def_machine.specs.State.{State, thread}
 use Rattle.def_machine.specs.Objects.{has_quarantined, painted}
 use Rattle.def_machine.specs.Heap.{with_slice, slice_end, sweep_over, ram_size, sweep_began, sweep_on, swept}
+use Rattle.def_step.specs.Events.{interrupted}
 
 pub interrupted_devices : (s : State) (o : Option ℕ) → (interrupted s o).devices ≡ s.devices
 interrupted_devices s None = refl

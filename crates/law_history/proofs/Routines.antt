@@ -10,6 +10,7 @@ use Rattle.ct_entry.specs.declared.acts.Act.{Act}
 use Rattle.ct_entry.specs.declared.acts.Act.TheVariants as acts
 use Rattle.ct_entry.specs.declared.acts.Deed.{Deed}
 use Rattle.std.specs.Prelude.{option_map}
+use Rattle.def_words.specs.declared.Cap.{Cap}
 use Rattle.def_words.specs.declared.Trap.{Trap}
 use Rattle.def_words.specs.Authority.{cap_address}
 use Rattle.def_words.specs.Capability.{integer}
@@ -29,7 +30,7 @@ use Rattle.def_step.specs.declared.Next.TheVariants.{Instruction, Native}
 use Rattle.def_step.specs.declared.TheConstants.{LAST_ROUTINE}
 use Rattle.def_step.specs.Checks.{Check, first_failed}
 use Rattle.def_step.specs.Handlers.{is_handled, handler_entered, handler_value}
-use Rattle.def_step.specs.Instructions.{Effect, space_of, deed, deed_told, instruction_end, operand, trapped, goes_on, after_fetch, executed, fetch_checks, next_at, served}
+use Rattle.def_step.specs.Instructions.{Effect, space_of, put_done, deed, deed_told, instruction_end, operand, trapped, goes_on, after_fetch, executed, fetch_checks, next_at, served}
 use Rattle.def_step.specs.Native.{native}
 use Rattle.def_step.specs.Operands.{operands_of}
 use Rattle.def_step.specs.Quotas.{Allocation, Refused, Made, allocation, is_quota_cap, quota_in, by_quota, allocated, allocate, freed_as, free, whole_of, let_go, gives_back}
