@@ -128,15 +128,18 @@ hostile("store_to_code", 100, trapped(2, 28, 19, 5), "auipcc ct0, 0", "csw a0, 0
 for name, line, wanted in (("store_past", "csw a0, 16(ct0)", trapped(3, 28, 1, 5)),
                            ("load_of_stores", "clw a0, 0(ct0)", trapped(3, 28, 18, 5))):
     run(name, filed(name, ["main: cimport ct0, uart", line]), 100, *wanted)
-# Two firmware that differ in a byte of the keeper's globals: the prowler is told the same, where it tries to load it.
+# Two firmware that differ in a byte of the keeper's globals: the prowler is told the same, where it tries to load it, before
+# the keeper has acted or after.
 for secret in (75, 90):
-    row(f"secret_{secret}", [
-        compartment("prowler", [], ["peek"], "peek: li a0, 0x800000a0", "clw a1, 0(ca0)", "cret"),
-        compartment("keeper", [UART], ["show"], "show: clbu a0, 0(cgp)", "cimport ct0, uart", "csb a0, 0(ct0)", "cret",
-                    ".data", f".byte {secret}")],
-        [thread("prowler.peek", "e", frames=1), thread("keeper.show", "k", frames=1)], 100, "3 trap t0 c0 28 2 10",
-        f"7 store t1 c1 e8 10000000 1 {secret:02x}", ended("finished", 9, devices=1, traps=1),
-        firmware="walls", ram={"base": 0x80000000, "size": 1152})
+    for name, priority, load, store in (("secret", 1, 3, 7), ("secret_stored", 2, 9, 4)):
+        wanted = {load: f"{load} trap t0 c0 28 2 10", store: f"{store} store t1 c1 e8 10000000 1 {secret:02x}"}
+        row(f"{name}_{secret}", [
+            compartment("prowler", [], ["peek"], "peek: li a0, 0x800000a0", "clw a1, 0(ca0)", "cret"),
+            compartment("keeper", [UART], ["show"], "show: clbu a0, 0(cgp)", "cimport ct0, uart", "csb a0, 0(ct0)", "cret",
+                        ".data", f".byte {secret}")],
+            [thread("prowler.peek", "e", frames=1), thread("keeper.show", "k", frames=1, priority=priority)], 100,
+            *(wanted[step] for step in sorted(wanted)), ended("finished", 9, devices=1, traps=1),
+            firmware="walls", ram={"base": 0x80000000, "size": 1152})
 sealed = filed("sealed_export", ["main: cimport ct0, self", "cjr ct0"])
 sealed["compartments"][0]["imports"] = [{"as": "self", "call": "app.main"}]
 run("sealed_export", sealed, 100, *trapped(3, 28, 3, 5))

@@ -16,14 +16,15 @@ pub data Moment : Type 0 where
   Both : Event → Moment
   Others : List Event → List Event → Moment
 
--- What is asked of two runs from these states. What comes to both lets no thread but t carry on, and leaves t in its
--- frame. When others have acted, whatever they did, thread t sees the same of both again; so a call of its own stands
--- among those, with what its callee does.
+-- What is asked of two runs from these states. What comes to both lets no thread but t carry on; of what follows
+-- something is asked only where that leaves t in its frame. When others have acted, whatever they did, thread t sees the
+-- same of both again; so a call of its own stands among those, with what its callee does.
 abbrev pub AlikeForOne : Platform → ℕ → State → State → List Moment → Type 0
 AlikeForOne b t s z [] = Unit {0}
 AlikeForOne b t s z (Both e ∷ ms) =
-    NoOtherRuns b s t e × StaysIn s (happens b s e).0 t
-    × AlikeForOne b t (happens b s e).0 (happens b z e).0 ms
+    NoOtherRuns b s t e
+    × (StaysIn s (happens b s e).0 t
+    → AlikeForOne b t (happens b s e).0 (happens b z e).0 ms)
 AlikeForOne b t s z (Others es fs ∷ ms) =
     Agree b t (run b s es) (run b z fs) × AlikeForOne b t (run b s es) (run b z fs) ms
 
@@ -32,20 +33,23 @@ AlikeForOne b t s z (Others es fs ∷ ms) =
 abbrev pub OthersStayAway : Platform → ℕ → State → State → List Moment → Type 0
 OthersStayAway b t s z [] = Unit {0}
 OthersStayAway b t s z (Both e ∷ ms) =
-    NoOtherRuns b s t e × StaysIn s (happens b s e).0 t
-    × OthersStayAway b t (happens b s e).0 (happens b z e).0 ms
+    NoOtherRuns b s t e
+    × (StaysIn s (happens b s e).0 t
+    → OthersStayAway b t (happens b s e).0 (happens b z e).0 ms)
 OthersStayAway b t s z (Others es fs ∷ ms) =
     EachEvent (ByOthers b t) b s es × EachEvent (ByOthers b t) b z fs
     × SamePublic (run b s es) (run b z fs)
     × OthersStayAway b t (run b s es) (run b z fs) ms
 
--- What is concluded: whatever comes to both tells the same of both, and thread t sees the same of what each moment
--- finds and leaves.
+-- What is concluded: thread t sees the same of what each moment finds, and whatever comes to both tells the same deed
+-- of both, calls, returns and traps of t too. Where t stays in its frame all that is told is the same, and so on with
+-- what is left.
 abbrev pub AlikeInAll : Platform → ℕ → State → State → List Moment → Type 0
 AlikeInAll b t s z [] = Agree b t s z
 AlikeInAll b t s z (Both e ∷ ms) =
-    Agree b t s z × ((happens b s e).1 ≡ (happens b z e).1)
-    × AlikeInAll b t (happens b s e).0 (happens b z e).0 ms
+    Agree b t s z × ((happens b s e).1.deed ≡ (happens b z e).1.deed)
+    × (StaysIn s (happens b s e).0 t → ((happens b s e).1 ≡ (happens b z e).1)
+    × AlikeInAll b t (happens b s e).0 (happens b z e).0 ms)
 AlikeInAll b t s z (Others es fs ∷ ms) =
     Agree b t s z × AlikeInAll b t (run b s es) (run b z fs) ms
 

@@ -1,6 +1,6 @@
 -- Which check comes first: what trap a fetch, an access, a jump by a register, a call or a routine's word comes to where
 -- several of its checks fail, and that it passes where none does.
-use Rattle.std.specs.Prelude.{ℕ, ◌≡◌, ◌+◌, ◌%◌, ◌==◌, ◌&&◌, ◌||◌, true, false, Some, None}
+use Rattle.std.specs.Prelude.{ℕ, ◌≡◌, ◌+◌, ◌%◌, ◌==◌, ◌&&◌, ◌||◌, Bool, true, false, Some, None}
 use Rattle.std.specs.Int.{is_in_range}
 use Rattle.def_profile.specs.declared.seals.TheConstants.{EXPORT_TYPE, RETURN_DISABLE, RETURN_ENABLE}
 use Rattle.def_profile.specs.declared.traps.TheConstants.{BOUNDS_CODE, EXECUTE_CODE, LOAD_CODE, MISALIGNED_FETCH, MISALIGNED_LOAD, MISALIGNED_STORE, PCC_REGISTER, SEAL_CODE, STORE_CAPABILITY_CODE, STORE_CODE, TAG_CODE}
@@ -12,7 +12,7 @@ use Rattle.def_words.specs.Permissions.{execute, has, load_data, memory_capabili
 use Rattle.def_words.specs.Seals.{cap_seal, is_jump_taken, is_unsealed}
 use Rattle.def_words.specs.Traps.{capability_trap, plain_trap}
 use Rattle.def_machine.specs.Image.{Image}
-use Rattle.def_machine.specs.State.{State, Thread, register}
+use Rattle.def_machine.specs.State.{State, Thread, register, thread}
 use Rattle.def_step.specs.declared.Access.{Access}
 use Rattle.def_step.specs.Accesses.{access_checks}
 use Rattle.def_step.specs.Checks.{first_failed}
@@ -20,6 +20,7 @@ use Rattle.def_step.specs.Instructions.{fetch_checks}
 use Rattle.def_step.specs.Jumps.{register_jump_checks, register_target}
 use Rattle.def_step.specs.Routines.{lies_in_ram, word_checks}
 use Rattle.def_step.specs.Switch.{gate_checks, return_checks, stack_checks, switch_checks}
+use Rattle.def_safety.specs.Traps.{routine_checks}
 
 -- capability x is tagged and unsealed
 pub record IsOpen (x : Cap) : Type 0 where
@@ -86,24 +87,28 @@ pub record StoreOrder (a : Access) (x y : Cap) (at : ℕ) : Type 0 where
       → is_range_inside x at (at + a.width) ≡ true → (at % a.width == 0) ≡ true
       → first_failed (access_checks a x y at) ≡ None
 
+-- a jump by register `at` that leaves its link in register `to` may open x's seal, and has no offset n under one
+abbrev pub may_open : ℕ → ℕ → Cap → ℕ → Bool
+may_open to at x n = is_jump_taken to at (cap_seal x) && (is_unsealed x || (n == 0))
+
 -- A jump by a register asks for the tag, a seal that it may open and no offset under one, the right to execute, and a
 -- target that is a multiple of 4.
 pub record JumpOrder (to at : ℕ) (x : Cap) (n : ℕ) : Type 0 where
   pub tag : x.tag ≡ false
       → first_failed (register_jump_checks to at x n) ≡ Some (capability_trap TAG_CODE at)
   pub seal : x.tag ≡ true
-      → (is_jump_taken to at (cap_seal x) && (is_unsealed x || (n == 0))) ≡ false
+      → may_open to at x n ≡ false
       → first_failed (register_jump_checks to at x n) ≡ Some (capability_trap SEAL_CODE at)
   pub right : x.tag ≡ true
-      → (is_jump_taken to at (cap_seal x) && (is_unsealed x || (n == 0))) ≡ true
+      → may_open to at x n ≡ true
       → has x execute ≡ false
       → first_failed (register_jump_checks to at x n) ≡ Some (capability_trap EXECUTE_CODE at)
   pub aligned : x.tag ≡ true
-      → (is_jump_taken to at (cap_seal x) && (is_unsealed x || (n == 0))) ≡ true
+      → may_open to at x n ≡ true
       → has x execute ≡ true → (register_target x n % 4 == 0) ≡ false
       → first_failed (register_jump_checks to at x n) ≡ Some (plain_trap MISALIGNED_FETCH)
   pub passes : x.tag ≡ true
-      → (is_jump_taken to at (cap_seal x) && (is_unsealed x || (n == 0))) ≡ true
+      → may_open to at x n ≡ true
       → has x execute ≡ true → (register_target x n % 4 == 0) ≡ true
       → first_failed (register_jump_checks to at x n) ≡ None
 
@@ -174,3 +179,12 @@ pub record WordOrder (i : Image) (s : State) (c : Cap) : Type 0 where
       && lies_in_ram i s (cap_address c) 4) ≡ true
       → (cap_address c % 4 == 0) ≡ true
       → first_failed (word_checks i s c) ≡ None
+
+-- A wait and a wake, routine n of thread t, look at their way back first, then at their word.
+pub record WaitOrder (i : Image) (s : State) (t n : ℕ) : Type 0 where
+  pub back : (why : Trap)
+      → first_failed (return_checks (register (thread s t) 1)) ≡ Some why
+      → first_failed (routine_checks i s t n) ≡ Some why
+  pub word : first_failed (return_checks (register (thread s t) 1)) ≡ None
+      → first_failed (routine_checks i s t n)
+      ≡ first_failed (word_checks i s (register (thread s t) 10))

@@ -23,8 +23,11 @@ module _ (b : Platform) (t : ℕ) (parts : Partitioned b.image) (facts : Facts b
   runs_alike (Both e ∷ ms) s z one two zeros zeros_too agree h =
       let secret : EventSecret b s z t e = event_secret b s z t parts wired one.confined two.confined zeros zeros_too agree e h.0 in (
         agree,
-        secret.happening h.1,
-        runs_alike ms (happens b s e).0 (happens b z e).0 (event_keeps b s e parts facts wired one) (event_keeps b z e parts facts wired two) (event_blank b s e parts wired shut one zeros) (event_blank b z e parts wired shut two zeros_too) (secret.view h.1) h.2,
+        secret.deed,
+        λ stays. (
+          secret.happening stays,
+          runs_alike ms (happens b s e).0 (happens b z e).0 (event_keeps b s e parts facts wired one) (event_keeps b z e parts facts wired two) (event_blank b s e parts wired shut one zeros) (event_blank b z e parts wired shut two zeros_too) (secret.view stays) (h.1 stays),
+        ),
       )
   runs_alike (Others es fs ∷ ms) s z one two zeros zeros_too agree h = (
     agree,
@@ -37,8 +40,11 @@ module _ (b : Platform) (t : ℕ) (parts : Partitioned b.image) (facts : Facts b
   runs_away (Both e ∷ ms) s z one two zeros zeros_too agree h =
       let secret : EventSecret b s z t e = event_secret b s z t parts wired one.confined two.confined zeros zeros_too agree e h.0 in (
         agree,
-        secret.happening h.1,
-        runs_away ms (happens b s e).0 (happens b z e).0 (event_keeps b s e parts facts wired one) (event_keeps b z e parts facts wired two) (event_blank b s e parts wired shut one zeros) (event_blank b z e parts wired shut two zeros_too) (secret.view h.1) h.2,
+        secret.deed,
+        λ stays. (
+          secret.happening stays,
+          runs_away ms (happens b s e).0 (happens b z e).0 (event_keeps b s e parts facts wired one) (event_keeps b z e parts facts wired two) (event_blank b s e parts wired shut one zeros) (event_blank b z e parts wired shut two zeros_too) (secret.view stays) (h.1 stays),
+        ),
       )
   runs_away (Others es fs ∷ ms) s z one two zeros zeros_too agree h =
       let first = run_stays b t es s parts facts wired one h.0 in

@@ -70,8 +70,8 @@ pub fn others_stay_unseen()
 /// Two runs that a thread sees the same of tell it the same. They begin in states that agree on the thread's view,
 /// and between its own events others act in each run as they like, as long as the thread sees the same of what they
 /// leave (`seen`); or as long as they reach nothing that it sees, and what is public agrees when they have acted
-/// (`away`). Then each event that comes to both, the thread's steps among them, tells the same in both, and the
-/// thread sees the same after each.
+/// (`away`). Then each event that comes to both, the thread's steps among them, tells the same deed in both; and where
+/// the thread stays in its frame all that is told is the same, it sees the same after, and so on.
 pub fn runs_are_secret()
     ensures seen { (b : Platform) (s z : State) (t : ℕ) (ms : List Moment)
         → Partitioned b.image → Facts b.image → Wired b → Shut b.image

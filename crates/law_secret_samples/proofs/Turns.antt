@@ -59,8 +59,7 @@ module _ (gs : List Granule) (b : Platform) where
   turns_same [] s z h = tt
   turns_same (Both e ∷ ms) s z h = (
     h.0,
-    h.1,
-    turns_same ms (happens b s e).0 (happens b z e).0 (subst (λ (r : State × Happened). TakesTurns b (with_boot gs b) (happens b s e).0 r.0 ms) (happens_same gs b z e) h.2),
+    λ stays. turns_same ms (happens b s e).0 (happens b z e).0 (subst (λ (r : State × Happened). TakesTurns b (with_boot gs b) (happens b s e).0 r.0 ms) (happens_same gs b z e) (h.1 stays)),
   )
   turns_same (Others es fs ∷ ms) s z h = (
     h.0,
@@ -73,8 +72,11 @@ module _ (gs : List Granule) (b : Platform) where
   tells_same [] s z h = h
   tells_same (Both e ∷ ms) s z h = (
     h.0,
-    h.1 ∙ ap (λ (r : State × Happened). r.1) (sym (happens_same gs b z e)),
-    subst (λ (r : State × Happened). TellsAlike b (with_boot gs b) (happens b s e).0 r.0 ms) (sym (happens_same gs b z e)) (tells_same ms (happens b s e).0 (happens b z e).0 h.2),
+    h.1 ∙ ap (λ (r : State × Happened). r.1.deed) (sym (happens_same gs b z e)),
+    λ stays. (
+      (h.2 stays).0 ∙ ap (λ (r : State × Happened). r.1) (sym (happens_same gs b z e)),
+      subst (λ (r : State × Happened). TellsAlike b (with_boot gs b) (happens b s e).0 r.0 ms) (sym (happens_same gs b z e)) (tells_same ms (happens b s e).0 (happens b z e).0 (h.2 stays).1),
+    ),
   )
   tells_same (Others es fs ∷ ms) s z h = (
     h.0,
@@ -124,7 +126,7 @@ module _ (n : ℕ) (sound : Sound (walls n)) where
 
   turns_away : (ms : List Moment) (s z : State) → Stands n s → Stands n z → TakesTurns b b s z ms → OthersStayAway b 0 s z ms
   turns_away [] s z one two h = tt
-  turns_away (Both e ∷ ms) s z one two h = (h.0, h.1, turns_away ms (happens b s e).0 (happens b z e).0 (event_stands s e one) (event_stands z e two) h.2)
+  turns_away (Both e ∷ ms) s z one two h = (h.0, λ stays. turns_away ms (happens b s e).0 (happens b z e).0 (event_stands s e one) (event_stands z e two) (h.1 stays))
   turns_away (Others es fs ∷ ms) s z one two h = (each_away s es one h.0, each_away z fs two h.1, h.2, turns_away ms (run b s es) (run b z fs) (run_stands s es one) (run_stands z fs two) h.3)
 
   -- ---- from boot

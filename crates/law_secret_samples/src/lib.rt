@@ -31,7 +31,8 @@ pub fn walls_stand()
     ensures rights { (n : ℕ) → first (right_checks (walls n)) ≡ None }
 {}
 
-/// What an image booted is read by no event: machines whose images differ in that alone do the same.
+/// An image's record of what it booted is read by no event: machines whose images differ in that alone do the same, since
+/// RAM is the state's.
 pub fn boots_unread()
     ensures { (b : Platform) (gs : List Granule) (s : State) (e : Event)
         → happens (record b { image = record b.image { boot = gs } }) s e ≡ happens b s e }
@@ -39,11 +40,10 @@ pub fn boots_unread()
 
 /// Two images whose keeper has one byte or any other as its secret, with all else the same. Each is accepted
 /// (`accepted`), and boots its secret at one address (`secret`), which the prowler's thread doesn't see (`unseen`), while
-/// it sees its own globals (`seen`). Whatever events come to the two machines from their boots, the prowler's thread sees
-/// the same of both, and all that its events tell is the same in both (`untold`). What is asked of the events: between
-/// those that come to both, the keeper's thread acts in each run by events of its own, as many as it likes, whatever
-/// these do with the secret, as long as what is public is the same when it has acted; and the prowler's thread hasn't
-/// ended.
+/// it sees its own globals (`seen`). Whatever events come to the two machines from their boots, until it ends the prowler's
+/// thread sees the same of both, and its events tell the same in both, the trap by which it ends too (`untold`). What is
+/// asked of the events: between those that come to both, the keeper's thread acts in each run by events of its own, as
+/// many as it likes, whatever these do with the secret, as long as what is public is the same when it has acted.
 pub fn secrets_stay_untold()
     ensures accepted { (n : ℕ) → n < 256 → IsFaultless (walls n) }
     ensures secret { (n : ℕ) → n < 256

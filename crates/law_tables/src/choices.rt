@@ -4,6 +4,7 @@
 ghost use Rattle.std.specs.Prelude.{◌≡◌, [], ◌∷◌, Some, map, length, codes};
 ghost use Rattle.ct_entry.specs.declared.hardware.DeviceKind.TheVariants.{Uart, Timer, Gpio};
 ghost use Rattle.ct_entry.specs.declared.hardware.TheConstants.{DEVICE_KINDS};
+ghost use Rattle.ct_entry.specs.DeviceKinds.{kind_text};
 ghost use Rattle.ct_entry.specs.declared.rows.Mode.TheVariants.{Inherit, Disabled, Enabled};
 ghost use Rattle.def_desc.specs.declared.tables.Passes.TheVariants.{Capabilities, Data};
 ghost use Rattle.def_desc.specs.declared.tables.TheConstants.{POSTURES, LIBRARY_POSTURES, PASSES, SERVICES, QUANTUM};
@@ -16,6 +17,8 @@ ghost use Rattle.def_desc.specs.Tables.{kind_of, posture_of, library_posture_of,
 pub fn choices_of_descriptions()
     ensures kinds { map kind_of (codes "uart" ∷ codes "timer" ∷ codes "gpio" ∷ [])
         ≡ Some Uart ∷ Some Timer ∷ Some Gpio ∷ [] }
+    ensures kind_names { map kind_text (Uart ∷ Timer ∷ Gpio ∷ [])
+        ≡ codes "uart" ∷ codes "timer" ∷ codes "gpio" ∷ [] }
     ensures no_other_kind { length DEVICE_KINDS ≡ 3 }
     ensures postures { map posture_of (codes "enabled" ∷ codes "disabled" ∷ [])
         ≡ Some Enabled ∷ Some Disabled ∷ [] }

@@ -8,6 +8,7 @@ ghost use Rattle.def_profile.specs.declared.native.TheConstants as native;
 ghost use Rattle.def_profile.specs.declared.seals.TheConstants as seal;
 ghost use Rattle.def_profile.specs.declared.traps.TheConstants as trap;
 ghost use Rattle.def_profile.specs.Areas.{area_length};
+ghost use Rattle.def_step.specs.declared.TheConstants as step;
 
 /// Where native routines stand, and their numbers: the switch, the return, yield, sleep, wait, wake,
 /// allocate, free, remaining, and the four of tokens. What they answer where they refuse, negated, and
@@ -23,7 +24,7 @@ pub fn native_routines()
     ensures heap { routine.ALLOCATE ∷ routine.FREE ∷ routine.REMAINING ∷ [] ≡ 6 ∷ 7 ∷ 8 ∷ [] }
     ensures tokens { routine.TOKEN_KEY ∷ routine.TOKEN_NEW ∷ routine.TOKEN_OPEN ∷ routine.TOKEN_FREE
         ∷ [] ≡ 9 ∷ 10 ∷ 11 ∷ 12 ∷ [] }
-    ensures last { routine.LAST_NATIVE ≡ 12 }
+    ensures last { routine.LAST_NATIVE ∷ step.LAST_ROUTINE ∷ [] ≡ 12 ∷ 12 ∷ [] }
     ensures return_entry { native.RETURN_ENTRY ≡ 0x00010010 }
     ensures heap_answers { answer.NO_QUOTA ∷ answer.PAST_LIMIT ∷ answer.NO_PLACE ∷ answer.NO_SIZE
         ∷ answer.NO_PLACE_YET ∷ answer.NO_OBJECT ∷ [] ≡ 1 ∷ 2 ∷ 3 ∷ 4 ∷ 5 ∷ 6 ∷ [] }

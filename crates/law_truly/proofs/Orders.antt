@@ -1,10 +1,11 @@
 -- Which check comes first.
 use Rattle.std.proofs.Common.{ℕ, ◌≡◌, ◌&&◌, ◌||◌, ◌++◌, ◌⊎◌, inl, inr, Bool, true, false, not, List, [], ◌∷◌, Option, Some, None, refl, ap, ◌∙◌}
+use Rattle.def_native.specs.declared.TheConstants.{WAIT, WAKE}
 use Rattle.def_words.specs.declared.Cap.{Cap}
 use Rattle.def_words.specs.declared.Trap.{Trap}
 use Rattle.def_words.specs.Permissions.{has, memory_capability}
 use Rattle.def_machine.specs.Image.{Image}
-use Rattle.def_machine.specs.State.{State, Thread, register}
+use Rattle.def_machine.specs.State.{State, Thread, register, thread}
 use Rattle.def_step.specs.declared.Access.{Access}
 use Rattle.def_step.specs.Accesses.{access_checks, load_checks, store_checks}
 use Rattle.def_step.specs.Checks.{Check, first_failed}
@@ -12,7 +13,7 @@ use Rattle.def_step.specs.Instructions.{fetch_checks}
 use Rattle.def_step.specs.Jumps.{register_jump_checks}
 use Rattle.def_step.specs.Routines.{word_checks}
 use Rattle.def_step.specs.Switch.{gate_checks, return_checks, stack_checks}
-use Rattle.def_truly.specs.Orders.{CallOrder, FetchOrder, GateOrder, JumpOrder, LoadOrder, ReturnOrder, StackOrder, StoreOrder, WordOrder}
+use Rattle.def_truly.specs.Orders.{CallOrder, FetchOrder, GateOrder, JumpOrder, LoadOrder, ReturnOrder, StackOrder, StoreOrder, WaitOrder, WordOrder}
 use Rattle.law_truly.proofs.Passing.{hold_passes}
 
 -- a check of the list fails, with this trap, and each before it holds
@@ -139,3 +140,15 @@ call_order base top caller =
       gate = λ why none e. second_fails back (gate ++ stack) none ∙ first_fails gate stack why e;
       stack = λ none nor. second_fails back (gate ++ stack) none ∙ second_fails gate stack nor;
     }
+
+pub wait_order : (i : Image) (s : State) (t : ℕ) → WaitOrder i s t WAIT
+wait_order i s t =
+    let back : List Check = return_checks (register (thread s t) 1) in
+    let word : List Check = word_checks i s (register (thread s t) 10) in
+    record { back = λ why e. first_fails back word why e; word = λ none. second_fails back word none }
+
+pub wake_order : (i : Image) (s : State) (t : ℕ) → WaitOrder i s t WAKE
+wake_order i s t =
+    let back : List Check = return_checks (register (thread s t) 1) in
+    let word : List Check = word_checks i s (register (thread s t) 10) in
+    record { back = λ why e. first_fails back word why e; word = λ none. second_fails back word none }

@@ -11,6 +11,7 @@ ghost use Rattle.def_confined.specs.Partitioned.{Partitioned};
 ghost use Rattle.def_image.specs.Parts.{PartsRow};
 ghost use Rattle.def_image.specs.Sound.{Sound};
 ghost use Rattle.def_machine.specs.Image.{Image};
+ghost use Rattle.def_native.specs.declared.TheConstants.{WAIT, WAKE};
 ghost use Rattle.def_machine.specs.Objects.{placed_among, quarantine};
 ghost use Rattle.def_machine.specs.Platform.{Platform};
 ghost use Rattle.def_machine.specs.State.{Object, State, Thread, thread};
@@ -39,6 +40,7 @@ ghost use Rattle.def_truly.specs.Orders.{
   ReturnOrder,
   StackOrder,
   StoreOrder,
+  WaitOrder,
   WordOrder,
 };
 ghost use Rattle.def_truly.specs.Instructions.{InstructionsKeep};
@@ -125,8 +127,8 @@ pub fn rules_are_plain()
 
 /// Where several checks fail, the trap is of the one that comes first, and where none does there is none: of a fetch
 /// (`fetch`), a load (`load`), a store (`store`), a jump by a register (`jump`), the word of a wait or a wake (`word`),
-/// and a call: what it asks of its way back (`back`), of its import (`gate`), of its stack (`stack`), in this order
-/// (`call`).
+/// before which these look at their way back (`wait`, `wake`), and a call: what it asks of its way back (`back`), of
+/// its import (`gate`), of its stack (`stack`), in this order (`call`).
 pub fn checks_stand_in_order()
     ensures fetch { (pcc : Cap) → FetchOrder pcc }
     ensures load { (a : Access) (x y : Cap) (at : ℕ) → a.loads ≡ true → LoadOrder a x y at }
@@ -137,6 +139,8 @@ pub fn checks_stand_in_order()
     ensures gate { (c : Cap) → GateOrder c }
     ensures stack { (base top : ℕ) (c : Cap) → StackOrder base top c }
     ensures call { (base top : ℕ) (caller : Thread) → CallOrder base top caller }
+    ensures wait { (i : Image) (s : State) (t : ℕ) → WaitOrder i s t WAIT }
+    ensures wake { (i : Image) (s : State) (t : ℕ) → WaitOrder i s t WAKE }
 {}
 
 /// All of these of each event of a list (`events`), and of the machine of a sound image, whatever list of events

@@ -1,4 +1,4 @@
-use Rattle.law_truly.proofs.Orders.{call_order, fetch_order, gate_order, jump_order, load_order, return_order, stack_order, store_order, word_order}
+use Rattle.law_truly.proofs.Orders.{call_order, fetch_order, gate_order, jump_order, load_order, return_order, stack_order, store_order, wait_order, wake_order, word_order}
 use Rattle.law_truly.proofs.checks_stand_in_order.Goals as goal
 
 pub returns : goal.returns
@@ -12,4 +12,6 @@ returns g = record {
   gate = gate_order;
   stack = stack_order;
   call = call_order;
+  wait = wait_order;
+  wake = wake_order;
 }
