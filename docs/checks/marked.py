@@ -147,7 +147,7 @@ MARKED = {
     },
     "ct_switch": {
         "inner":
-            "head_of return_trap stack_trap first_trap end_with export_of called return_sentry "
+            "head_of return_trap stack_trap first_trap export_of called return_sentry "
             "heads_give is_export_of table_at top_below",
     },
     "ct_handler": {

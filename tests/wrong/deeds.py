@@ -111,5 +111,19 @@ MACHINES = [
           "law_truly::checks_stand_in_order", "CallOrder.back",
           ("def_step/specs/Switch.antt",
            "    return_checks (register caller 1) ++ gate_checks (register caller 6)\n",
-           "    gate_checks (register caller 6) ++ return_checks (register caller 1)\n")),
+           "    gate_checks (register caller 6) ++ return_checks (register caller 1)\n")),    wrong("word_before_back", "a wait and a wake look at their word before their way back",
+          "law_truly::checks_stand_in_order", "WaitOrder.back",
+          ("def_step/specs/Routines.antt",
+           "wait i s t =\n    checked (return_checks (register (thread s t) 1))\n"
+           "    (checked (word_checks i s (register (thread s t) 10))\n",
+           "wait i s t =\n    checked (word_checks i s (register (thread s t) 10))\n"
+           "    (checked (return_checks (register (thread s t) 1))\n"),
+          ("def_step/specs/Routines.antt",
+           "wake i s t =\n    checked (return_checks (register (thread s t) 1))\n"
+           "    (checked (word_checks i s (register (thread s t) 10))\n",
+           "wake i s t =\n    checked (word_checks i s (register (thread s t) 10))\n"
+           "    (checked (return_checks (register (thread s t) 1))\n"),
+          ("def_safety/specs/Traps.antt",
+           "    then return_checks (register (thread s t) 1) ++ word_checks i s (register (thread s t) 10)\n",
+           "    then word_checks i s (register (thread s t) 10) ++ return_checks (register (thread s t) 1)\n")),
 ]
