@@ -38,6 +38,7 @@ run("past_the_device", tiny(SLOT + ["00a2a823"]), 100, "3 trap t0 c0 28 1 5", en
 run("divided_by_zero", tiny(SLOT + ["00700513", "020555b3", "00b2a023", "00008067"]), 100,
     "5 store t0 c0 e4 10000000 4 ffffffff", ended("finished", 7, devices=1))
 run("register_16", tiny(["00000813"]), 100, "1 trap t0 c0 2 0 0", ended("finished", 1, traps=1))
+run("trap_at_the_end", tiny(["00000813"]), 1, "1 trap t0 c0 2 0 0", ended("finished", 1, traps=1))
 run("endless", tiny(["0000006f"]), 5, ended("limit", 5))
 
 # Jumps: the globals and the stack aren't code, and a number is no capability; the thread's return sentry is taken
@@ -188,6 +189,9 @@ BYTES = image(TINY)
 assert len(BYTES) == 412
 case("image", ["image", "{}"], json.dumps(TINY), BYTES)
 case("runimage", ["runimage", "{}", "100"], BYTES, lines(report(TINY), STORE, ended("finished", 6, devices=1)))
+for name, limit, kind in ("before", 5, "limit"), ("at", 6, "finished"):
+    case(f"runimage_limit_{name}_the_end", ["runimage", "{}", str(limit)], BYTES,
+         lines(report(TINY), STORE, ended(kind, limit, devices=1)))
 
 # ---- images in the last version of the format
 

@@ -156,9 +156,10 @@ row("wait_that_differs", [
                 served("wait"), PORT, shows("a0", "a1"), BACK)],
     [thread("a.main")], 100, stored(10, 0, 0, 4, -21), stored(11, 0, 0, 4, 0), ended("finished", 14, devices=2))
 
-# Nobody is there to wake it.
-row("idle", [compartment("app", [service("wait")], ["main"], "main: cmove ca0, cgp", "li a1, 0", served("wait"))],
-    [thread("app.main")], 100, ended("idle", 6), devices=[])
+# Nobody is there to wake it, also where LIMIT ends with the step that waits.
+for name, limit, kind in ("idle", 100, "idle"), ("idle_at_the_limit", 6, "idle"), ("idle_after_the_limit", 5, "limit"):
+    row(name, [compartment("app", [service("wait")], ["main"], "main: cmove ca0, cgp", "li a1, 0", served("wait"))],
+        [thread("app.main")], limit, ended(kind, min(limit, 6)), devices=[])
 
 # A store alone wakes nobody; the other thread has ended.
 waiting("stored_and_not_woken", ["wakes: li a0, 1", "csw a0, 0(cgp)", "cret"],
