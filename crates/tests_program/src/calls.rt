@@ -1,7 +1,7 @@
 //! One call of the program over these files, and what came of it.
 
 use crate::outside::{OneLimit, Pieces};
-use crate::samples;
+use crate::{events, samples};
 use ct_port::{FolderMem, NoMemory, SinkMem};
 use ct_top::{Status, capfw};
 use std::alloc::{AllocError, Global};
@@ -26,7 +26,7 @@ pub type Folder = OneLimit<FolderMem>;
 pub type Sink = Pieces<SinkMem>;
 
 /// The samples, and texts that break a rule.
-const FILES: [(&str, &str); 15] = [
+const FILES: [(&str, &str); 18] = [
     ("tiny.json", samples::TINY),
     ("board.json", samples::BOARD),
     ("app.s", samples::APP),
@@ -34,6 +34,9 @@ const FILES: [(&str, &str); 15] = [
     ("hex.s", samples::HEX),
     ("reads.json", samples::READS),
     ("reads.s", samples::READS_SOURCE),
+    ("twice.json", samples::TWICE),
+    ("off.json", events::OFF),
+    ("off.s", events::OFF_SOURCE),
     ("frob.s", "main:\nfrob a0\n"),
     ("frob.json", samples::FROB),
     ("small.json", samples::SMALL),
@@ -45,10 +48,11 @@ const FILES: [(&str, &str); 15] = [
 ];
 
 /// Policies that the board breaks.
-const BROKEN: [(&str, &str); 3] = [
+const BROKEN: [(&str, &str); 4] = [
     ("device.policy", "device uart0 only app\n"),
     ("total.policy", "quota total 63\n"),
     ("apart.policy", "apart hex app\n"),
+    ("two.policy", "device uart0 only app\nquota total 63\n"),
 ];
 
 fn add_texts(
@@ -123,6 +127,15 @@ pub fn call(alloc: Global, words: &str, fault: Fault) -> Result<Came, NoMemory> 
         sink,
         reads,
     })
+}
+
+/// What a call wrote, with nothing after a write that failed, and its status.
+pub fn wrote(rt: &impl Abort, came: &Came, code: u8, text: &str, number: u64) {
+    let status = came.status.code();
+    assert!(rt; status == code, "{number}: status {status}");
+    let same = came.sink.inner.bytes() == text.as_bytes();
+    assert!(rt; same, "{number}: output");
+    assert!(rt; came.sink.later == 0, "{number}: later writes");
 }
 
 /// A call that ends with this number and this output.

@@ -133,6 +133,15 @@ pub const READS: &str = "\
 
 pub const READS_SOURCE: &str = "main:\ncimport ct0, uart\nclw a0, 0(ct0)\ncret\n";
 
+/// Two compartments with one source.
+pub const TWICE: &str = "\
+    {\"firmware\":\"tiny\",\"ram\":{\"base\":2147483648,\"size\":4096},\"devices\":[{\"name\":\"uar\
+    t0\",\"kind\":\"uart\",\"base\":268435456}],\"compartments\":[{\"name\":\"app\",\"code\":{\"fil\
+    e\":\"reads.s\"},\"imports\":[{\"as\":\"uart\",\"device\":\"uart0\",\"rights\":\"RW\"}],\"expor\
+    ts\":[{\"name\":\"main\",\"at\":\"main\"}]},{\"name\":\"two\",\"code\":{\"file\":\"reads.s\"},\
+    \"imports\":[{\"as\":\"uart\",\"device\":\"uart0\",\"rights\":\"R\"}]}],\"threads\":[{\"name\":\
+    \"t\",\"entry\":\"app.main\",\"priority\":1,\"stack\":256,\"frames\":2}]}";
+
 /// The smallest firmware, with a source that breaks a rule in its second line.
 pub const FROB: &str = "\
     {\"firmware\":\"tiny\",\"ram\":{\"base\":2147483648,\"size\":4096},\"devices\":[{\"name\":\"uart\
