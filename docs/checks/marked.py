@@ -1,6 +1,9 @@
 """The marks: by crate, and by what a law or call is, the names of those that no page claims (marks.py says what each
 mark means). `docs/check.py --contracts CRATE` shows them beside what each says."""
 MARKED = {
+    "ct_entry": {
+        "inner": "DeviceKind::number DeviceKind::numbered DeviceKind::name DeviceKind::takes_bytes",
+    },
     "ct_bits": {
         "inner": "field sign extended extended_wide align_up",
     },
