@@ -3,8 +3,10 @@
 //! over every reader and writer that tells its bytes.
 
 ghost use Rattle.std.specs.Prelude.{ℕ, ◌≡◌, ◌≢◌, ◌+◌, ◌≤◌, ◌<◌, ◌^◌, length, take, drop, List, [], MatchResult, IfOk, IfErr, IfSome, Some, None};
+ghost use Rattle.std.specs.IoError.{error_kind};
 ghost use Rattle.def_port.specs.Bytes.{Appends, AppendsPart};
 ghost use Rattle.def_port.specs.Forms.{disk_view};
+ghost use Rattle.ct_port.specs.Writing.{Took};
 
 use crate::lists::{Reading, note};
 use crate::{Folder, Sink};
@@ -81,7 +83,10 @@ fn read_file<R: Files>(
 }
 
 /// Want of memory, or any other failure of the system.
-fn cause_of(error: &io::Error) -> ReadError {
+fn cause_of(error: &io::Error) -> ReadError
+    ensures memory { error_kind error.now ≡ ErrorKind.OutOfMemory → result ≡ ReadError.NoMemory }
+    ensures other { error_kind error.now ≢ ErrorKind.OutOfMemory → result ≡ ReadError.Failed }
+{
     if error.kind() == ErrorKind::OutOfMemory {
         ReadError::NoMemory
     } else {
@@ -170,9 +175,8 @@ fn write_whole<W: Write>(writer: &mut W, piece: &[u8]) -> Result<(), WriteFailed
     Err(WriteFailed)
 }
 
-/// One write, and how many bytes it took: none where a signal interrupted it, so that it is tried
-/// again. A write that takes nothing of its own accord is a fault.
-#[tactic(auto, using(crate::proofs::Writers::grows, crate::proofs::Writers::stays))]
+/// One write, and how many bytes it took.
+#[tactic(auto, using(crate::proofs::Writers::taken_bytes, crate::proofs::Writers::taken_bound))]
 fn write_once<W: Write>(writer: &mut W, rest: &[u8]) -> Result<usize, WriteFailed>
     requires { length rest.now ≢ 0 }
     ensures bound { IfOk result (λ n. n ≤ length rest.now) }
@@ -180,9 +184,17 @@ fn write_once<W: Write>(writer: &mut W, rest: &[u8]) -> Result<usize, WriteFaile
         (λ n. Appends (W.contents writer.old) (W.contents writer.new) (take n rest.now))
         (λ _. Appends (W.contents writer.old) (W.contents writer.new) []) }
 {
-    match writer.write(rest) {
+    taken(writer.write(rest))
+}
+
+/// What a write came to: how many bytes it took, or that it failed. A write that takes nothing of its
+/// own accord is a fault; one that a signal interrupted took nothing, and is tried again.
+fn taken(written: io::Result<usize>) -> Result<usize, WriteFailed>
+    ensures { Took (λ e. error_kind e ≡ ErrorKind.Interrupted) written result }
+{
+    match written {
         Ok(0) => Err(WriteFailed),
-        Ok(taken) => Ok(taken),
+        Ok(count) => Ok(count),
         Err(error) if error.kind() == ErrorKind::Interrupted => Ok(0),
         Err(_) => Err(WriteFailed),
     }
