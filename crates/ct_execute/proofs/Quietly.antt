@@ -1,24 +1,26 @@
 -- What is carried out quietly: what a reading says, a fetch that passes, and branches and jumps whose target is whole.
-use Rattle.std.proofs.Common.{ℕ, zero, ◌≡◌, ◌%◌, ◌==◌, ◌&&◌, Bool, true, false, Option, Some, None, IfSome, is_none, Ok, refl, sym, ap, ◌∙◌, subst, if◌then◌else◌}
-use Rattle.std.proofs.lemmas.Bool.{and_parts}
+use Rattle.std.proofs.Common.{ℕ, ◌≡◌, ◌%◌, ◌==◌, ◌&&◌, Bool, true, false, Option, Some, None, IfSome, is_none, unwrap_or, Result, Ok, Err, not, refl, sym, ap, ◌∙◌, subst, if◌then◌else◌}
+use Rattle.std.proofs.lemmas.Bool.{and_parts, eqb-true}
 use Rattle.ct_entry.specs.Listed.{Listed}
 use Rattle.def_words.specs.declared.Cap.{Cap}
 use Rattle.def_words.specs.declared.Posture.{Posture}
 use Rattle.def_words.specs.declared.Trap.{Trap}
 use Rattle.def_words.specs.Authority.{cap_address}
 use Rattle.def_words.specs.Capability.{integer, with_address}
-use Rattle.def_words.specs.Jumped.{linked}
+use Rattle.def_words.specs.Jumped.{linked, opened}
+use Rattle.def_words.specs.Seals.{cap_seal, posture_through}
+use Rattle.def_profile.specs.declared.seals.TheConstants.{SENTRY_DISABLE}
 use Rattle.def_instr.specs.declared.Instr.{Instr}
-use Rattle.def_instr.specs.declared.Instr.TheVariants.{Jal, Beq, Bne, Blt, Bge, Bltu, Bgeu}
+use Rattle.def_instr.specs.declared.Instr.TheVariants.{Jal, CJalr, Beq, Bne, Blt, Bge, Bltu, Bgeu}
 use Rattle.def_machine.specs.State.{Thread, register}
 use Rattle.def_step.specs.declared.Class.TheVariants as kinds
 use Rattle.def_step.specs.declared.Next.{Next}
 use Rattle.def_step.specs.declared.Operands.{Operands}
-use Rattle.def_step.specs.Accesses.{access_of}
+use Rattle.def_step.specs.Accesses.{access_of, unless}
 use Rattle.def_step.specs.Checks.{first_failed}
 use Rattle.def_step.specs.Devices.{DeviceStates}
 use Rattle.def_step.specs.Instructions.{fetch_checks, next_at, next_word}
-use Rattle.def_step.specs.Jumps.{flow_result, is_taken, target_at, jumped_to, branched}
+use Rattle.def_step.specs.Jumps.{flow_result, is_taken, target_at, jumped_to, branched, register_jump_checks, register_jumped, register_target, Flowed}
 use Rattle.def_step.specs.Operands.{class_of, operands_of}
 use Rattle.ct_decode.specs.declared.reading.Reading.{Reading}
 use Rattle.ct_decode.specs.Reading.{reading_by}
@@ -26,7 +28,7 @@ use Rattle.ct_threads.specs.Steps.{is_word_of_ram, finds_word}
 use Rattle.ct_engine.specs.Seen.{Seen, thread, after_jump}
 use Rattle.ct_engine.specs.Steps.{space_in, next_in}
 use Rattle.ct_execute.specs.Deciding.{decision, decide_fetched, decide_next, named_in, WentQuietly}
-use Rattle.ct_execute.specs.Quiet.{offset_of, address_in, takes, plain_jump, jump_by, jump_offset, goes_at, goes_quietly, Says, CarriesQuietly}
+use Rattle.ct_execute.specs.Quiet.{offset_of, address_in, takes, jal_offset, jump_by, jump_offset, is_posture, keeps_posture, jumps_quietly, jumps_through, jumps_whole, linked_to, LeadsTo, goes_at, goes_quietly, Says, CarriesQuietly}
 
 -- ---- what a reading says
 
@@ -113,8 +115,8 @@ branch_goes true pcc posture offset n is whole =
 branch_goes false pcc posture offset n is whole =
     subst (λ (m : ℕ). branched false pcc posture offset ≡ Ok (record { link = None; pcc = with_address pcc (target_at pcc m); posture = posture })) (sym is) refl
 
-abbrev Turned : Seen → ℕ → ℕ → Seen → Type 0
-Turned s t n new = new ≡ after_jump s t (with_address (thread s t).pcc (target_at (thread s t).pcc n)) (thread s t).posture 0 (integer 0)
+abbrev pub Turned : Seen → ℕ → Instr → ℕ → Seen → Type 0
+Turned s t i n new = new ≡ linked_to s t (target_at (thread s t).pcc n) (operands_of i).to
 
 -- what a branch comes to is by its offset
 branch_flows : (i : Instr) (offset : ℕ) (x y pcc : Cap) (posture : Posture) (named : ℕ) → offset_of i ≡ Some offset
@@ -140,7 +142,7 @@ branch_class i offset e = absurd (cc)
 
 branch_by : (s : Seen) (t : ℕ) (i : Instr) (offset n : ℕ) (new : Seen) → offset_of i ≡ Some offset
     → n ≡ (if takes (thread s t) i then offset else 4)
-    → (target_at (thread s t).pcc n % 4 == 0) ≡ true → Turned s t n new → CarriesQuietly s t i new
+    → (target_at (thread s t).pcc n % 4 == 0) ≡ true → Turned s t i n new → CarriesQuietly s t i new
 branch_by s t i offset n new e by whole is listed k time =
     let w = thread s t in
     let named : ℕ = named_in listed (register w (operands_of i).first) in
@@ -150,7 +152,7 @@ branch_by s t i offset n new e by whole is listed k time =
       kind.1,
       branch_flows i offset (register w (operands_of i).first) (register w (operands_of i).second) w.pcc w.posture named e,
       branch_goes (takes w i) w.pcc w.posture offset n by whole,
-    ) (is, refl, refl, refl)
+    ) (subst (λ k. new ≡ linked_to s t (target_at w.pcc n) k) kind.1 is, refl, refl, refl)
 
 -- x and y are the addresses in the registers
 taken_is : (w : Thread) (i : Instr) (o : Operands) (x y : ℕ) (taken : Bool) → o ≡ operands_of i → x ≡ address_in w o.first → y ≡ address_in w o.second → taken ≡ is_taken i x y
@@ -166,25 +168,116 @@ pub moved_so : (w : Thread) (i : Instr) (o : Operands) (offset n x y : ℕ) (tak
     → Some n ≡ jump_by w i (Some offset)
 moved_so w i o offset n x y taken os xs ys is by = ap Some (by ∙ ap (λ (b : Bool). if b then offset else 4) (taken_is w i o x y taken os xs ys is))
 
--- a jump that leaves no link
-plain_quiet : (s : Seen) (t : ℕ) (i : Instr) (n : ℕ) (new : Seen) → Some n ≡ plain_jump i
-    → (target_at (thread s t).pcc n % 4 == 0) ≡ true → Turned s t n new → CarriesQuietly s t i new
+jal_quiet : (s : Seen) (t : ℕ) (i : Instr) (n : ℕ) (new : Seen) → Some n ≡ jal_offset i
+    → (target_at (thread s t).pcc n % 4 == 0) ≡ true → Turned s t i n new → CarriesQuietly s t i new
 unfolding flow_result
-plain_quiet s t (Jal zero offset) n new e whole is listed k time =
+jal_quiet s t (Jal rd offset) n new e whole is listed k time =
     let w = thread s t in
     let same : n ≡ offset = cc in
     rw (whole_target w.pcc w.posture (target_at w.pcc offset) (Some (linked w.pcc w.posture)) (subst (λ (m : ℕ). (target_at w.pcc m % 4 == 0) ≡ true) same whole))
-    (subst (λ (m : ℕ). Turned s t m new) same is, refl, refl, refl)
-plain_quiet s t i n new e whole is listed k time = absurd (cc)
+    (subst (λ (m : ℕ). Turned s t (Jal rd offset) m new) same is, refl, refl, refl)
+jal_quiet s t i n new e whole is listed k time = absurd (cc)
 
 moved_quiet : (s : Seen) (t : ℕ) (i : Instr) (o : Option ℕ) (n : ℕ) (new : Seen) → offset_of i ≡ o → Some n ≡ jump_by (thread s t) i o
-    → (target_at (thread s t).pcc n % 4 == 0) ≡ true → Turned s t n new → CarriesQuietly s t i new
-moved_quiet s t i None n new e by whole is = plain_quiet s t i n new by whole is
+    → (target_at (thread s t).pcc n % 4 == 0) ≡ true → Turned s t i n new → CarriesQuietly s t i new
+moved_quiet s t i None n new e by whole is = jal_quiet s t i n new by whole is
 moved_quiet s t i (Some offset) n new e by whole is = branch_by s t i offset n new e (cc) whole is
 
 pub jump_quiet : (s new : Seen) (t : ℕ) (i : Instr) (n : ℕ) → Some n ≡ jump_offset (thread s t) i
-    → (target_at (thread s t).pcc n % 4 == 0) ≡ true
-    → new ≡ (after_jump s t (with_address (thread s t).pcc (target_at (thread s t).pcc n)) (thread s t).posture 0 (integer 0))
-    → CarriesQuietly s t i new
+    → (target_at (thread s t).pcc n % 4 == 0) ≡ true → Turned s t i n new → CarriesQuietly s t i new
 jump_quiet s new t i n by whole turned =
     moved_quiet s t i (offset_of i) n new refl by whole turned
+
+pub whole_is : (w : Thread) (i : Instr) (n : ℕ) → Some n ≡ jump_offset w i → jumps_quietly w i ≡ (target_at w.pcc n % 4 == 0)
+whole_is w (CJalr rd rs1 by) n e = absurd (cc)
+whole_is w i n e = ap (jumps_whole w.pcc) (sym e)
+
+-- ---- a jump by a register
+
+-- a sentry that disables interrupts aside, no posture is by what the target's root names
+named_alike : (p : Posture) (kind named kept : ℕ) → (kind == SENTRY_DISABLE) ≡ false → posture_through p kind named kept ≡ posture_through p kind 0 kept
+named_alike p kind named kept other = rw other refl
+
+same_off : (p q : Bool) → (if p then q else not q) ≡ true → p ≡ q
+same_off true true e = refl
+same_off true false e = absurd (cc)
+same_off false true e = absurd (cc)
+same_off false false e = refl
+
+posture_is : (p q : Posture) → is_posture p q ≡ true → p ≡ q
+posture_is p q e =
+    let both = and_parts (if p.off then q.off else not q.off) (p.source == q.source) e in
+    ap (λ (off : Bool). posture off p.source) (same_off p.off q.off both.0) ∙ ap (posture q.off) (eqb-true p.source q.source both.1)
+  where
+    posture : Bool → ℕ → Posture
+    posture off source = record { off = off; source = source }
+
+-- what the jump to x comes to where nothing is named
+abbrev Unnamed : ℕ → ℕ → Cap → ℕ → Cap → Posture → Result Flowed Trap
+Unnamed to at x n pcc before = flow_result (CJalr to at n) x x pcc before 0
+
+unnamed_is : (to at : ℕ) (x : Cap) (n : ℕ) (pcc : Cap) (before : Posture) → Unnamed to at x n pcc before ≡ register_jumped to at x n pcc before 0
+unfolding flow_result
+unnamed_is to at x n pcc before = refl
+
+-- by the checks' outcome, whether it disables interrupts, and whether the posture stays
+disabled_by : (o : Option Trap) (off still : Bool) → off ≡ true → false ≡ (is_none o && (not off && still))
+disabled_by None off still is = rw is refl
+disabled_by (Some why) off still is = refl
+
+refused_by : (o : Option Trap) (v : Flowed) (why : Trap) (stays : Bool) → Err why ≡ unless o v → false ≡ (is_none o && stays)
+refused_by None v why stays is = absurd (cc)
+refused_by (Some other) v why stays is = refl
+
+led_by : (o : Option Trap) (v f : Flowed) (off still : Bool) (before : Posture) → Ok f ≡ unless o v → off ≡ false → still ≡ is_posture f.posture before → still ≡ (is_none o && (not off && is_posture v.posture before))
+led_by None v f off still before is on so =
+    let same : f ≡ v = cc in
+    rw on (so ∙ ap (λ (w : Flowed). is_posture w.posture before) same)
+led_by (Some why) v f off still before is on so = absurd (cc)
+
+-- a sentry that disables interrupts
+pub when_disables : (to at : ℕ) (x : Cap) (n : ℕ) (before : Posture) (off : Bool) → off ≡ (cap_seal x == SENTRY_DISABLE) → off ≡ true → false ≡ jumps_through to at x n before
+when_disables to at x n before off is so =
+    disabled_by (first_failed (register_jump_checks to at x n)) (cap_seal x == SENTRY_DISABLE)
+    (is_posture (posture_through before (cap_seal x) 0 x.shadow.source) before) (sym is ∙ so)
+
+-- a check refuses it
+pub when_refused : (to at : ℕ) (x : Cap) (n : ℕ) (pcc : Cap) (before : Posture) (why : Trap) → Err why ≡ Unnamed to at x n pcc before → false ≡ jumps_through to at x n before
+when_refused to at x n pcc before why is =
+    refused_by (first_failed (register_jump_checks to at x n)) _ why (keeps_posture before (cap_seal x) x.shadow.source) (is ∙ unnamed_is to at x n pcc before)
+
+-- none does, and the posture stays or not
+pub when_led : (to at : ℕ) (x : Cap) (n : ℕ) (pcc : Cap) (before : Posture) (off still : Bool) (f : Flowed) → off ≡ (cap_seal x == SENTRY_DISABLE) → off ≡ false
+    → Ok f ≡ Unnamed to at x n pcc before → still ≡ is_posture f.posture before → still ≡ jumps_through to at x n before
+when_led to at x n pcc before off still f disables on is so =
+    led_by (first_failed (register_jump_checks to at x n)) _ f (cap_seal x == SENTRY_DISABLE) still before (is ∙ unnamed_is to at x n pcc before) (sym disables ∙ on) so
+
+-- where nothing is by what is named
+named_by : (o : Option Trap) (a b f : Flowed) → Ok f ≡ unless o a → a ≡ b → unless o b ≡ Ok f
+named_by None a b f is same = ap Ok (sym same) ∙ sym is
+named_by (Some why) a b f is same = absurd (cc)
+
+pub leads : (to at : ℕ) (x : Cap) (n : ℕ) (pcc : Cap) (before : Posture) (off : Bool) (f : Flowed) → off ≡ (cap_seal x == SENTRY_DISABLE) → off ≡ false
+    → Ok f ≡ Unnamed to at x n pcc before → is_posture f.posture before ≡ true → LeadsTo to at x n pcc before f
+leads to at x n pcc before off f disables on is still = record {
+  is = λ named. named_by (first_failed (register_jump_checks to at x n)) (went (posture_through before (cap_seal x) 0 x.shadow.source))
+      (went (posture_through before (cap_seal x) named x.shadow.source)) f (is ∙ unnamed_is to at x n pcc before)
+      (ap went (sym (named_alike before (cap_seal x) named x.shadow.source (sym disables ∙ on))));
+  keeps = posture_is f.posture before still;
+}
+  where
+    went : Posture → Flowed
+    went posture = record { link = Some (linked pcc before); pcc = with_address (opened x) (register_target x n); posture = posture }
+
+pub through_quiet : (s new : Seen) (t to at n : ℕ) (x pcc : Cap) (before : Posture) (f : Flowed) (value : Cap) → x ≡ register (thread s t) at → pcc ≡ (thread s t).pcc → before ≡ (thread s t).posture
+    → LeadsTo to at x n pcc before f → value ≡ unwrap_or f.link (integer 0)
+    → new ≡ after_jump s t f.pcc f.posture to value → CarriesQuietly s t (CJalr to at n) new
+unfolding flow_result
+through_quiet s new t to at n x pcc before f value here counter posture leads link turned listed k time =
+    let w = thread s t in
+    let named : ℕ = named_in listed (register w at) in
+    let is : register_jumped to at (register w at) n w.pcc w.posture named ≡ Ok f =
+    subst (λ (c : Cap). register_jumped to at c n w.pcc w.posture named ≡ Ok f) here
+    (subst (λ (p : Posture). register_jumped to at x n w.pcc p named ≡ Ok f) posture
+    (subst (λ (c : Cap). register_jumped to at x n c before named ≡ Ok f) counter (leads.is named))) in
+    rw is (subst (λ (v : Cap). new ≡ after_jump s t f.pcc f.posture to v) link turned, refl, refl, leads.keeps ∙ posture)

@@ -4,15 +4,16 @@ use Rattle.std.proofs.Math.ListN.{get_or, set}
 use Rattle.def_words.specs.declared.Cap.{Cap}
 use Rattle.def_words.specs.declared.Posture.{Posture}
 use Rattle.def_words.specs.Authority.{cap_address}
-use Rattle.def_words.specs.Capability.{integer, with_address}
+use Rattle.def_words.specs.Capability.{with_address}
+use Rattle.def_words.specs.Jumped.{linked}
 use Rattle.def_machine.specs.State.{Thread, nobody}
 use Rattle.def_machine.specs.Threads.{jumped}
 use Rattle.ct_threads.specs.declared.window.Window.{Window}
 use Rattle.ct_threads.specs.Windows.{Suits, IsWindow}
 use Rattle.ct_threads.proofs.Windows.{suits_moved}
-use Rattle.ct_engine.specs.Seen.{Seen, thread, after_jump, advanced, moved_to, with_granules}
+use Rattle.ct_engine.specs.Seen.{Seen, thread, after_jump, advanced, with_granules}
 use Rattle.ct_engine.specs.Steps.{HasWindow}
-use Rattle.ct_execute.specs.Quiet.{KeepsWindows}
+use Rattle.ct_execute.specs.Quiet.{linked_to, KeepsWindows}
 
 -- the thread that is set, or where there is none the one that was
 set_suits : (w : Window) (ts : List Thread) (t : ℕ) (x : Thread) → Suits w (get_or ts t nobody).pcc → Suits w x.pcc → Suits w (get_or (set ts t x) t nobody).pcc
@@ -34,6 +35,6 @@ pub stored_window : (s new : Seen) (t : ℕ) → new ≡ with_granules s new.gra
 stored_window s new t is size w has =
     subst (λ (x : Seen). HasWindow x t w) (sym is) (subst (λ n. IsWindow w (thread s t).pcc s.region.ram (8 * n)) (sym size) has)
 
-pub moved_window : (s new : Seen) (t a : ℕ) → new ≡ moved_to s t a → a < 2 ^ 32 → KeepsWindows s new t
-moved_window s new t a is small w has =
-    subst (λ (x : Seen). HasWindow x t w) (sym is) (jumped_window s t a (thread s t).posture 0 (integer 0) small w has)
+pub linked_window : (s new : Seen) (t a to : ℕ) → new ≡ linked_to s t a to → a < 2 ^ 32 → KeepsWindows s new t
+linked_window s new t a to is small w has =
+    subst (λ (x : Seen). HasWindow x t w) (sym is) (jumped_window s t a (thread s t).posture to (linked (thread s t).pcc (thread s t).posture) small w has)

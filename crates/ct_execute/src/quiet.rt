@@ -1,54 +1,60 @@
 //! One instruction that does nothing that is told, on the running thread where it stands.
 
-ghost use Rattle.std.specs.Prelude.{ℕ, ◌≡◌, ◌%◌, ◌==◌, Some, true, false};
+ghost use Rattle.std.specs.Prelude.{ℕ, ◌≡◌, ◌<◌, ◌%◌, ◌==◌, Some, IfSome, true, false, is_some};
 ghost use Rattle.ct_entry.specs.Listed.{Listed};
 ghost use Rattle.def_instr.specs.declared.Instr.{Instr};
+ghost use Rattle.def_instr.specs.declared.Instr.TheVariants.{CJalr};
+ghost use Rattle.def_profile.specs.declared.seals.TheConstants.{SENTRY_DISABLE};
 ghost use Rattle.def_step.specs.declared.Class.TheVariants as kinds;
 ghost use Rattle.def_step.specs.Devices.{DeviceStates};
 ghost use Rattle.def_step.specs.Jumps.{target_at};
 ghost use Rattle.def_step.specs.Operands.{class_of, operands_of};
+ghost use Rattle.def_words.specs.Seals.{cap_seal};
 ghost use Rattle.ct_decode.specs.Reading.{AreRegisters};
-ghost use Rattle.ct_engine.specs.Seen.{thread, moved_to};
+ghost use Rattle.ct_engine.specs.Seen.{thread};
 ghost use Rattle.ct_engine.specs.Steps.{HasWindow};
 ghost use Rattle.ct_execute.specs.Deciding.{decision, Stays, WentQuietly};
 ghost use Rattle.ct_execute.specs.Opening.{IsOpen};
-ghost use Rattle.ct_execute.specs.Quiet.{accesses_ram, goes_quietly, jump_by, jump_offset, jumps_whole, Carried, CarriesQuietly, KeepsWindows, MayCarry, Says};
+ghost use Rattle.ct_execute.specs.Quiet.{accesses_ram, goes_quietly, is_posture, jump_by, jump_offset, jumps_quietly, jumps_through, linked_to, Carried, CarriesQuietly, KeepsWindows, LeadsTo, MayCarry, Says};
 
 use ct_alu::alu;
+use ct_cap::{Live, Posture, link, turn};
 use ct_capstep::derived;
 use ct_decode::{Decoded, Reading};
 use ct_engine::Engine;
-use ct_flow::takes;
+use ct_flow::{Flow, flow, takes};
 use ct_mem::Memory;
 use ct_threads::Window;
 use def_instr::Instr;
+use def_profile::seals::SENTRY_DISABLE;
 use def_step::Class;
 
 /// What stands at the running thread's program counter is carried out where it is an instruction of integers, of
-/// capabilities, a branch, a jump by an offset that leaves no link, or a load or a store of RAM, and no check fails;
-/// else `false`, and nothing changes. `true` says that this is the written step: the thread goes on, nothing is told,
-/// and devices and posture stay as they are.
+/// capabilities, a branch, a jump, or a load or a store of RAM, no check fails, and the posture stays; else `false`,
+/// and nothing changes. `true` says that this is the written step: the thread goes on, nothing is told, and devices and
+/// posture stay as they are.
 ///
 /// So it is `true` exactly where each check of the fetch passes, a whole word of RAM past the native routines stands
-/// there, and that word is an instruction of integers or of capabilities; or a branch, taken or not, or such a jump,
-/// which leads to a multiple of 4; or a load or a store that no check refuses, and that lies in RAM. `execute` does all
-/// that this leaves.
+/// there, and that word is an instruction of integers or of capabilities; or a branch, taken or not, or a jump by an
+/// offset, with a link or without, which leads to a multiple of 4; or a jump by a register that no check refuses, that
+/// goes through no sentry that disables interrupts, and that leaves the posture that was; or a load or a store that no
+/// check refuses, and that lies in RAM. `execute` does all that this leaves.
 ///
 /// Conditions: the thread runs, nothing is hidden that it may reach, RAM begins at a multiple of 16, and the window is
-/// one of the thread's program counter capability, as it is after the step too. Where the program counter is in the
-/// window a fetch asks for the tag and for a multiple of 4 alone. Window and cache are for speed alone: by the empty
-/// window, or with each word decoded anew, the step is the same.
+/// one of the thread's program counter capability, as it is after the step too: a jump by a register makes it anew.
+/// Where the program counter is in the window a fetch asks for the tag and for a multiple of 4 alone. Window and cache
+/// are for speed alone: by the empty window, or with each word decoded anew, the step is the same.
 #[inline(always)]
 pub fn execute_quietly<M: Memory + Drop>(
     engine: &mut Engine<M>,
     t: u32,
     decoded: &mut Decoded,
-    window: Window,
+    window: &mut Window,
 ) -> bool
     requires runs { engine.old.running ≡ Some t }
     requires opened { IsOpen engine.old t }
     requires even { engine.old.region.ram % 16 ≡ 0 }
-    requires window { HasWindow engine.old t window }
+    requires window { HasWindow engine.old t window.old }
     ensures when { result
         ≡ goes_quietly (thread engine.old t) engine.old.region.ram
         engine.old.granules }
@@ -57,9 +63,9 @@ pub fn execute_quietly<M: Memory + Drop>(
         engine.new }
     ensures same { result ≡ false → engine.new ≡ engine.old }
     ensures stays { Stays engine.old engine.new }
-    ensures window { HasWindow engine.new t window }
+    ensures window { HasWindow engine.new t window.new }
 {
-    match engine.fetch(t, window) {
+    match engine.fetch(t, *window) {
         Some(word) => {
             let at = engine.address(t);
             if decoded.holds(at, word) {
@@ -78,10 +84,10 @@ fn execute_anew<M: Memory + Drop>(
     engine: &mut Engine<M>,
     t: u32,
     reading: &Reading,
-    window: Window,
+    window: &mut Window,
 ) -> bool
-    requires { MayCarry engine.old t reading.now window }
-    ensures { Carried engine.old t reading.now window result engine.new }
+    requires { MayCarry engine.old t reading.now window.old }
+    ensures { Carried engine.old t reading.now window.new result engine.new }
 {
     execute_class(engine, t, reading, window)
 }
@@ -92,23 +98,23 @@ fn execute_class<M: Memory + Drop>(
     engine: &mut Engine<M>,
     t: u32,
     reading: &Reading,
-    window: Window,
+    window: &mut Window,
 ) -> bool
-    requires { MayCarry engine.old t reading.now window }
-    ensures { Carried engine.old t reading.now window result engine.new }
+    requires { MayCarry engine.old t reading.now window.old }
+    ensures { Carried engine.old t reading.now window.new result engine.new }
 {
     match &reading.instruction {
         Some(instruction) => match reading.class {
             Class::Integer => {
                 let x = engine.address_in(t, reading.operands.first);
                 let y = engine.address_in(t, reading.operands.second);
-                engine.put_number(t, reading.operands.to, alu(*instruction, x, y), window);
+                engine.put_number(t, reading.operands.to, alu(*instruction, x, y), *window);
                 true
             }
-            Class::Jump => jump(engine, t, reading, *instruction),
-            Class::Access => access(engine, t, reading, window),
+            Class::Jump => jump(engine, t, reading, *instruction, window),
+            Class::Access => access(engine, t, reading, *window),
             Class::Capability => {
-                derive(engine, t, reading, *instruction, window);
+                derive(engine, t, reading, *instruction, *window);
                 true
             }
             _ => false,
@@ -117,34 +123,118 @@ fn execute_class<M: Memory + Drop>(
     }
 }
 
-/// A branch, taken or not, or a jump by an offset that leaves no link, where it leads to a multiple of 4; else `false`,
-/// and nothing changes.
+/// A branch, taken or not, or `jal`, where it leads to a multiple of 4; or a jump by a register, where no check refuses
+/// it and the posture stays; else `false`, and nothing changes.
 #[inline(always)]
 fn jump<M: Memory + Drop>(
     engine: &mut Engine<M>,
     t: u32,
     reading: &Reading,
     instruction: Instr,
+    window: &mut Window,
 ) -> bool
     requires runs { engine.old.running ≡ Some t }
     requires says { Says reading.now instruction }
     requires registers { AreRegisters reading.now.operands }
-    ensures when { result
-        ≡ jumps_whole (thread engine.old t).pcc
-        (jump_offset (thread engine.old t) instruction) }
+    requires class { class_of instruction ≡ kinds.Jump }
+    requires window { HasWindow engine.old t window.old }
+    ensures when { result ≡ jumps_quietly (thread engine.old t) instruction }
     ensures quiet { result ≡ true
         → CarriesQuietly engine.old t instruction engine.new }
     ensures same { result ≡ false → engine.new ≡ engine.old }
     ensures stays { Stays engine.old engine.new }
-    ensures windows { KeepsWindows engine.old engine.new t }
+    ensures window { HasWindow engine.new t window.new }
 {
-    match moved_by(engine, t, reading, instruction) {
-        Some(by) => go_by(engine, t, by),
+    match instruction {
+        Instr::CJalr { rd, rs1, immediate } => {
+            jump_through(engine, t, rd, rs1, immediate, window)
+        }
+        _ => match moved_by(engine, t, reading, instruction) {
+            Some(by) => go_by(engine, t, by, reading.operands.to),
+            None => false,
+        },
+    }
+}
+
+/// A jump by a register, where no check refuses it and the posture stays; else `false`, and nothing changes. The window
+/// is made anew, since the program counter capability is another.
+#[inline(never)]
+fn jump_through<M: Memory + Drop>(
+    engine: &mut Engine<M>,
+    t: u32,
+    rd: u32,
+    rs1: u32,
+    immediate: u32,
+    window: &mut Window,
+) -> bool
+    requires runs { engine.old.running ≡ Some t }
+    requires to { rd < 16 }
+    requires at { rs1 < 16 }
+    requires window { HasWindow engine.old t window.old }
+    ensures when { result
+        ≡ jumps_quietly (thread engine.old t) (CJalr rd rs1 immediate) }
+    ensures quiet { result ≡ true
+        → CarriesQuietly engine.old t (CJalr rd rs1 immediate) engine.new }
+    ensures same { result ≡ false → engine.new ≡ engine.old }
+    ensures stays { Stays engine.old engine.new }
+    ensures window { HasWindow engine.new t window.new }
+{
+    let x = engine.register(t, rs1);
+    match led(rd, rs1, x, immediate, engine.pcc(t), engine.posture(t)) {
+        Some(went) => {
+            let link = went.link.unwrap_or(Live::integer(0));
+            engine.jump_to(t, went.pcc, went.posture, rd, link);
+            *window = engine.window(t);
+            true
+        }
         None => false,
     }
 }
 
-/// By how much a branch moves the program counter, taken or not, or a jump by an offset that leaves no link.
+/// Where a jump to the capability x in register `at` leads, with the link in register `to`: where no check refuses it
+/// and it leaves the posture that was, whatever export x's root names; else `None`.
+#[inline(always)]
+fn led(to: u32, at: u32, x: Live, immediate: u32, pcc: Live, before: Posture) -> Option<Flow>
+    ensures when { is_some result ≡ jumps_through to at x immediate before }
+    ensures led { IfSome result (λ f. LeadsTo to at x immediate pcc before f) }
+{
+    if disables(&x) {
+        return None;
+    }
+    let jump = Instr::CJalr {
+        rd: to,
+        rs1: at,
+        immediate,
+    };
+    match flow(jump, x, x, pcc, before, 0) {
+        Ok(went) => {
+            if is_posture(went.posture, before) {
+                Some(went)
+            } else {
+                None
+            }
+        }
+        Err(_) => None,
+    }
+}
+
+/// Whether a capability is a sentry that disables interrupts.
+#[inline(always)]
+fn disables(x: &Live) -> bool
+    ensures { result ≡ (cap_seal x.now == SENTRY_DISABLE) }
+{
+    x.seal == SENTRY_DISABLE
+}
+
+/// Whether two postures are the same.
+#[inline(always)]
+fn is_posture(p: Posture, q: Posture) -> bool
+    ensures { result ≡ is_posture p q }
+{
+    p.off == q.off && p.source == q.source
+}
+
+/// By how much a branch moves the program counter, taken or not, or `jal`.
 #[inline(always)]
 fn moved_by<M: Memory + Drop>(
     engine: &Engine<M>,
@@ -164,7 +254,7 @@ fn moved_by<M: Memory + Drop>(
         | Instr::Bge { offset, .. }
         | Instr::Bltu { offset, .. }
         | Instr::Bgeu { offset, .. } => Some(branch(engine, t, reading, instruction, offset)),
-        Instr::Jal { rd: 0, offset } => Some(offset),
+        Instr::Jal { offset, .. } => Some(offset),
         _ => None,
     }
 }
@@ -188,13 +278,15 @@ fn branch<M: Memory + Drop>(
     if takes(instruction, x, y) { offset } else { 4 }
 }
 
-/// The program counter moves by an offset, where that leads to a multiple of 4; else `false`, and nothing changes.
+/// The program counter moves by an offset, where that leads to a multiple of 4, and a register gets the link, which
+/// register 0 drops; else `false`, and nothing changes.
 #[inline(always)]
-fn go_by<M: Memory + Drop>(engine: &mut Engine<M>, t: u32, by: u32) -> bool
-    requires { engine.old.running ≡ Some t }
+fn go_by<M: Memory + Drop>(engine: &mut Engine<M>, t: u32, by: u32, to: u32) -> bool
+    requires runs { engine.old.running ≡ Some t }
+    requires to { to < 16 }
     ensures whole { result ≡ (target_at (thread engine.old t).pcc by % 4 == 0) }
     ensures gone { result ≡ true → engine.new
-        ≡ moved_to engine.old t (target_at (thread engine.old t).pcc by) }
+        ≡ linked_to engine.old t (target_at (thread engine.old t).pcc by) to }
     ensures same { result ≡ false → engine.new ≡ engine.old }
     ensures windows { KeepsWindows engine.old engine.new t }
 {
@@ -202,8 +294,26 @@ fn go_by<M: Memory + Drop>(engine: &mut Engine<M>, t: u32, by: u32) -> bool
     if target % 4 != 0 {
         return false;
     }
-    engine.branch_to(t, target);
+    if to == 0 {
+        engine.branch_to(t, target);
+        return true;
+    }
+    link_to(engine, t, target, to);
     true
+}
+
+/// The running thread goes on at an address, and a register gets the link.
+#[inline(never)]
+fn link_to<M: Memory + Drop>(engine: &mut Engine<M>, t: u32, target: u32, to: u32)
+    requires runs { engine.old.running ≡ Some t }
+    requires to { to < 16 }
+    ensures { engine.new ≡ linked_to engine.old t target to }
+{
+    let mut pcc = engine.pcc(t);
+    let posture = engine.posture(t);
+    let link = link(pcc, posture);
+    turn(&mut pcc, target);
+    engine.jump_to(t, pcc, posture, to, link);
 }
 
 /// A load or a store, where its checks pass and it lies in RAM; else `false`, and nothing changes.

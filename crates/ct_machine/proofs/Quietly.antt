@@ -8,6 +8,7 @@ use Rattle.def_words.specs.declared.Posture.{Posture}
 use Rattle.def_sched.specs.declared.Status.{Status}
 use Rattle.def_sched.specs.declared.Status.TheVariants.{Ended}
 use Rattle.def_instr.specs.declared.Instr.{Instr}
+use Rattle.def_instr.specs.declared.Instr.TheVariants.{CJalr}
 use Rattle.def_memory.specs.declared.Granule.{Granule}
 use Rattle.def_machine.specs.Image.{Image}
 use Rattle.def_machine.specs.State.{State, Thread, DeviceState, Counts, thread, nobody}
@@ -36,7 +37,7 @@ use Rattle.ct_machine.specs.Parts.{state_by, IsKept, IsCounted}
 use Rattle.def_words.specs.Authority.{cap_address}
 use Rattle.def_step.specs.Operands.{class_of}
 use Rattle.ct_loadstore.specs.Shapes.{space_of}
-use Rattle.ct_execute.specs.Quiet.{goes_quietly, goes_at, goes_by, jump_by, jumps_whole, offset_of}
+use Rattle.ct_execute.specs.Quiet.{goes_quietly, goes_at, goes_by, jump_by, jumps_quietly, jumps_whole, offset_of}
 use Rattle.ct_machine.specs.Going.{silence, runner_goes, steps_quietly}
 use Rattle.ct_machine.specs.Quiet.{has_sweep, undisturbed, IsThreadWindow}
 use Rattle.ct_machine.proofs.Carried.{came}
@@ -98,11 +99,15 @@ jump_alike : (w : Thread) (s : Status) (i : Instr) (o : Option ℕ) → jump_by 
 jump_alike w s i None = refl
 jump_alike w s i (Some offset) = refl
 
+jumps_alike : (w : Thread) (s : Status) (i : Instr) → jumps_quietly (with_status w s) i ≡ jumps_quietly w i
+jumps_alike w s (CJalr rd rs1 n) = refl
+jumps_alike w s i = ap (jumps_whole w.pcc) (jump_alike w s i (offset_of i))
+
 by_alike : (w : Thread) (s : Status) (ram : ℕ) (gs : List Granule) (i : Instr) (k : Class) → goes_by k (with_status w s) ram gs i ≡ goes_by k w ram gs i
 by_alike w s ram gs i class.Integer = refl
 by_alike w s ram gs i class.Capability = refl
 by_alike w s ram gs i class.System = refl
-by_alike w s ram gs i class.Jump = ap (jumps_whole w.pcc) (jump_alike w s i (offset_of i))
+by_alike w s ram gs i class.Jump = jumps_alike w s i
 by_alike w s ram gs i class.Access = refl
 by_alike w s ram gs i class.Fence = refl
 by_alike w s ram gs i class.Call = refl

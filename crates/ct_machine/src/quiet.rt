@@ -38,11 +38,11 @@ impl<M: Memory + Drop> Parts<M> {
     /// carries its instruction out: `true`, and the step tells nothing, whatever was counted. Else `false`, and nothing
     /// changes. The window stays one of the thread.
     #[inline(always)]
-    fn thread_goes_quietly(&mut self, t: u32, window: Window) -> bool
+    fn thread_goes_quietly(&mut self, t: u32, window: &mut Window) -> bool
         requires guarded { Guarded self.old }
         requires pending { self.old.state.pending ≡ false }
         requires runs { self.old.state.running ≡ Some t }
-        requires window { IsThreadWindow self.old t window }
+        requires window { IsThreadWindow self.old t window.old }
         ensures when { result ≡ steps_quietly self.old }
         ensures is { result ≡ true → (c : Counts)
             → (one_more_step (with_counts self.new.state c), silence)
@@ -50,7 +50,7 @@ impl<M: Memory + Drop> Parts<M> {
         ensures same { result ≡ false → self.new.state ≡ self.old.state }
         ensures aside { StaysAside self.old self.new }
         ensures going { end_of self.old.state ≡ None }
-        ensures window { IsThreadWindow self.new t window }
+        ensures window { IsThreadWindow self.new t window.new }
     {
         execute_quietly(&mut self.engine, t, &mut self.decoded, window)
     }
@@ -68,7 +68,10 @@ impl<M: Memory + Drop> Parts<M> {
         ensures aside { StaysAside self.old self.new }
     {
         match self.undisturbed() {
-            Some(t) => self.thread_goes_quietly(t, Window::empty()),
+            Some(t) => {
+                let mut window = Window::empty();
+                self.thread_goes_quietly(t, &mut window)
+            }
             None => false,
         }
     }
@@ -103,18 +106,18 @@ impl<M: Memory + Drop> Parts<M> {
     /// A slice of a sweep that has no work, and a step of the running thread, where no tick is pending, exactly where
     /// that is quiet: `true`. Else `false`, and nothing changes. The window stays one of the thread.
     #[inline(always)]
-    fn round_quietly(&mut self, t: u32, window: Window) -> bool
+    fn round_quietly(&mut self, t: u32, window: &mut Window) -> bool
         requires guarded { Guarded self.old }
         requires pending { self.old.state.pending ≡ false }
         requires runs { self.old.state.running ≡ Some t }
-        requires window { IsThreadWindow self.old t window }
+        requires window { IsThreadWindow self.old t window.old }
         requires steps { self.old.state.counts.steps < MOST_STEPS }
         requires sweeps { self.old.state.counts.sweeps < MOST_STEPS }
         ensures when { result ≡ steps_quietly self.old }
         ensures went { result ≡ true → WentRound self.old self.new }
         ensures same { result ≡ false → self.new.state ≡ self.old.state }
         ensures board { self.new.board ≡ self.old.board }
-        ensures window { IsThreadWindow self.new t window }
+        ensures window { IsThreadWindow self.new t window.new }
     {
         if !self.thread_goes_quietly(t, window) {
             return false;
@@ -125,7 +128,8 @@ impl<M: Memory + Drop> Parts<M> {
     }
 
     /// Such rounds as long as the step is quiet, at most `most`: how many. A quiet step leaves the thread running, no
-    /// tick pending and no sweep with work, so these are looked at once, and where its code lies is asked once.
+    /// tick pending and no sweep with work, so these are looked at once, and where its code lies is asked once, and again
+    /// where a jump by a register leads elsewhere.
     #[inline(always)]
     fn run_thread_quietly(&mut self, t: u32, most: u32) -> u32
         requires guarded { Guarded self.old }
@@ -139,9 +143,9 @@ impl<M: Memory + Drop> Parts<M> {
         ensures stops { result < most → goes_on_quietly self.new ≡ false }
         ensures guarded { Guarded self.new }
     {
-        let window = self.window(t);
+        let mut window = self.window(t);
         for made in 0..most {
-            if !self.round_quietly(t, window) {
+            if !self.round_quietly(t, &mut window) {
                 return made;
             }
         }

@@ -8,7 +8,7 @@ returns-in-Integer g c = record {
   quiet = search rules;
   same = search rules;
   stays = search rules;
-  window = advanced_window c.args.engine.now c.put_number.new.self c.args.t _ _ c.put_number.ensures c.args.window c.requires.window;
+  window = advanced_window c.args.engine.now c.put_number.new.self c.args.t _ _ c.put_number.ensures c.args.window.now c.requires.window;
 }
 
 pub returns-in-Jump : goal.returns-in-Jump
@@ -17,5 +17,5 @@ returns-in-Jump g c = record {
   quiet = search rules;
   same = search rules;
   stays = search rules;
-  window = c.jump.ensures.windows c.args.window c.requires.window;
+  window = c.jump.ensures.window;
 }

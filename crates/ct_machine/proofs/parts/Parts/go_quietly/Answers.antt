@@ -15,7 +15,7 @@ thread_goes_quietly-requires-clause-runs g c = (undisturbed_parts c.args.self.no
 pub thread_goes_quietly-requires-clause-window : goal.thread_goes_quietly-requires-clause-window
 thread_goes_quietly-requires-clause-window g c =
     let m = c.args.self.now in
-    subst (λ (w : Window). IsThreadWindow m c.in-Some.t w) (sym c.empty.ensures) (empty_is (thread m.state c.in-Some.t).pcc m.board.image.ram (8 * length m.state.granules))
+    subst (λ (w : Window). IsThreadWindow m c.in-Some.t w) (sym c.empty-window.ensures) (empty_is (thread m.state c.in-Some.t).pcc m.board.image.ram (8 * length m.state.granules))
 
 pub returns-in-None-clause-when : goal.returns-in-None-clause-when
 returns-in-None-clause-when g c = disturbed_loud c.args.self.now c.in-None.ensures

@@ -21,5 +21,5 @@ returns-clause-went g c told =
 
 pub returns-clause-window : goal.returns-clause-window
 returns-clause-window g c =
-    window_counted c.count_sweep.new.self c.count_step.new.self c.args.t c.args.window _ c.count_step.ensures.board c.count_step.ensures.state
-    (window_counted c.thread_goes_quietly.new.self c.count_sweep.new.self c.args.t c.args.window _ c.count_sweep.ensures.board c.count_sweep.ensures.state c.thread_goes_quietly.ensures.window)
+    window_counted c.count_sweep.new.self c.count_step.new.self c.args.t c.thread_goes_quietly.new.window _ c.count_step.ensures.board c.count_step.ensures.state
+    (window_counted c.thread_goes_quietly.new.self c.count_sweep.new.self c.args.t c.thread_goes_quietly.new.window _ c.count_sweep.ensures.board c.count_sweep.ensures.state c.thread_goes_quietly.ensures.window)

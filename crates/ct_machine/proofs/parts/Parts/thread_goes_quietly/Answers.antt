@@ -30,8 +30,8 @@ execute_quietly-requires-clause-opened g c =
 pub execute_quietly-requires-clause-window : goal.execute_quietly-requires-clause-window
 execute_quietly-requires-clause-window g c =
     let i = c.self.inside in
-    window_in i.plan i.engine i.sched i.bus i.pending i.time i.counts c.args.t c.args.window c.self.invariant.0
-    (subst (λ (m : MachineRow). IsThreadWindow m c.args.t c.args.window) (sym c.self.view_is) c.requires.window)
+    window_in i.plan i.engine i.sched i.bus i.pending i.time i.counts c.args.t c.args.window.now c.self.invariant.0
+    (subst (λ (m : MachineRow). IsThreadWindow m c.args.t c.args.window.now) (sym c.self.view_is) c.requires.window)
 
 pub invariant_of-self : goal.invariant_of-self
 invariant_of-self g c =
@@ -80,4 +80,4 @@ returns-clause-window g c =
     let i = c.self.inside in
     let kept = kept_after i.plan i.engine c.execute_quietly.new.engine i.sched i.bus i.pending i.time i.counts c.args.t c.self.invariant.0 c.self.invariant.1 (runs_now _ c.args.self.now c.args.t c.self.view_is c.requires.runs)
     c.execute_quietly.ensures.stays c.execute_quietly.result (λ told. c.execute_quietly.ensures.quiet told i.plan.entries i.bus i.time) c.execute_quietly.ensures.same in
-    window_out i.plan c.execute_quietly.new.engine i.sched i.bus i.pending i.time i.counts c.args.t c.args.window kept.0 c.execute_quietly.ensures.window
+    window_out i.plan c.execute_quietly.new.engine i.sched i.bus i.pending i.time i.counts c.args.t c.execute_quietly.new.window kept.0 c.execute_quietly.ensures.window
