@@ -27,6 +27,15 @@ main:
     j main
 """
 
+SLEEPS = """\
+# Sleeps a million ticks, again and again.
+main:
+    lui a0, 244
+    cimport ct2, sleep
+    cjalr cra, ct2
+    j main
+"""
+
 NESTS = """\
 # Calls itself so deep and comes back, again and again: twelve steps a call, the return among them, at any depth.
 main:
@@ -210,6 +219,14 @@ def threads(program, steps):
         row(str(count), f"{step:.1f}", f"{8 * step:.0f}")
 
 
+def sleepers(program, steps):
+    table("threads that sleep", "ns a step")
+    for count in [1, 4, 16, 64]:
+        firmware = described(64 * KIB, threads=count, imports=[{"as": "sleep", "service": "sleep"}])
+        step, _, _ = measured(f"sleepers {count}", program, steps, firmware, SLEEPS)
+        row(str(count), f"{step:.1f}")
+
+
 def nested(depth, told, program, steps, **more):
     """Nanoseconds a step of calls so deep."""
     def counts(limit):
@@ -269,7 +286,7 @@ def ram(program, steps):
 
 def main():
     steps, program = int(sys.argv[1]), sys.argv[2]
-    for number, quantity in enumerate([threads, frames, stacks, heap, sweep, ram]):
+    for number, quantity in enumerate([threads, sleepers, frames, stacks, heap, sweep, ram]):
         if number > 0:
             print()
         quantity(program, steps)

@@ -1,6 +1,7 @@
 #!/bin/bash
-# How the cost of a run grows, one quantity changed at a time: threads, frames (calls nested so deep), the stack that a
-# call hands on, live objects of the heap, the rate of the sweep, RAM. Each firmware is written into a temporary folder.
+# How the cost of a run grows, one quantity changed at a time: threads that yield, threads that sleep, frames (calls
+# nested so deep), the stack that a call hands on, live objects of the heap, the rate of the sweep, RAM. Each firmware is
+# written into a temporary folder.
 # The tables, in Markdown, have processor time, the best of three runs without what a shorter run takes: one step, or
 # the steps that fill the heap.
 # A run that ends otherwise than it ought to stops the script with a message.

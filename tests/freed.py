@@ -47,6 +47,22 @@ slices("eight_slices", 8, True)
 slices("seven_slices_of_73", 7, False, version=2, sweep=73)
 slices("seven_slices_of_74", 7, True, version=2, sweep=74)
 
+# The thread sleeps from step 22 on. The sweep goes on and passes the last of its 64 slices before step 81, in which the
+# thread wakes after two ticks; after one it asks too early.
+def slept(name, ticks, wakes, made):
+    row(name, [compartment("a", [UART, *HEAP, service("sleep")], ["main"], "main: cmove cs0, cra", PORT,
+                           allocates(1800), "cmove ca1, ca0", frees(), f"li a0, {ticks}", served("sleep"),
+                           allocates(1800), SHOW, BACK, **ROOM)], [thread("a.main")],
+        200, allocated(10, 0, 0, 8, 1, 0x80000308, 1800, 1808), freed(17, 0, 0, 8, 1, 0x80000308, 1800, 0),
+        *([allocated(wakes + 6, 0, 0, 8, 2, 0x80000308, 1800, 1808)] if made else []),
+        stored(wakes + 7, 0, 0, 4, 0x80000308 if made else -5),
+        ended("finished", wakes + 10, ticks=ticks, devices=1, allocations=1 + made, frees=1),
+        ram=SMALL, version=2, sweep=8, quantum=40)
+
+
+slept("slices_in_a_sleep", 2, 81, True)
+slept("too_few_slices_in_a_sleep", 1, 41, False)
+
 # An object is freed in step 26, and in step 33, while the sweep for it runs, another one, of more than half of the
 # heap. That waits for the next sweep, which begins before step 35 and ends before step 42.
 for nops, made in ((1, False), (2, True)):

@@ -8,7 +8,8 @@ how many wait. A byte comes before its step: a load in that step finds it, and o
 """
 import json
 
-from cases import case, compartment, ended, image, lines, modelled, report, sample, source, stored_file, thread
+from cases import (case, compartment, ended, image, lines, modelled, report, sample, served, service, source,
+                   stored_file, thread)
 
 TINY = sample("tiny")
 UART = {"name": "uart0", "kind": "uart", "base": 0x10000000}
@@ -16,9 +17,10 @@ TIMER = {"name": "clock", "kind": "timer", "base": 0x10000010}
 PINS = {"name": "pins", "kind": "gpio", "base": 0x10000020}
 
 
-def firmware(name, text, devices, **members):
-    """One compartment with every device, whose code is these lines after the slots of the devices."""
-    row = compartment("app", [{"as": d["name"], "device": d["name"], "rights": "RW"} for d in devices], ["main"], *text)
+def firmware(name, text, devices, services=(), **members):
+    """One compartment with every device and these services, whose code is these lines after the slots of both."""
+    imports = [{"as": d["name"], "device": d["name"], "rights": "RW"} for d in devices]
+    row = compartment("app", [*imports, *map(service, services)], ["main"], *text)
     row["code"] = source(f"code_{name}.s", row["code"]["lines"])
     return dict({"firmware": name, "ram": {"base": 0x80000000, "size": 4096}, "devices": devices, "compartments": [row],
                  "threads": [thread("app.main")]}, **members)
@@ -89,6 +91,11 @@ run("three_devices", ["main: cimport ct0, uart0", "clc ca0, 0(ct0)", "clbu a0, 0
 # With a tick before every step from the second on bytes still come once.
 run("with_ticks", loads(2), [UART], 100, "2 uart0 1\n3 uart0 2\n", loaded(3, 0x10000000, 1), loaded(4, 0x10000000, 2),
     ended("finished", 6, ticks=5, devices=2), quantum=1)
+# Both bytes come while the only thread sleeps, one in each of its two ticks.
+run("inputs_in_a_sleep", ["main: cmove cs0, cra", "li a0, 2", *served("sleep"), "cimport ct0, uart0", "clw a0, 4(ct0)",
+                          "clw a0, 0(ct0)", "cmove cra, cs0", "cret"], [UART], 100, "8 uart0 65\n15 uart0 66\n",
+    loaded(23, 0x10000004, 2), loaded(24, 0x10000000, 65), ended("finished", 27, ticks=2, devices=2), quantum=10,
+    services=["sleep"])
 
 
 # ---- texts that are no script

@@ -154,7 +154,7 @@ MARKED = {
         "inner": "record_at write_record fresh answer",
     },
     "ct_sched": {
-        "inner": "Sched::new Sched::end Sched::status Sched::going",
+        "inner": "Sched::new Sched::end Sched::status Sched::going Sched::none_is_ready",
     },
     "ct_threads": {
         "inner":

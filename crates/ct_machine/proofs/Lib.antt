@@ -1,5 +1,6 @@
 pub mod Calling
 pub mod Carried
+pub mod Dormant
 pub mod Granting
 pub mod Guards
 pub mod Keeping

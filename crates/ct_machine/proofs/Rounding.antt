@@ -1,5 +1,5 @@
 -- Quiet rounds one after another: what they leave is what the events leave, and each tells nothing.
-use Rattle.std.proofs.Common.{ℕ, zero, suc, ◌+◌, ◌*◌, ◌≡◌, ◌≤◌, ◌<◌, ◌&&◌, ◌||◌, inl, inr, Bool, true, false, not, cond, is_some, get_or, List, [], ◌∷◌, length, ◌++◌, Option, Some, None, refl, sym, ap, ◌∙◌, subst, arith}
+use Rattle.std.proofs.Common.{ℕ, zero, suc, ◌+◌, ◌*◌, ◌≡◌, ◌≤◌, ◌<◌, ◌&&◌, ◌||◌, inl, inr, Bool, true, false, not, cond, is_some, is_none, get_or, List, [], ◌∷◌, length, ◌++◌, Option, Some, None, refl, sym, ap, ◌∙◌, subst, arith}
 use Rattle.std.specs.List.{All}
 use Rattle.std.proofs.lemmas.Bool.{cases_order}
 use Rattle.std.proofs.lemmas.List.Elements.{All-append}
@@ -17,7 +17,7 @@ use Rattle.law_routines.proofs.Appended.{run_append, told_append}
 use Rattle.ct_threads.specs.declared.window.Window.{Window}
 use Rattle.ct_threads.specs.Windows.{IsWindow}
 use Rattle.ct_machine.specs.Going.{silence, one_more_sweep, steps_quietly}
-use Rattle.ct_machine.specs.Quiet.{has_sweep, goes_on_quietly, rounds, after_rounds, with_counts, IsThreadWindow, StaysAside, WentRound, WentRounds}
+use Rattle.ct_machine.specs.Quiet.{has_sweep, is_dormant, none_is_ready, goes_on_quietly, rounds, after_rounds, with_counts, IsThreadWindow, StaysAside, WentRound, WentRounds}
 use Rattle.ct_machine.proofs.Guards.{kept_by, same_by}
 use Rattle.ct_machine.proofs.Statuses.{and_none}
 use Rattle.ct_machine.proofs.Sweeping.{sweep_silent}
@@ -85,7 +85,7 @@ round_tells m n idle w =
     ∙ ap (λ (s : State). silence ∷ (happens m.board s Step).1 ∷ []) (idle_counts m.board m.state idle)
     ∙ ap (λ (p : State × Happened). silence ∷ p.1 ∷ []) (sym w.is)
 
-round_guarded : (m n : MachineRow) → has_sweep m.state ≡ false → WentRound m n → Guarded m → Guarded n
+pub round_guarded : (m n : MachineRow) → has_sweep m.state ≡ false → WentRound m n → Guarded m → Guarded n
 round_guarded m n idle w g =
     let mid : MachineRow = record { board = m.board; state = one_more_sweep m.state } in
     kept_by mid n Step (kept_by m mid Sweep g (sym (idle_counts m.board m.state idle)) refl) (ap (λ (p : State × Happened). p.0) w.is) w.board
@@ -104,7 +104,7 @@ one_more : (n : ℕ) → rounds (suc n) ≡ rounds n ++ one_round
 one_more zero = refl
 one_more (suc n) = ap (λ (es : List Event). Sweep ∷ Step ∷ es) (one_more n)
 
-same_machine : (m n : MachineRow) → m.board ≡ n.board → m.state ≡ n.state → m ≡ n
+pub same_machine : (m n : MachineRow) → m.board ≡ n.board → m.state ≡ n.state → m ≡ n
 same_machine m n board state = ap (λ (b : Platform). machine b m.state) board ∙ ap (λ (s : State). machine n.board s) state
   where
     machine : Platform → State → MachineRow
@@ -120,10 +120,9 @@ none_went m = record {
   going = λ k lt. absurd (omega (arith, lt));
 }
 
-one_more_went : (first m n : MachineRow) (made : ℕ) → WentRounds first m made → has_sweep m.state ≡ false → steps_quietly m ≡ true → WentRound m n → WentRounds first n (suc made)
-one_more_went first m n made went idle quiet w =
+pub one_more_went : (first m n : MachineRow) (made : ℕ) → WentRounds first m made → has_sweep m.state ≡ false → goes_on_quietly m ≡ true → WentRound m n → WentRounds first n (suc made)
+one_more_went first m n made went idle goes w =
     let here : m ≡ after_rounds first made = same_machine m (after_rounds first made) went.board went.state in
-    let goes : goes_on_quietly m ≡ true = rw (idle, quiet) refl in
     let last : All IsSilent (happenings_of first.board (run first.board first.state (rounds made)) one_round) =
     subst (λ (x : MachineRow). All IsSilent (happenings_of x.board x.state one_round)) here
     (subst (λ (hs : List Happened). All IsSilent hs) (sym (round_tells m n idle w)) both_silent) in
@@ -147,6 +146,22 @@ one_more_went first m n made went idle quiet w =
         | inr (inr above) ↦ absurd (omega (arith, lt, above))
       ];
     }
+
+-- ---- when
+
+quiet_goes : (m : MachineRow) → has_sweep m.state ≡ false → steps_quietly m ≡ true → goes_on_quietly m ≡ true
+quiet_goes m none quiet =
+    ap (λ (b : Bool). not b && (steps_quietly m || is_dormant m)) none ∙ ap (λ (b : Bool). b || is_dormant m) quiet
+
+pub neither_goes : (m : MachineRow) → steps_quietly m ≡ false → is_dormant m ≡ false → goes_on_quietly m ≡ false
+neither_goes m loud busy =
+    ap (λ (b : Bool). not (has_sweep m.state) && (b || is_dormant m)) loud
+    ∙ ap (λ (b : Bool). not (has_sweep m.state) && b) busy
+    ∙ and_none (not (has_sweep m.state))
+
+-- where a thread runs
+runs_busy : (m : MachineRow) (t : ℕ) → m.state.running ≡ Some t → is_dormant m ≡ false
+runs_busy m t runs = ap (λ (o : Option ℕ). is_none o && is_none (end_of m.state) && none_is_ready m) runs
 
 -- ---- the loop
 
@@ -185,7 +200,7 @@ goes_on first m n t most made r more quiet w =
     let sweeps_so = r.sweeps in
     record {
       within = omega (arith, more);
-      went = subst (λ k. WentRounds first n k) next (one_more_went first m n made r.went r.idle quiet w);
+      went = subst (λ k. WentRounds first n k) next (one_more_went first m n made r.went r.idle (quiet_goes m r.idle quiet) w);
       guarded = round_guarded m n r.idle w r.guarded;
       idle = w.sweep ∙ r.idle;
       pending = w.pending ∙ r.pending;
@@ -207,9 +222,8 @@ still_went first m n t most made r state board = record {
 pub still_guarded : (first m n : MachineRow) (t most made : ℕ) → Rounding first m t most made → n.state ≡ m.state → n.board ≡ m.board → Guarded n
 still_guarded first m n t most made r state board = same_by m n state board r.guarded
 
-pub loud_next : (m n : MachineRow) → steps_quietly m ≡ false → n.state ≡ m.state → n.board ≡ m.board → goes_on_quietly n ≡ false
-loud_next m n loud state board =
-    ap goes_on_quietly (same_machine n m board state) ∙ ap (λ (b : Bool). not (has_sweep m.state) && b) loud ∙ and_none (not (has_sweep m.state))
+pub loud_next : (m n : MachineRow) (t : ℕ) → steps_quietly m ≡ false → m.state.running ≡ Some t → n.state ≡ m.state → n.board ≡ m.board → goes_on_quietly n ≡ false
+loud_next m n t loud runs state board = ap goes_on_quietly (same_machine n m board state) ∙ neither_goes m loud (runs_busy m t runs)
 
 -- all of them
 pub all_went : (first m : MachineRow) (t most made : ℕ) → Rounding first m t most made → most ≤ made → WentRounds first m most

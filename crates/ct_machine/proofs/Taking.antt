@@ -13,7 +13,7 @@ use Rattle.def_machine.specs.Image.{Image}
 use Rattle.ct_entry.specs.declared.acts.Happened.{Happened}
 use Rattle.def_confined.specs.Holding.{EndsFit}
 use Rattle.def_machine.specs.State.{State, Thread, Frame, DeviceState, Counts, thread, nobody}
-use Rattle.def_machine.specs.Threads.{with_statuses, picked_with}
+use Rattle.def_machine.specs.Threads.{with_statuses, statuses_of, picked_with}
 use Rattle.def_machine.specs.Memory.{filtered_in}
 use Rattle.def_step.specs.Instructions.{actor_of}
 use Rattle.def_machine.specs.Platform.{Platform}
@@ -133,6 +133,13 @@ pub runs_scheduled : (b : Platform) (s : State) (t : ℕ) → s.running ≡ Some
 runs_scheduled b s t runs = ap (picked_from b s) runs
 
 module _ (b : Platform) (e : Seen) (r : SchedRow) (pending : Bool) (devices : List DeviceState) (time : ℕ) (counts : Counts) where
+  -- what the scheduler would pick
+  pub picked_so : IsKept b.image e r
+      → pick r.priorities r.statuses r.order ≡ pick b.image.priorities (statuses_of (state_by e r pending devices time counts).threads) r.order
+  picked_so kept =
+      ap (λ ps. pick ps r.statuses r.order) kept.priorities
+      ∙ ap (λ ss. pick b.image.priorities ss r.order) (sym (statuses_with e.threads r.statuses kept.statuses))
+
   pub picks_as : (o : Option ℕ) → IsKept b.image e r → e.running ≡ None → pick r.priorities r.statuses r.order ≡ o
       → scheduled b (state_by e r pending devices time counts) ≡ picked_as b (state_by e r pending devices time counts) o
   picks_as o kept idle is =

@@ -1,8 +1,11 @@
--- Rounds that tell nothing: slices of a sweep that has no work, each with a quiet step after it.
-use Rattle.std.specs.Prelude.{ℕ, zero, suc, ◌+◌, ◌≡◌, ◌<◌, ◌&&◌, ◌||◌, Bool, true, not, is_some, cond, List, [], ◌∷◌, All, Option, None}
+-- Rounds that tell nothing: slices of a sweep that has no work, each with a quiet step after it or with one of a
+-- dormant machine.
+use Rattle.std.specs.Prelude.{ℕ, zero, suc, ◌+◌, ◌≡◌, ◌<◌, ◌&&◌, ◌||◌, Bool, true, not, is_some, is_none, cond, List, [], ◌∷◌, All, Option, None}
 use Rattle.def_machine.specs.Objects.{has_quarantined}
 use Rattle.def_machine.specs.Platform.{MachineRow}
 use Rattle.def_machine.specs.State.{State, Counts, thread}
+use Rattle.def_machine.specs.Threads.{statuses_of}
+use Rattle.def_sched.specs.Picks.{pick}
 use Rattle.def_step.specs.declared.Event.{Event}
 use Rattle.def_step.specs.declared.Event.TheVariants.{Step, Sweep}
 use Rattle.def_step.specs.Events.{run, happens, happenings_of, end_of}
@@ -18,9 +21,18 @@ has_sweep s = is_some s.front || has_quarantined s.objects
 abbrev pub undisturbed : State → Option ℕ
 undisturbed s = cond s.pending None s.running
 
--- no sweep has work, and the next step is quiet
+-- no thread is ready
+abbrev pub none_is_ready : MachineRow → Bool
+none_is_ready m =
+    is_none (pick m.board.image.priorities (statuses_of m.state.threads) m.state.picks)
+
+-- no thread runs and none is ready, but one sleeps: up to a tick a step only counts
+abbrev pub is_dormant : MachineRow → Bool
+is_dormant m = is_none m.state.running && is_none (end_of m.state) && none_is_ready m
+
+-- no sweep has work, and the next step is quiet, or the machine is dormant
 abbrev pub goes_on_quietly : MachineRow → Bool
-goes_on_quietly m = not (has_sweep m.state) && steps_quietly m
+goes_on_quietly m = not (has_sweep m.state) && (steps_quietly m || is_dormant m)
 
 -- a window of the thread, in the image's RAM
 abbrev pub IsThreadWindow : MachineRow → ℕ → Window → Type 0
@@ -39,6 +51,12 @@ after_rounds m n = record { board = m.board; state = run m.board m.state (rounds
 -- whatever was counted
 abbrev pub with_counts : State → Counts → State
 with_counts s c = record s { counts = c }
+
+-- so many sweeps and steps more
+abbrev pub with_rounds : State → ℕ → State
+with_rounds s n = record s {
+  counts = record s.counts { steps = s.counts.steps + n; sweeps = s.counts.sweeps + n };
+}
 
 -- Board and counts are as they were, and so are whether a sweep has work, whether a tick is pending, and who runs.
 pub record StaysAside (m n : MachineRow) : Type 0 where
@@ -59,8 +77,8 @@ pub record WentRound (m n : MachineRow) : Type 0 where
   pub running : n.state.running ≡ m.state.running
   pub going : end_of m.state ≡ None
 
--- So many rounds of machine m left machine n. They told nothing; each was quiet, and began where the machine had come
--- to no end.
+-- So many rounds of machine m left machine n. They told nothing; each went on quietly, and began where the machine had
+-- come to no end.
 pub record WentRounds (m n : MachineRow) (count : ℕ) : Type 0 where
   pub board : n.board ≡ m.board
   pub state : n.state ≡ run m.board m.state (rounds count)

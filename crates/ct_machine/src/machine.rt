@@ -138,9 +138,11 @@ impl<M: Memory + Drop> Machine<M> {
     }
 
     /// Rounds, each a slice of a sweep and a step, as long as no sweep has work and the step is quiet, as
-    /// `step_quietly` says of it; at most `most`, which are lawful now: how many. They leave what `advance` leaves of
-    /// these events, one after another. Each tells nothing, and before each round the machine has come to no end.
-    /// Where they are fewer than `most`, a sweep has work then, or the next step isn't quiet. This call is for speed.
+    /// `step_quietly` says of it, or the machine dormant: no thread runs and none is ready, but one sleeps; at most
+    /// `most`, which are lawful now: how many. They leave what `advance` leaves of these events, one after another.
+    /// Each tells nothing, and before each round the machine has come to no end. Where they are fewer than `most`, a
+    /// sweep has work then, or the next step isn't quiet and the machine not dormant. This call is for speed: a dormant
+    /// machine makes all rounds at once.
     pub fn run_quietly(&mut self, most: u32) -> u32
         requires steps { self.old.state.counts.steps + most ≤ MOST_STEPS }
         requires sweeps { self.old.state.counts.sweeps + most ≤ MOST_STEPS }

@@ -1,4 +1,4 @@
-//! Steps that tell nothing: one, and many with slices of a sweep that has no work.
+//! Steps that tell nothing: one, and many with slices of a sweep that has no work, of a thread or of none.
 
 ghost use Rattle.std.specs.Prelude.{◌≡◌, ◌+◌, ◌≤◌, ◌<◌, IsTrue, None, true, false};
 ghost use Rattle.def_profile.specs.declared.limits.TheConstants.{MOST_STEPS};
@@ -7,7 +7,7 @@ ghost use Rattle.def_machine.specs.State.{Counts};
 ghost use Rattle.def_step.specs.Events.{end_of, happens, is_lawful, one_more_step};
 ghost use Rattle.def_step.specs.declared.Event.TheVariants as event;
 ghost use Rattle.ct_machine.specs.Going.{silence, steps_quietly};
-ghost use Rattle.ct_machine.specs.Quiet.{goes_on_quietly, has_sweep, undisturbed, with_counts, IsThreadWindow, StaysAside, WentRound, WentRounds};
+ghost use Rattle.ct_machine.specs.Quiet.{goes_on_quietly, has_sweep, is_dormant, none_is_ready, undisturbed, with_counts, with_rounds, IsThreadWindow, StaysAside, WentRound, WentRounds};
 
 use crate::parts::Parts;
 use ct_execute::execute_quietly;
@@ -152,7 +152,52 @@ impl<M: Memory + Drop> Parts<M> {
         most
     }
 
-    /// Such rounds as long as no sweep has work and the step is quiet, at most `most`: how many.
+    /// Whether no thread is ready.
+    fn none_is_ready(&self) -> bool
+        ensures { result ≡ none_is_ready self.now }
+    {
+        self.sched.none_is_ready()
+    }
+
+    /// Whether the machine is dormant: no thread runs and none is ready, but one sleeps.
+    fn is_dormant(&self) -> bool
+        ensures { result ≡ is_dormant self.now }
+    {
+        self.engine.running().is_none() && self.ended().is_none() && self.none_is_ready()
+    }
+
+    /// So many rounds count.
+    fn count_rounds(&mut self, count: u32)
+        requires steps { self.old.state.counts.steps + count ≤ MOST_STEPS }
+        requires sweeps { self.old.state.counts.sweeps + count ≤ MOST_STEPS }
+        ensures state { self.new.state ≡ with_rounds self.old.state count }
+        ensures board { self.new.board ≡ self.old.board }
+    {
+        self.counts.steps += count;
+        self.counts.sweeps += count;
+    }
+
+    /// Where the machine is dormant all rounds that are asked for, at once: they only count, and leave it so. Else
+    /// none.
+    fn run_dormant(&mut self, most: u32) -> u32
+        requires guarded { Guarded self.old }
+        requires sweep { has_sweep self.old.state ≡ false }
+        requires loud { steps_quietly self.old ≡ false }
+        requires steps { self.old.state.counts.steps + most ≤ MOST_STEPS }
+        requires sweeps { self.old.state.counts.sweeps + most ≤ MOST_STEPS }
+        ensures most { result ≤ most }
+        ensures went { WentRounds self.old self.new result }
+        ensures stops { result < most → goes_on_quietly self.new ≡ false }
+        ensures guarded { Guarded self.new }
+    {
+        if self.is_dormant() {
+            self.count_rounds(most);
+            return most;
+        }
+        0
+    }
+
+    /// Such rounds as long as no sweep has work and the step is quiet or the machine dormant, at most `most`: how many.
     pub(crate) fn run_quietly(&mut self, most: u32) -> u32
         requires guarded { Guarded self.old }
         requires steps { self.old.state.counts.steps + most ≤ MOST_STEPS }
@@ -167,7 +212,7 @@ impl<M: Memory + Drop> Parts<M> {
         }
         match self.undisturbed() {
             Some(t) => self.run_thread_quietly(t, most),
-            None => 0,
+            None => self.run_dormant(most),
         }
     }
 }

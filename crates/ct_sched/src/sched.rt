@@ -1,6 +1,6 @@
 //! A scheduler, seen as priorities, statuses and the order of picks.
 
-ghost use Rattle.std.specs.Prelude.{ℕ, ◌≡◌, ◌↔◌, ◌<◌, ◌^◌, IsTrue, All, false, length, map, replicate, count_by, slice_set, IfOk, IfSome};
+ghost use Rattle.std.specs.Prelude.{ℕ, ◌≡◌, ◌↔◌, ◌<◌, ◌^◌, IsTrue, All, false, is_none, length, map, replicate, count_by, slice_set, IfOk, IfSome};
 ghost use Rattle.def_sched.specs.declared.Status.TheVariants.{Ready, Ended};
 ghost use Rattle.def_sched.specs.Statuses.{is_ready, status_of, goes_on, asleep, after_tick, awaiting, woken, woken_count};
 ghost use Rattle.def_sched.specs.Picks.{pick, first_order};
@@ -77,6 +77,16 @@ impl Sched {
                 Some(t)
             }
             None => None,
+        }
+    }
+
+    /// Whether none is ready: then `pick` answers `None`.
+    pub fn none_is_ready(&self) -> bool
+        ensures { result ≡ is_none (pick self.now.priorities self.now.statuses self.now.order) }
+    {
+        match foremost(&self.priorities, &self.statuses, &self.order) {
+            Some(_) => false,
+            None => true,
         }
     }
 

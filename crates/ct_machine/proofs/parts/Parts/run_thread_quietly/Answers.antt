@@ -37,7 +37,7 @@ returns-then-not-round_quietly-clause-went g c =
 
 pub returns-then-not-round_quietly-clause-stops : goal.returns-then-not-round_quietly-clause-stops
 returns-then-not-round_quietly-clause-stops g c less =
-    loud_next c.loop-made.self c.round_quietly.new.self (sym c.round_quietly.ensures.when ∙ c.if-not-round_quietly.true)
+    loud_next c.loop-made.self c.round_quietly.new.self c.args.t (sym c.round_quietly.ensures.when ∙ c.if-not-round_quietly.true) c.loop-made.invariant.0.runs
     (c.round_quietly.ensures.same c.if-not-round_quietly.true) c.round_quietly.ensures.board
 
 pub returns-then-not-round_quietly-clause-guarded : goal.returns-then-not-round_quietly-clause-guarded
