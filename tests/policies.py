@@ -54,6 +54,21 @@ judged(twice(), [
     ("quota app 63\n", "denied 1 7\ndenied 1 8"),
 ])
 
+# ---- the same, whose driver has quotas of 36 bytes and of none: entries 13 and 14; app's, of 64 bytes, is entry 7
+
+def spread():
+    firmware = board()
+    firmware["compartments"][1]["quotas"] = [{"name": "some", "limit": 36}, {"name": "none", "limit": 0}]
+    return firmware
+
+
+judged(spread(), [
+    ("quota total 100\nquota driver 36\nquota app 64\n", "allow"),
+    ("quota total 99\nquota driver 35\n", "denied 1 13\ndenied 1 14\ndenied 2 13\ndenied 2 14"),
+    ("quota total 63\nquota hex 0\nquota app 63\n", "denied 1 7\ndenied 1 13\ndenied 1 14\ndenied 3 7"),
+    ("quota total 64\nquota total 64\n", "denied 1 13\ndenied 1 14\ndenied 2 13\ndenied 2 14"),
+])
+
 # ---- the same, whose app and driver open tokens: entries 7 and 14
 
 def opening():
@@ -97,10 +112,24 @@ judged(sharing("RWC", "data"), [
     ("apart b a\napart c a\n", "denied 1 path b a"),
 ])
 
+# ---- the same, whose last compartment has an export, the last of all: entry 14, after its call, entry 13
+
+def ending():
+    firmware = sharing("RWC", "data")
+    firmware["compartments"][2]["exports"] = [{"name": "g", "at": 0, "args": 1}]
+    return firmware
+
+
+judged(ending(), [
+    ("data b.f\ndata c.g\n", "denied 2 14"),
+    ("call b.f only a b\ncall c.g only a\ncall b.f only b c\n", "denied 1 13"),
+])
+
 # ---- a firmware with a part of each kind
 
 judged(large(), [
     ("disabled only two\n", "denied 1 13\ndenied 1 22"),
+    ("disabled only two base lib two base lib\ndisabled only base two one\n", "denied 1 13\ndenied 2 22"),
     ("disabled only lib one\nquota total 63\nquota one 63\n", "denied 2 10\ndenied 3 10"),
     ("data one.main\ndata two.serve\n", "denied 2 17"),
     ("device pins only two\nshared box only two\nservice allocate only two\ncall two.serve only two\n",
