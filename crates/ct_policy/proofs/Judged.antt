@@ -119,21 +119,25 @@ on_from e r l key line start place next sum text s inside is falls a =
     moves e r l key line start (suc place) next sum text s
     (next_is e r l key place next s inside is ∙ ap (λ k. place_from (length l.firsts) k (suc place) (drop (suc place) keys)) falls) a
 
-pub next_breaks : (e : Listed) (r : Ruling) (l : LinksRow) (key line : ℕ) (start text new : List ℕ) (place next sum : ℕ) (x : Entry) (g : Gate) → Serves e r l key
-    → place < length e.rows → x ≡ get_or e.rows place x → g ≡ gate_for e.gates (place + 1) → counted r.subject x < 4294967296
-    → breaks r (place + 1) (sum + counted r.subject x) x g ≡ true → new ≡ text ++ entry_line line (place + 1) → next ≡ get_or l.nexts place 0
-    → Walks e r l key line start place sum text → Walks e r l key line start next (sum + counted r.subject x) new
-next_breaks e r l key line start text new place next sum x g s inside is gate few yes_here added far w =
-    on_from e r l key line start place next (sum + counted r.subject x) new s inside far (w.falls inside)
-    (breaks_here e r line start text new place sum x g inside is gate few yes_here added w.along)
+pub next_breaks : (e : Listed) (r : Ruling) (l : LinksRow) (key line : ℕ) (start text new : List ℕ) (place next sum more : ℕ) (x : Entry) (g : Gate) → Serves e r l key
+    → place < length e.rows → x ≡ get_or e.rows place x → g ≡ gate_for e.gates (place + 1) → more ≡ counted r.subject x → more < 4294967296
+    → breaks r (place + 1) (sum + more) x g ≡ true → new ≡ text ++ entry_line line (place + 1) → next ≡ get_or l.nexts place 0
+    → Walks e r l key line start place sum text → Walks e r l key line start next (sum + more) new
+next_breaks e r l key line start text new place next sum more x g s inside is gate counts few yes_here added far w =
+    let yes_there : breaks r (place + 1) (sum + counted r.subject x) x g ≡ true = ap (λ m. breaks r (place + 1) (sum + m) x g) (sym counts) ∙ yes_here in
+    subst (λ m. Walks e r l key line start next (sum + m) new) (sym counts)
+    (on_from e r l key line start place next (sum + counted r.subject x) new s inside far (w.falls inside)
+      (breaks_here e r line start text new place sum x g inside is gate (omega (arith, few, counts)) yes_there added w.along))
 
-pub next_holds : (e : Listed) (r : Ruling) (l : LinksRow) (key line : ℕ) (start text : List ℕ) (place next sum : ℕ) (x : Entry) (g : Gate) → Serves e r l key
-    → place < length e.rows → x ≡ get_or e.rows place x → g ≡ gate_for e.gates (place + 1) → counted r.subject x < 4294967296
-    → breaks r (place + 1) (sum + counted r.subject x) x g ≡ false → next ≡ get_or l.nexts place 0
-    → Walks e r l key line start place sum text → Walks e r l key line start next (sum + counted r.subject x) text
-next_holds e r l key line start text place next sum x g s inside is gate few no_here far w =
-    on_from e r l key line start place next (sum + counted r.subject x) text s inside far (w.falls inside)
-    (holds_here e r line start text place sum x g inside is gate few no_here w.along)
+pub next_holds : (e : Listed) (r : Ruling) (l : LinksRow) (key line : ℕ) (start text : List ℕ) (place next sum more : ℕ) (x : Entry) (g : Gate) → Serves e r l key
+    → place < length e.rows → x ≡ get_or e.rows place x → g ≡ gate_for e.gates (place + 1) → more ≡ counted r.subject x → more < 4294967296
+    → breaks r (place + 1) (sum + more) x g ≡ false → next ≡ get_or l.nexts place 0
+    → Walks e r l key line start place sum text → Walks e r l key line start next (sum + more) text
+next_holds e r l key line start text place next sum more x g s inside is gate counts few no_here far w =
+    let no_there : breaks r (place + 1) (sum + counted r.subject x) x g ≡ false = ap (λ m. breaks r (place + 1) (sum + m) x g) (sym counts) ∙ no_here in
+    subst (λ m. Walks e r l key line start next (sum + m) text) (sym counts)
+    (on_from e r l key line start place next (sum + counted r.subject x) text s inside far (w.falls inside)
+      (holds_here e r line start text place sum x g inside is gate (omega (arith, few, counts)) no_there w.along))
 
 pub arrives : (e : Listed) (r : Ruling) (l : LinksRow) (key line : ℕ) (start text : List ℕ) (place sum : ℕ) → length e.rows ≤ place
     → Walks e r l key line start place sum text → text ≡ start ++ entry_lines line (breaking e r)

@@ -124,7 +124,7 @@ unbroken e r n is number sum (x ∷ xs) low =
 
 pub below : (e : Listed) (r : Ruling) (n : ℕ) → r.subject ≡ subject.Total n → all_limits e.rows ≤ n → breaking e r ≡ []
 unfolding breaking
-below e r n is low = unbroken e r n is 1 0 e.rows low
+below e r n is low = unbroken e r n is 1 0 e.rows (omega (arith, low))
 
 -- ---- one entry
 
