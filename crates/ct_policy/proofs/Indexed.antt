@@ -1,5 +1,5 @@
 -- The index of all entries, entry by entry.
-use Rattle.std.proofs.Common.{◌≡◌, ℕ, suc, ◌+◌, ◌*◌, ◌^◌, ◌<◌, ◌≤◌, ◌++◌, List, [], ◌∷◌, refl, ap, sym, ◌∙◌, subst, arith, append_assoc, length, drop, drop-cons}
+use Rattle.std.proofs.Common.{◌≡◌, ℕ, suc, ◌+◌, ◌*◌, ◌<◌, ◌≤◌, ◌++◌, List, [], ◌∷◌, ap, sym, ◌∙◌, subst, arith, append_assoc, length, drop, drop-cons}
 use Rattle.std.proofs.Math.ListN.{get_or}
 use Rattle.std.proofs.lemmas.List.{append-nil, drop_all}
 use Rattle.ct_entry.specs.declared.rows.Entry.{Entry}
@@ -7,7 +7,7 @@ use Rattle.ct_entry.specs.declared.rows.Gate.{Gate}
 use Rattle.ct_entry.specs.Listed.{Listed}
 use Rattle.def_reach.specs.Roots.{gate_for}
 use Rattle.ct_policy.specs.Gates.{AreGates}
-use Rattle.ct_policy.specs.Keys.{IndexRow, IsIndex, all_limits, key_of, keys_from}
+use Rattle.ct_policy.specs.Keys.{IsIndex, all_limits, key_of, keys_from}
 use Rattle.ct_policy.specs.Links.{AreLinked, LinksRow}
 use Rattle.ct_policy.proofs.Linked.{even_keys}
 

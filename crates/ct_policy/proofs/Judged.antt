@@ -127,7 +127,7 @@ next_breaks e r l key line start text new place next sum more x g s inside is ga
     let yes_there : breaks r (place + 1) (sum + counted r.subject x) x g ≡ true = ap (λ m. breaks r (place + 1) (sum + m) x g) (sym counts) ∙ yes_here in
     subst (λ m. Walks e r l key line start next (sum + m) new) (sym counts)
     (on_from e r l key line start place next (sum + counted r.subject x) new s inside far (w.falls inside)
-      (breaks_here e r line start text new place sum x g inside is gate (omega (arith, few, counts)) yes_there added w.along))
+    (breaks_here e r line start text new place sum x g inside is gate (omega (arith, few, counts)) yes_there added w.along))
 
 pub next_holds : (e : Listed) (r : Ruling) (l : LinksRow) (key line : ℕ) (start text : List ℕ) (place next sum more : ℕ) (x : Entry) (g : Gate) → Serves e r l key
     → place < length e.rows → x ≡ get_or e.rows place x → g ≡ gate_for e.gates (place + 1) → more ≡ counted r.subject x → more < 4294967296
@@ -137,7 +137,7 @@ next_holds e r l key line start text place next sum more x g s inside is gate co
     let no_there : breaks r (place + 1) (sum + counted r.subject x) x g ≡ false = ap (λ m. breaks r (place + 1) (sum + m) x g) (sym counts) ∙ no_here in
     subst (λ m. Walks e r l key line start next (sum + m) text) (sym counts)
     (on_from e r l key line start place next (sum + counted r.subject x) text s inside far (w.falls inside)
-      (holds_here e r line start text place sum x g inside is gate (omega (arith, few, counts)) no_there w.along))
+    (holds_here e r line start text place sum x g inside is gate (omega (arith, few, counts)) no_there w.along))
 
 pub arrives : (e : Listed) (r : Ruling) (l : LinksRow) (key line : ℕ) (start text : List ℕ) (place sum : ℕ) → length e.rows ≤ place
     → Walks e r l key line start place sum text → text ≡ start ++ entry_lines line (breaking e r)
@@ -181,8 +181,8 @@ pub one_holds : (e : Listed) (r : Ruling) (line number place : ℕ) (text : List
 one_holds e r line number place text x g data_is is inside here gate no_here =
     let gated : gate_for e.gates number ≡ g = ap (gate_for e.gates) is ∙ sym gate in
     silent e r line text (one_is e r number place x data_is is inside here
-      ∙ ap (λ y. if breaks r number 0 x y then number ∷ [] else []) gated
-      ∙ ap (λ b. if b then number ∷ [] else []) no_here)
+    ∙ ap (λ y. if breaks r number 0 x y then number ∷ [] else []) gated
+    ∙ ap (λ b. if b then number ∷ [] else []) no_here)
 
 pub one_breaks : (e : Listed) (r : Ruling) (line number place : ℕ) (text new : List ℕ) (x : Entry) (g : Gate) → r.subject ≡ subject.Data number → number ≡ place + 1
     → place < length e.rows → x ≡ get_or e.rows place x → g ≡ gate_for e.gates (place + 1) → breaks r number 0 x g ≡ true → new ≡ text ++ entry_line line number
@@ -190,6 +190,6 @@ pub one_breaks : (e : Listed) (r : Ruling) (line number place : ℕ) (text new :
 one_breaks e r line number place text new x g data_is is inside here gate yes_here added =
     let gated : gate_for e.gates number ≡ g = ap (gate_for e.gates) is ∙ sym gate in
     let told : breaking e r ≡ number ∷ [] = one_is e r number place x data_is is inside here
-      ∙ ap (λ y. if breaks r number 0 x y then number ∷ [] else []) gated
-      ∙ ap (λ b. if b then number ∷ [] else []) yes_here in
+    ∙ ap (λ y. if breaks r number 0 x y then number ∷ [] else []) gated
+    ∙ ap (λ b. if b then number ∷ [] else []) yes_here in
     added ∙ ap (λ t. text ++ t) (sym (ap (entry_lines line) told ∙ flat_map-cons (entry_line line) number [] ∙ append-nil (entry_line line number)))

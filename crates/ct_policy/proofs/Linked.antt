@@ -1,5 +1,5 @@
 -- Entries linked by a key, from the last one to the first; and that what is passed over is idle.
-use Rattle.std.proofs.Common.{◌≡◌, ℕ, zero, suc, ◌+◌, ◌-◌, ◌*◌, ◌%◌, ◌<◌, ◌≤◌, ◌==◌, ◌++◌, List, [], ◌∷◌, inl, inr, true, false, if◌then◌else◌, cond, refl, ap, sym, ◌∙◌, subst, arith, length, length-drop, drop, drop-cons, replicate, slice_set}
+use Rattle.std.proofs.Common.{◌≡◌, ℕ, zero, suc, ◌+◌, ◌-◌, ◌%◌, ◌<◌, ◌≤◌, ◌==◌, ◌++◌, List, [], ◌∷◌, inl, inr, if◌then◌else◌, cond, refl, ap, sym, ◌∙◌, subst, arith, length, length-drop, drop, drop-cons, replicate, slice_set}
 use Rattle.std.proofs.Math.ListN.{get_or, get_or-replicate, length-replicate, length-set}
 use Rattle.std.proofs.lemmas.Grind.{get_or-set_at}
 use Rattle.std.proofs.lemmas.List.{drop_all, drop-drop, get_or-drop, get_or-set_other}
@@ -9,7 +9,7 @@ use Rattle.ct_entry.specs.Listed.{Listed}
 use Rattle.ct_entry.specs.declared.rows.Entry.{Entry}
 use Rattle.ct_entry.specs.declared.rows.Gate.{Gate}
 use Rattle.def_reach.specs.Roots.{gate_for}
-use Rattle.def_policy.specs.Breaking.{breaking_from, breaks, counted}
+use Rattle.def_policy.specs.Breaking.{breaking_from, counted}
 use Rattle.def_policy.specs.Rulings.{Ruling}
 use Rattle.ct_policy.specs.Links.{AreLinked, LinksRow, place_from}
 use Rattle.ct_policy.specs.Keys.{IsIdle, key_of, keys_from}

@@ -72,7 +72,7 @@ pub record Serves (e : Listed) (r : Ruling) (l : LinksRow) (k : ℕ) : Type 0 wh
   pub some : 0 < length l.firsts
   pub linked : AreLinked (keys_from e.gates 1 e.rows) (length l.firsts) 0 l
   pub idle : (x : Entry) (g : Gate)
-    → (key_of x g % length l.firsts ≡ k % length l.firsts → ⊥) → IsIdle r x g
+      → (key_of x g % length l.firsts ≡ k % length l.firsts → ⊥) → IsIdle r x g
 
 -- ---- all of it
 

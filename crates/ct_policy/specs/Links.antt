@@ -17,6 +17,6 @@ pub record AreLinked (keys : List ℕ) (size left : ℕ) (l : LinksRow) : Type 0
   pub whole : length l.firsts ≡ size
   pub even : length l.nexts ≡ length keys
   pub firsts_are : (k : ℕ) → k < size
-    → slice_index_or l.firsts k 0 ≡ place_from size k left (drop left keys)
+      → slice_index_or l.firsts k 0 ≡ place_from size k left (drop left keys)
   pub nexts_are : (i : ℕ) → left ≤ i → i < length keys → slice_index_or l.nexts i 0
-    ≡ place_from size (slice_index_or keys i 0 % size) (i + 1) (drop (i + 1) keys)
+      ≡ place_from size (slice_index_or keys i 0 % size) (i + 1) (drop (i + 1) keys)

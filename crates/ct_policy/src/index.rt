@@ -32,10 +32,10 @@ impl Model for Index {
     ghost Value = { IndexRow };
 
     ghost view = { λ x. record {
-        gates = x.gates.items;
-        subjects = x.subjects;
-        sorts = x.sorts;
-        total = x.total
+      gates = x.gates.items;
+      subjects = x.subjects;
+      sorts = x.sorts;
+      total = x.total;
     } };
 }
 
@@ -72,11 +72,7 @@ fn sort_of(resource: Resource) -> u32
 fn posture_number(gate: Gate) -> u32
     ensures { result ≡ (if turns_interrupts_off gate.posture then 1 else 0) }
 {
-    if is_disabled(gate.posture) {
-        1
-    } else {
-        0
-    }
+    if is_disabled(gate.posture) { 1 } else { 0 }
 }
 
 /// The key of an entry.

@@ -74,14 +74,7 @@ pub fn broken(
         let line = place as u32 + 1;
         let ruling = &rules.rows[place];
         add_ruling(
-            alloc,
-            &mut text,
-            line,
-            ruling,
-            parts,
-            entries,
-            &index,
-            graph,
+            alloc, &mut text, line, ruling, parts, entries, &index, graph,
         )?;
     }
     Ok(text)

@@ -1,9 +1,9 @@
-use Rattle.std.proofs.Common.{◌≡◌, ◌+◌, ◌<◌, ◌++◌, ◌∙◌, true, false, length, get_or, string_bytes, ap, sym, subst, arith}
+use Rattle.std.proofs.Common.{◌≡◌, ◌+◌, ◌<◌, ◌++◌, ◌∙◌, length, get_or, string_bytes, ap, sym, subst, arith}
 use Rattle.ct_entry.specs.Listed.{Listed}
 use Rattle.ct_entry.specs.declared.rows.Entry.{Entry}
 use Rattle.ct_entry.specs.declared.rows.Gate.{Gate}
 use Rattle.def_reach.specs.Roots.{gate_for, no_gate}
-use Rattle.def_policy.specs.Breaking.{breaks, counted}
+use Rattle.def_policy.specs.Breaking.{counted}
 use Rattle.def_policy.specs.Denials.{entry_line}
 use Rattle.def_policy.specs.Rulings.{Ruling}
 use Rattle.ct_policy.proofs.Judged.{Walks, has_next, is_after, next_breaks, next_holds, sets_out}
@@ -47,6 +47,6 @@ loop-place-preserved c =
           subst (λ t. Walks c.args.entries.now c.args.ruling.now c.args.links.now c.args.key c.args.line (string_bytes c.args.text.now) c.after-place.result (c.loop-place.sum + c.counted-sum.result) t)
           (ap string_bytes (sym w.text-is))
           (next_holds c.args.entries.now c.args.ruling.now c.args.links.now c.args.key c.args.line (string_bytes c.args.text.now) (string_bytes c.loop-place.text)
-            c.loop-place.place c.after-place.result c.loop-place.sum c.counted-sum.result x g c.requires.links inside is gate counts c.counted-sum.ensures.small
-            (sym c.breaks.ensures ∙ w.if-breaks.false) c.after-place.ensures c.loop-place.invariant)
+          c.loop-place.place c.after-place.result c.loop-place.sum c.counted-sum.result x g c.requires.links inside is gate counts c.counted-sum.ensures.small
+          (sym c.breaks.ensures ∙ w.if-breaks.false) c.after-place.ensures c.loop-place.invariant)
     ]
