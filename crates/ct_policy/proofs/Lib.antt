@@ -6,6 +6,9 @@ pub mod Untrusted
 pub mod Accounts
 pub mod Members
 pub mod Gates
+pub mod Linked
+pub mod Keyed
+pub mod Indexed
 pub mod Judged
 pub mod Denying
 pub mod Owned

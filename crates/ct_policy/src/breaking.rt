@@ -13,7 +13,7 @@ use def_policy::Subject;
 use std::alloc::{AllocError, Global};
 
 /// Whether an export runs with interrupts disabled.
-fn is_disabled(posture: Mode) -> bool
+pub(crate) fn is_disabled(posture: Mode) -> bool
     ensures { result ≡ roots.turns_interrupts_off posture }
 {
     match posture {

@@ -6,9 +6,12 @@ ghost use Rattle.def_boot.specs.Gates.{entries_of};
 ghost use Rattle.def_policy.specs.Breaking.{breaking};
 ghost use Rattle.def_policy.specs.Denials.{Denies, Reaching, entry_line, entry_lines, path_line};
 ghost use Rattle.ct_policy.specs.Gates.{AreGates};
+ghost use Rattle.ct_policy.specs.Keys.{IsIndex, Serves};
 ghost use Rattle.ct_policy.specs.Kept.{Adds, IsUntrusted};
 
 use crate::breaking::{breaks, counted};
+use crate::index::{Index, asked};
+use crate::links::Links;
 use crate::names::add_names;
 use crate::rulings::Ruling;
 use ct_entry::{Comp, Entries, Gate, Owner};
@@ -18,6 +21,9 @@ use def_policy::Subject;
 use def_refusals::NoMemory;
 use itoa::Buffer;
 use std::alloc::{AllocError, Global};
+
+/// The sort of the keys of quotas.
+const QUOTA_SORT: u64 = 4;
 
 /// Begins the line that denies a rule.
 fn add_denied(text: &mut String, line: u32) -> Result<(), AllocError>
@@ -41,31 +47,93 @@ fn add_entry(text: &mut String, line: u32, entry: u32) -> Result<(), AllocError>
     text.push('\n')
 }
 
-/// The lines of all entries that break a rule; `gates` has the gate of each entry.
-#[tactic(auto, using(crate::proofs::Judged::begins, crate::proofs::Judged::breaks_here, crate::proofs::Judged::holds_here, crate::proofs::Judged::ends))]
-fn add_entries(
+/// The lines of the entries that break a rule, where only those can that are linked under this key.
+#[tactic(auto, using(crate::proofs::Judged::sets_out, crate::proofs::Judged::next_breaks, crate::proofs::Judged::next_holds, crate::proofs::Judged::arrives, crate::proofs::Judged::is_after, crate::proofs::Judged::has_next))]
+fn add_linked(
     text: &mut String,
     line: u32,
     ruling: &Ruling,
     entries: &Entries,
     gates: &[Gate],
+    links: &Links,
+    key: u64,
 ) -> Result<(), AllocError>
     requires few { length entries.now.rows < 2 ^ 32 }
     requires gates { AreGates entries.now.gates (length entries.now.rows) gates.now }
+    requires links { Serves entries.now ruling.now links.now key }
     ensures { OnOk result
         (string_bytes text.new ≡ string_bytes text.old
         ++ entry_lines line (breaking entries.now ruling.now)) }
 {
     let mut sum: u64 = 0;
-    for index in 0..entries.rows.len() {
-        let entry = entries.rows[index];
+    let mut place = links.first(key);
+    while place < entries.rows.len() {
+        let entry = entries.rows[place];
         sum += counted(ruling.subject, entry);
-        let number = index as u32 + 1;
-        if breaks(ruling, number, sum, entry, gates[index]) {
+        let number = place as u32 + 1;
+        if breaks(ruling, number, sum, entry, gates[place]) {
             add_entry(text, line, number)?;
         }
+        place = links.after(place);
     }
     Ok(())
+}
+
+/// The line of the entry of this number, where it breaks a rule on what calls of it pass.
+#[tactic(auto, using(crate::proofs::Judged::one_breaks, crate::proofs::Judged::one_holds, crate::proofs::Judged::no_such))]
+fn add_one(
+    text: &mut String,
+    line: u32,
+    ruling: &Ruling,
+    entries: &Entries,
+    gates: &[Gate],
+    number: u32,
+) -> Result<(), AllocError>
+    requires gates { AreGates entries.now.gates (length entries.now.rows) gates.now }
+    requires data { ruling.now.subject ≡ Subject.Data number }
+    ensures { OnOk result
+        (string_bytes text.new ≡ string_bytes text.old
+        ++ entry_lines line (breaking entries.now ruling.now)) }
+{
+    if number == 0 || number as usize > entries.rows.len() {
+        return Ok(());
+    }
+    let place = number as usize - 1;
+    if breaks(ruling, number, 0, entries.rows[place], gates[place]) {
+        add_entry(text, line, number)?;
+    }
+    Ok(())
+}
+
+/// The lines of all entries that break a rule.
+#[tactic(auto, using(crate::proofs::Judged::serves_sum, crate::proofs::Judged::serves_key, crate::proofs::Judged::within_limits))]
+fn add_entries(
+    text: &mut String,
+    line: u32,
+    ruling: &Ruling,
+    entries: &Entries,
+    index: &Index,
+) -> Result<(), AllocError>
+    requires few { length entries.now.rows < 2 ^ 32 }
+    requires index { IsIndex entries.now index.now }
+    ensures { OnOk result
+        (string_bytes text.new ≡ string_bytes text.old
+        ++ entry_lines line (breaking entries.now ruling.now)) }
+{
+    let gates = index.gates.as_slice();
+    match ruling.subject {
+        Subject::Data(export) => add_one(text, line, ruling, entries, gates, export),
+        Subject::Total(most) => {
+            if index.total <= most {
+                return Ok(());
+            }
+            add_linked(text, line, ruling, entries, gates, &index.sorts, QUOTA_SORT)
+        }
+        subject => {
+            let key = asked(subject);
+            add_linked(text, line, ruling, entries, gates, &index.subjects, key)
+        }
+    }
 }
 
 /// The line of a path.
@@ -107,12 +175,12 @@ pub(crate) fn add_ruling(
     ruling: &Ruling,
     parts: &Parts,
     entries: &Entries,
-    gates: &[Gate],
+    index: &Index,
     graph: &Graph,
 ) -> Result<(), NoMemory>
     requires entries { entries.now ≡ entries_of parts.now }
     requires few { length entries.now.rows < 2 ^ 32 }
-    requires gates { AreGates entries.now.gates (length entries.now.rows) gates.now }
+    requires index { IsIndex entries.now index.now }
     requires graph { graph.now ≡ entries_of parts.now }
     requires untrusted { IsUntrusted ruling.now.subject }
     ensures { OnOk result
@@ -121,6 +189,6 @@ pub(crate) fn add_ruling(
 {
     match ruling.subject {
         Subject::Apart(from, to) => add_reach(alloc, text, line, parts, graph, from, to),
-        _ => Ok(add_entries(text, line, ruling, entries, gates)?),
+        _ => Ok(add_entries(text, line, ruling, entries, index)?),
     }
 }

@@ -5,7 +5,7 @@ ghost use Rattle.def_boot.specs.Gates.{entries_of};
 ghost use Rattle.def_policy.specs.Denials.{AllDenied};
 ghost use Rattle.def_policy.specs.Texts.{IsPolicyCause, ReadsAsPolicy};
 
-use crate::breaking::gates_of;
+use crate::index::index_of;
 use crate::judging::add_ruling;
 use crate::reading::read_lines;
 use crate::rulings::Ruling;
@@ -68,20 +68,13 @@ pub fn broken(
     ensures { IfOk result (λ s. AllDenied image.now 1 rules.now (string_bytes s)) }
 {
     let parts = image.parts();
-    let gates = gates_of(alloc, entries)?;
+    let index = index_of(alloc, entries)?;
     let mut text = String::new(alloc);
-    for index in 0..rules.rows.len() {
-        let line = index as u32 + 1;
-        let ruling = &rules.rows[index];
+    for place in 0..rules.rows.len() {
+        let line = place as u32 + 1;
+        let ruling = &rules.rows[place];
         add_ruling(
-            alloc,
-            &mut text,
-            line,
-            ruling,
-            parts,
-            entries,
-            gates.as_slice(),
-            graph,
+            alloc, &mut text, line, ruling, parts, entries, &index, graph,
         )?;
     }
     Ok(text)
