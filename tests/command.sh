@@ -110,7 +110,7 @@ status 130" "$(sed 's/^.*capfw: the try/the try/' <<< "$found")"
     found=$(SLOW=yes on_terminal --type ^C --keys 7 "$clone/bin/build")
     due="build: interrupted; what is proved stays, and the next bin/build goes on from there"
     expect "a build that is interrupted" "$due
-status 130" "$(sed -n 's/^.*build: int/build: int/p; $p' <<< "$found")"
+status 130" "$(sed -n 's/^.*build: int/build: int/p; ${s/^[<_]*//; p}' <<< "$found")"
     expect "a build shows life on a terminal" "[1/3] 2 left; what is proved stays, also where this is ended" \
         "$(head -n 1 <<< "$found")"
     expect "a build counts on a terminal" "_[2/3] N s, 1 left<" \
