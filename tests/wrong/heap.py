@@ -13,7 +13,7 @@ MACHINES = [
            "    (map (filtered i (quarantined i s r)) (thread s t).registers)",
            "    (thread s t).registers")),
     wrong("free_sealed", "free takes a sealed capability of an object",
-          "law_history::services_answer", "KeepsTokens.keys; IsFreed",
+          "law_history::heap_routines_answer", "KeepsTokens.keys; IsFreed",
           ("def_step/specs/Quotas.antt",
            "if c.tag && is_unsealed c then find (is_whole quota c) objects else None",
            "if c.tag then find (is_whole quota c) objects else None")),

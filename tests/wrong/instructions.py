@@ -45,7 +45,7 @@ MACHINES = [
            "  threads = slice_set s.threads t (jumped (jumped (thread s t) d.pcc d.posture 5 (plain 0)) "
            "d.pcc d.posture d.to d.value);")),
     wrong("posture_of_sentry", "a disabling return sentry leaves interrupts on",
-          "law_truly::rules_are_plain", "IsPostureThrough",
+          "law_truly::shared_rules_are_plain", "IsPostureThrough",
           ("def_words/specs/Seals.antt",
            "else if kind == RETURN_DISABLE then record { off = true; source = kept }",
            "else if kind == RETURN_DISABLE then record { off = false; source = 0 }")),

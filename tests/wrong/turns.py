@@ -35,7 +35,7 @@ MACHINES = [
            "is_ready (status_of statuses t) && list_all (gives_way priorities statuses t) order",
            "is_ready (status_of statuses t)")),
     wrong("wakes_one_more", "a wake wakes one thread too many",
-          "law_history::rests_answer", "how many wake",
+          "law_history::scheduler_routines_answer", "how many wake",
           ("def_sched/specs/Statuses.antt",
            "&& nat_lt (waiting_below address statuses t) most",
            "&& nat_le (waiting_below address statuses t) most"),

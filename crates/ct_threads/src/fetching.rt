@@ -149,7 +149,8 @@ fn fetch_anew<M: Memory>(pcc: &Live, mem: &M, ram: u32) -> Option<u32>
 
 /// The word at a program counter capability's address, hidden or not, where each check of a fetch passes, the address
 /// lies past the native routines and is a multiple of 4, and a whole word of RAM stands there; else `None`. Where the
-/// address is one of the window's next to nothing is asked. That is for speed alone: to fetch anew each time answers alike.
+/// address is one of the window's next to nothing is asked. That is for speed alone: to fetch anew each time answers
+/// alike.
 ///
 /// Conditions: RAM begins at a multiple of 16, and the window is one of the capability.
 #[inline(always)]

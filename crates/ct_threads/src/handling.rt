@@ -11,7 +11,15 @@ ghost use Rattle.def_step.specs.declared.TheConstants.{TRAP_RECORD};
 ghost use Rattle.def_step.specs.Handlers.{record_end, handler_registers};
 ghost use Rattle.ct_areas.specs.Parts.{register_in};
 ghost use Rattle.ct_switch.specs.Exports.{AreSorted, IsCallable};
-ghost use Rattle.ct_threads.specs.Handling.{RowMayHandle, is_handled_in, handed_in, recorded, handling_row, memory_by, row_by};
+ghost use Rattle.ct_threads.specs.Handling.{
+  RowMayHandle,
+  is_handled_in,
+  handed_in,
+  recorded,
+  handling_row,
+  memory_by,
+  row_by,
+};
 
 use ct_areas::Thread;
 use ct_cap::{Live, Posture, Trap, expand};

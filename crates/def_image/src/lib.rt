@@ -1,5 +1,5 @@
-//! What a linked image consists of, as plain data: its table rows, and the sizes of its parts. Parts, spelling and what an image is asked for stand in specs/;
-//! nothing here computes but what differs from version to version.
+//! What a linked image consists of, as plain data: its table rows, and the sizes of its parts. Parts, spelling and what
+//! an image is asked for stand in specs/; nothing here computes but what differs from version to version.
 #![tactic(auto)]
 
 pub mod format;

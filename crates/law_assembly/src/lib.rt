@@ -17,7 +17,7 @@ ghost use Rattle.def_assembly.specs.Decoding.{AllSay};
 ghost use Rattle.def_assembly.specs.Loading.{after, MayWrite, SetsRegister, AreApart, LeadsTo, LeadsOver, LeadsToSlot, to_slot};
 ghost use Rattle.def_assembly.specs.Written.{WritesStatement, WritesDirective};
 
-pub use source::{faults_are_least, labels_are_sums};
+pub use source::{faults_are_least, labels_are_offsets};
 
 /// The tokens after a first word are read as a statement just where the word begins that statement and the tokens are
 /// its operands, each written as its kind, with a comma between each two (`statements`). The same of directives

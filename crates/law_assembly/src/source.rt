@@ -20,7 +20,7 @@ ghost use Rattle.def_assembly.specs.Sums.{AreSizes, IsPlaced, section_at, total}
 ///
 /// Each list of statements has lengths, one list of them, and the bytes of each section are as many as the lengths of
 /// its statements add up to.
-pub fn labels_are_sums()
+pub fn labels_are_offsets()
     ensures label_some { (all : Statements) (sizes : ℕ → ℕ) (name : Name) (l : Label)
         → AreSizes all sizes → label_in all name ≡ Some l → IsPlaced all sizes name l }
     ensures label_none { (all : Statements) (name : Name) → label_in all name ≡ None

@@ -29,7 +29,7 @@ ghost use Rattle.def_words.specs.Capability.{integer};
 /// Where c10 is no quota, all routines answer -1 (`no_quota`). Else an allocation answers what it comes to, with the
 /// size in c11 (`answers`, `hands_out`); a free -6 where c11 names no whole live object of the quota (`no_object`), and
 /// else it gives one back (`freed`); and what remains is the limit less the live charges (`remaining`).
-pub fn services_answer()
+pub fn heap_routines_answer()
     ensures size { (i : Image) (s : State) (quota size : ℕ)
         → (SizeFits i size → ⊥) → allocation i s quota size ≡ Refused 4 }
     ensures limit { (i : Image) (s : State) (quota size : ℕ)
@@ -128,7 +128,7 @@ pub fn tokens_answer()
 /// of the lower number wakes where the other does (`lower`); a thread that doesn't wait for the word isn't woken
 /// (`waited`); and as many wake as are asked for, or all that wait for it where these are fewer (`counted`). The
 /// routine answers their number, and wakes them, and does nothing else (`answers`).
-pub fn rests_answer()
+pub fn scheduler_routines_answer()
     ensures yields { (s : State) (t : ℕ) → MayReturn s t → yield s t ≡ stops s t Ready }
     ensures sleep { (s : State) (t : ℕ)
         → MayReturn s t

@@ -40,7 +40,7 @@ ghost use Rattle.def_machine.specs.Rows.{RowsFit};
 ghost use Rattle.def_safety.specs.Tokened.{Tokened};
 
 pub use attenuation::events_attenuate;
-pub use causes::{rests_answer, services_answer, tokens_answer};
+pub use causes::{heap_routines_answer, scheduler_routines_answer, tokens_answer};
 pub use derived::events_derive;
 pub use handling::handlers_enter_once;
 pub use keys::{events_tokened, tokens_opened};

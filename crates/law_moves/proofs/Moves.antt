@@ -14,10 +14,6 @@ use Rattle.law_moves.proofs.Puts.{plain_kept}
 use Rattle.law_moves.proofs.Turns.{put_register_confined}
 use Rattle.law_moves.proofs.Derives.{Bound, kept_bound, derived_in, derived_kept, live_derived, pcc_live}
 
-pub untagged_confined : (i : Image) (s : State) (t n : ℕ) (c : Cap) → Confined i s → c.tag ≡ false → Confined i (put_register s t n c)
-untagged_confined i s t n c h none = put_register_confined i s t n c h (plain_in i s.objects t (thread s t).frames c none) (plain_kept i c none)
-    (λ runs tagged. absurd (let clash : true ≡ false = sym tagged ∙ none in cc))
-
 pub not_native_bound : (i : Image) (c : Cap) → is_native (root i c.shadow.root).origin ≡ false → Bound i c
 not_native_bound i c not native loose = let clash : true ≡ false = sym native ∙ not in cc
 

@@ -9,4 +9,4 @@ mod started;
 
 pub use boot_places::{boots_listed, fixed_placed, tags_stand};
 pub use shut::images_shut;
-pub use started::boots_confined;
+pub use started::booted_states_are_confined;

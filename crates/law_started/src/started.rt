@@ -15,7 +15,7 @@ ghost use Rattle.def_safety.specs.Tokened.{Tokened};
 /// token, so that of keys and tokens all holds that every event keeps (`tokened`); and a granule that holds a
 /// capability without GL is of a thread's stack, since every entry but a stack has GL (`local`). Of whatever boots from
 /// an image's parts, all that is untagged has no root and no source (`settled`).
-pub fn boots_confined()
+pub fn booted_states_are_confined()
     ensures confined { (p : PartsRow) → Sound p → Confined (image_of p) (boot_state p) }
     ensures keeps { (p : PartsRow) → Sound p → Keeps (image_of p) (boot_state p) }
     ensures blank { (p : PartsRow) → Sound p → Blank (image_of p) (boot_state p) }

@@ -112,7 +112,7 @@ pub fn turns_are_taken()
 /// gives is what a jump or a return does to interrupts, and nothing else is (`postures`). What `answers` leaves of a
 /// state, where the thread has registers up to c11: that thread is answered, and all else is as it was (`answers`). And
 /// what an allocation (`placed`) and a free (`quarantined`) make of the heap's rows.
-pub fn rules_are_plain()
+pub fn shared_rules_are_plain()
     ensures passes { (cs : List Check) → (first_failed cs ≡ None) ↔ AllHold cs }
     ensures fails { (cs : List Check) (why : Trap)
         → (first_failed cs ≡ Some why) ↔ FirstFails cs why }

@@ -1,7 +1,7 @@
 use Rattle.law_history.proofs.Services.{sleep_stops, wait_differs, wait_stops, wake_answers, yield_stops}
 use Rattle.law_history.proofs.Statuses.{lower_wakes, sleep_lasts, sleep_over, waking_waits}
 use Rattle.law_history.proofs.Waking.{counted}
-use Rattle.law_history.proofs.causes.rests_answer.Goals as goal
+use Rattle.law_history.proofs.causes.scheduler_routines_answer.Goals as goal
 
 pub returns : goal.returns
 returns c = record {

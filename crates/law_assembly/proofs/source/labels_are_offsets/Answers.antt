@@ -1,6 +1,6 @@
 use Rattle.law_assembly.proofs.Labelled.{label_placed, no_label}
 use Rattle.law_assembly.proofs.Lengths.{have_sizes, one_size, text_sum, initial_sum}
-use Rattle.law_assembly.proofs.source.labels_are_sums.Goals as goal
+use Rattle.law_assembly.proofs.source.labels_are_offsets.Goals as goal
 
 pub returns-clause-label_some : goal.returns-clause-label_some
 returns-clause-label_some c = label_placed

@@ -1,7 +1,7 @@
 use Rattle.def_step.specs.Quotas.{Made, Refused}
 use Rattle.law_history.proofs.Allocations.{full_refused, limit_refused, place_made, quarantined_refused, size_refused}
 use Rattle.law_history.proofs.Services.{allocate_answers, free_given, free_refused, with_quota, without_quota}
-use Rattle.law_history.proofs.causes.services_answer.Goals as goal
+use Rattle.law_history.proofs.causes.heap_routines_answer.Goals as goal
 
 pub returns : goal.returns
 returns c = record {

@@ -3,7 +3,7 @@ use Rattle.law_truly.proofs.FailedChecks.{first_failed_is}
 use Rattle.law_truly.proofs.Passing.{fails_first, hold_passes, passes_hold}
 use Rattle.law_truly.proofs.Postures.{postures_through}
 use Rattle.law_truly.proofs.Rows.{put_among, taken_back}
-use Rattle.law_truly.proofs.rules_are_plain.Goals as goal
+use Rattle.law_truly.proofs.shared_rules_are_plain.Goals as goal
 
 pub returns : goal.returns
 returns g = record {
