@@ -1,5 +1,5 @@
 -- Rounds of a machine of which no thread runs and none is ready: they count, and that is all.
-use Rattle.std.proofs.Common.{ℕ, zero, suc, ◌+◌, ◌≡◌, ◌&&◌, ◌||◌, Bool, true, false, not, is_none, Option, Some, None, refl, sym, ap, ◌∙◌, subst, arith}
+use Rattle.std.proofs.Common.{ℕ, zero, suc, ◌+◌, ◌≡◌, ◌&&◌, true, false, is_none, Option, Some, None, refl, sym, ap, ◌∙◌, subst, arith}
 use Rattle.ct_entry.specs.declared.acts.End.{End}
 use Rattle.ct_entry.specs.declared.acts.Happened.{Happened}
 use Rattle.ct_entry.specs.declared.acts.Owned.{Owned}
@@ -10,9 +10,10 @@ use Rattle.def_machine.specs.Threads.{statuses_of}
 use Rattle.def_sched.specs.Picks.{pick}
 use Rattle.def_step.specs.declared.Event.TheVariants.{Step}
 use Rattle.def_step.specs.Events.{begun_since, continued, end_of, happens, holder, one_more_step, picked_as, picked_from, preempted, run_on, scheduled, told_of}
-use Rattle.ct_machine.specs.Going.{one_more_sweep, steps_quietly}
-use Rattle.ct_machine.specs.Quiet.{goes_on_quietly, has_sweep, is_dormant, with_counts, with_rounds, WentRound, WentRounds}
-use Rattle.ct_machine.proofs.Rounding.{none_went, one_more_went, round_guarded, same_machine, with_silence}
+use Rattle.ct_machine.specs.Going.{one_more_sweep}
+use Rattle.ct_machine.specs.Quiet.{has_sweep, is_dormant, with_counts, with_rounds, WentRound, WentRounds}
+use Rattle.ct_machine.proofs.Rounding.{none_went, one_more_went, round_guarded, with_silence}
+use Rattle.ct_machine.proofs.Appending.{same_machine}
 use Rattle.ct_machine.proofs.Taking.{holder_none, none_preempted}
 
 -- ---- what is dormant
@@ -36,14 +37,6 @@ sleeps_by : (m : MachineRow) → is_dormant m ≡ true → IsDormant m
 sleeps_by m dormant =
     let parts = three_none m.state.running (end_of m.state) (pick m.board.image.priorities (statuses_of m.state.threads) m.state.picks) dormant in
     record { runs = parts.0; going = parts.1; picks = parts.2 }
-
-or_true : (b : Bool) → (b || true) ≡ true
-or_true true = refl
-or_true false = refl
-
-dormant_goes : (m : MachineRow) → has_sweep m.state ≡ false → is_dormant m ≡ true → goes_on_quietly m ≡ true
-dormant_goes m none dormant =
-    ap (λ (b : Bool). not b && (steps_quietly m || is_dormant m)) none ∙ ap (λ (b : Bool). steps_quietly m || b) dormant ∙ or_true (steps_quietly m)
 
 -- ---- one round
 
@@ -99,7 +92,8 @@ dormant_rounds m g none dormant (suc count) steps sweeps more_steps more_sweeps 
     let one_sweep : sweeps ≡ m.state.counts.sweeps + count + 1 = omega (arith, more_sweeps) in
     let w : WentRound mid (counted m steps sweeps) =
     dormant_round mid steps sweeps (counted_sleeps m (m.state.counts.steps + count) (m.state.counts.sweeps + count) (sleeps_by m dormant)) one_step one_sweep in
-    (one_more_went m mid (counted m steps sweeps) count before.0 none (dormant_goes mid none dormant) w, round_guarded mid (counted m steps sweeps) none w before.1)
+    let next : count + 1 ≡ suc count = omega arith in
+    (subst (λ k. WentRounds m (counted m steps sweeps) k) next (one_more_went m mid (counted m steps sweeps) count before.0 none w), round_guarded mid (counted m steps sweeps) none w before.1)
 
 pub dormant_went : (m n : MachineRow) (count : ℕ) → Guarded m → has_sweep m.state ≡ false → is_dormant m ≡ true → n.state ≡ with_rounds m.state count → n.board ≡ m.board → WentRounds m n count × Guarded n
 dormant_went m n count g none dormant state board =

@@ -98,3 +98,6 @@ quietly_by m n true is same board h =
     let state : n.state ≡ (happens m.board m.state Step).0 = ap (λ (r : State × Happened). r.0) (is refl) in
     kept_by m n Step h state board
 quietly_by m n false is same board h = same_by m n (same refl) board h
+
+pub step_guarded : (m n : MachineRow) (h : Happened) → Guarded m → (n.state, h) ≡ happens m.board m.state Step → n.board ≡ m.board → Guarded n
+step_guarded m n h g is board = kept_by m n Step g (ap (λ (r : State × Happened). r.0) is) board

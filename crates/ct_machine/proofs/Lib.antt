@@ -1,9 +1,11 @@
+pub mod Appending
 pub mod Calling
 pub mod Carried
 pub mod Dormant
 pub mod Granting
 pub mod Guards
 pub mod Keeping
+pub mod Onward
 pub mod Opened
 pub mod Quietly
 pub mod Ready

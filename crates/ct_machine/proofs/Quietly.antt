@@ -5,26 +5,17 @@ use Rattle.std.proofs.lemmas.Bool.{eq-eqb}
 use Rattle.ct_entry.specs.declared.acts.Act.{Act}
 use Rattle.ct_entry.specs.declared.acts.Owned.{Owned}
 use Rattle.def_words.specs.declared.Posture.{Posture}
-use Rattle.def_sched.specs.declared.Status.{Status}
 use Rattle.def_sched.specs.declared.Status.TheVariants.{Ended}
-use Rattle.def_instr.specs.declared.Instr.{Instr}
-use Rattle.def_instr.specs.declared.Instr.TheVariants.{CJalr}
-use Rattle.def_memory.specs.declared.Granule.{Granule}
 use Rattle.def_machine.specs.Image.{Image}
 use Rattle.def_machine.specs.State.{State, Thread, DeviceState, Counts, thread, nobody}
 use Rattle.def_machine.specs.Objects.{has_quarantined}
-use Rattle.def_machine.specs.Threads.{jumped, with_status}
-use Rattle.def_step.specs.declared.Class.{Class}
-use Rattle.def_step.specs.declared.Class.TheVariants as class
+use Rattle.def_machine.specs.Threads.{jumped}
 use Rattle.def_step.specs.declared.Event.TheVariants.{Step}
-use Rattle.def_step.specs.declared.Next.{Next}
-use Rattle.def_step.specs.declared.Next.TheVariants.{Returning, Instruction, Native, Nothing}
 use Rattle.def_step.specs.Devices.{DeviceStates}
-use Rattle.def_step.specs.Instructions.{actor_of, next_at}
+use Rattle.def_step.specs.Instructions.{actor_of}
 use Rattle.def_machine.specs.Platform.{Platform, MachineRow}
 use Rattle.def_step.specs.Events.{holder_by, holder, begun_since, begun, preempted, scheduled, one_more_step, run_on, told_of, happens, end_of}
 use Rattle.ct_sched.specs.Sched.{SchedRow}
-use Rattle.ct_threads.specs.Steps.{no_bank, finds_word}
 use Rattle.ct_engine.specs.Seen as engine
 use Rattle.ct_engine.specs.Seen.{Seen}
 use Rattle.ct_engine.specs.Steps.{HasWindow}
@@ -34,11 +25,7 @@ use Rattle.ct_execute.specs.declared.ran.Ran.{Ran}
 use Rattle.ct_execute.specs.declared.ran.Ran.TheVariants.{Went}
 use Rattle.ct_execute.specs.Deciding.{act_by, Decision, Goes, Returns, Serves, Traps, decision, Decided, Stays, WentQuietly}
 use Rattle.ct_machine.specs.Parts.{state_by, IsKept, IsCounted}
-use Rattle.def_words.specs.Authority.{cap_address}
-use Rattle.def_step.specs.Operands.{class_of}
-use Rattle.ct_loadstore.specs.Shapes.{space_of}
-use Rattle.ct_execute.specs.Quiet.{goes_quietly, goes_at, goes_by, jump_by, jumps_quietly, jumps_whole, offset_of}
-use Rattle.ct_machine.specs.Going.{silence, runner_goes, steps_quietly}
+use Rattle.ct_machine.specs.Going.{silence}
 use Rattle.ct_machine.specs.Quiet.{has_sweep, undisturbed, IsThreadWindow}
 use Rattle.ct_machine.proofs.Carried.{came}
 use Rattle.ct_machine.proofs.Keeping.{machine_by, ran_kept, counted_so}
@@ -87,59 +74,17 @@ none_begun s new t runs still posture = ap (begun_since (holder s) new) (holder_
 goes_straight_on : (b : Platform) (s : State) (t : ℕ) → s.pending ≡ false → s.running ≡ Some t → scheduled b (preempted (one_more_step s)) ≡ one_more_step s
 goes_straight_on b s t none runs = ap (scheduled b) (not_pending (one_more_step s) none) ∙ runs_scheduled b (one_more_step s) t runs
 
-goes_on_quietly : (b : Platform) (s new : State) (t : ℕ) → s.pending ≡ false → s.running ≡ Some t → new.running ≡ Some t → (thread new t).posture ≡ (thread s t).posture
+still_told : (b : Platform) (s new : State) (t : ℕ) → s.pending ≡ false → s.running ≡ Some t → new.running ≡ Some t → (thread new t).posture ≡ (thread s t).posture
     → (new, None) ≡ run_on b (one_more_step s) → (new, silence) ≡ happens b s Step
-goes_on_quietly b s new t none runs still posture is =
+still_told b s new t none runs still posture is =
     ap (λ (o : Option Owned). (new, record { deed = None; off = o })) (sym (none_begun s new t runs still posture))
     ∙ ap (told_of s) (is ∙ ap (run_on b) (sym (goes_straight_on b s t none runs)))
 
--- ---- when; a thread's status is nothing that this asks for
-
-jump_alike : (w : Thread) (s : Status) (i : Instr) (o : Option ℕ) → jump_by (with_status w s) i o ≡ jump_by w i o
-jump_alike w s i None = refl
-jump_alike w s i (Some offset) = refl
-
-jumps_alike : (w : Thread) (s : Status) (i : Instr) → jumps_quietly (with_status w s) i ≡ jumps_quietly w i
-jumps_alike w s (CJalr rd rs1 n) = refl
-jumps_alike w s i = ap (jumps_whole w.pcc) (jump_alike w s i (offset_of i))
-
-by_alike : (w : Thread) (s : Status) (ram : ℕ) (gs : List Granule) (i : Instr) (k : Class) → goes_by k (with_status w s) ram gs i ≡ goes_by k w ram gs i
-by_alike w s ram gs i class.Integer = refl
-by_alike w s ram gs i class.Capability = refl
-by_alike w s ram gs i class.System = refl
-by_alike w s ram gs i class.Jump = jumps_alike w s i
-by_alike w s ram gs i class.Access = refl
-by_alike w s ram gs i class.Fence = refl
-by_alike w s ram gs i class.Call = refl
-by_alike w s ram gs i class.Break = refl
-
-at_alike : (w : Thread) (s : Status) (ram : ℕ) (gs : List Granule) (n : Next) → goes_at (with_status w s) ram gs n ≡ goes_at w ram gs n
-at_alike w s ram gs Returning = refl
-at_alike w s ram gs (Instruction i) = by_alike w s ram gs i (class_of i)
-at_alike w s ram gs (Native number) = refl
-at_alike w s ram gs Nothing = refl
-
-goes_alike : (w : Thread) (s : Status) (ram : ℕ) (gs : List Granule) → goes_quietly (with_status w s) ram gs ≡ goes_quietly w ram gs
-goes_alike w s ram gs =
-    ap (λ (b : Bool). finds_word w.pcc ram gs && b)
-    (at_alike w s ram gs (next_at (space_of ram gs no_bank 0) (cap_address w.pcc)))
+-- ---- windows
 
 module _ (i : Image) (e : Seen) (r : SchedRow) (k : DeviceStates) (pending : Bool) (time : ℕ) (c : Counts) where
   abbrev here : MachineRow
   here = machine_by i e r k pending time c
-
-  by_runner : (o : Option ℕ) (b : Bool) → pending ≡ false → o ≡ e.running → b ≡ runner_goes i.ram here.state o → b ≡ steps_quietly here
-  by_runner o b none runs is = rw (none, ← runs) is
-
-  -- a thread runs; its status aside, it is the engine's
-  pub when_runs : (t : ℕ) (went : Bool) → IsKept i e r → pending ≡ false → Some t ≡ e.running
-      → went ≡ goes_quietly (engine.thread e t) e.region.ram e.granules → went ≡ steps_quietly here
-  when_runs t went kept none runs is =
-      by_runner (Some t) went none runs
-      (is
-      ∙ sym (goes_alike (engine.thread e t) (get_or r.statuses t Ended) e.region.ram e.granules)
-      ∙ ap (λ (w : Thread). goes_quietly w e.region.ram e.granules) (sym (given_status e.threads r.statuses t kept.statuses))
-      ∙ ap (λ n. goes_quietly (thread here.state t) n e.granules) (ram_is i e r kept))
 
   -- a window of the engine's thread is one of the machine's, and the other way round
   pub window_in : (t : ℕ) (w : Window) → IsKept i e r → IsThreadWindow here t w → HasWindow e t w
@@ -160,14 +105,6 @@ parts_of false o t is = (refl, sym is)
 
 pub undisturbed_parts : (s : State) (t : ℕ) → Some t ≡ undisturbed s → (s.pending ≡ false) × (s.running ≡ Some t)
 undisturbed_parts s t is = parts_of s.pending s.running t is
-
-loud_by : (b : Bool) (o : Option ℕ) (m : MachineRow) → m.state.pending ≡ b → m.state.running ≡ o → None ≡ cond b None o → steps_quietly m ≡ false
-loud_by true o m late runs is = rw late refl
-loud_by false None m none runs is = rw (none, runs) refl
-loud_by false (Some t) m none runs is = absurd (cc)
-
-pub disturbed_loud : (m : MachineRow) → None ≡ undisturbed m.state → false ≡ steps_quietly m
-disturbed_loud m is = sym (loud_by m.state.pending m.state.running m refl refl is)
 
 -- ---- what the code leaves
 
@@ -206,7 +143,7 @@ module _ (i : Image) (e new : Seen) (r : SchedRow) (k : DeviceStates) (pending :
   pub quietly_is : (after : State) → pending ≡ false → after ≡ one_more_step (state_by new r pending k.states time c) → (after, silence) ≡ happens board (state_by e r pending k.states time c) Step
   quietly_is after none counts =
       ap (λ (s : State). (s, silence)) counts
-      ∙ goes_on_quietly board (state_by e r pending k.states time c) (state_by new r pending k.states time one_more) t none (sym runs) (ap (λ (x : Seen). x.running) stays.beside ∙ sym runs) still_posture quietly_run
+      ∙ still_told board (state_by e r pending k.states time c) (state_by new r pending k.states time one_more) t none (sym runs) (ap (λ (x : Seen). x.running) stays.beside ∙ sym runs) still_posture quietly_run
 
 -- ---- whether the instruction was carried out or not
 

@@ -1,8 +1,5 @@
 -- Quiet rounds one after another: what they leave is what the events leave, and each tells nothing.
-use Rattle.std.proofs.Common.{ℕ, zero, suc, ◌+◌, ◌*◌, ◌≡◌, ◌≤◌, ◌<◌, ◌&&◌, ◌||◌, inl, inr, Bool, true, false, not, cond, is_some, is_none, get_or, List, [], ◌∷◌, length, ◌++◌, Option, Some, None, refl, sym, ap, ◌∙◌, subst, arith}
-use Rattle.std.specs.List.{All}
-use Rattle.std.proofs.lemmas.Bool.{cases_order}
-use Rattle.std.proofs.lemmas.List.Elements.{All-append}
+use Rattle.std.proofs.Common.{ℕ, zero, suc, ◌+◌, ◌*◌, ◌≡◌, ◌≤◌, ◌<◌, ◌||◌, Bool, true, false, cond, is_some, length, Option, Some, None, refl, sym, ap, ◌∙◌, subst, arith}
 use Rattle.ct_entry.specs.declared.acts.Happened.{Happened}
 use Rattle.def_events.specs.Guarded.{Guarded}
 use Rattle.def_machine.specs.Heap as heap
@@ -10,16 +7,15 @@ use Rattle.def_machine.specs.Image.{Image}
 use Rattle.def_machine.specs.Objects.{has_quarantined, painted}
 use Rattle.def_machine.specs.Platform.{Platform, MachineRow}
 use Rattle.def_machine.specs.State.{State, Counts, thread}
-use Rattle.def_step.specs.declared.Event.{Event}
 use Rattle.def_step.specs.declared.Event.TheVariants.{Step, Sweep}
-use Rattle.def_step.specs.Events.{happens, run, happenings_of, end_of, one_more_step}
-use Rattle.law_routines.proofs.Appended.{run_append, told_append}
+use Rattle.def_step.specs.Events.{happens, run, end_of, one_more_step}
 use Rattle.ct_threads.specs.declared.window.Window.{Window}
 use Rattle.ct_threads.specs.Windows.{IsWindow}
-use Rattle.ct_machine.specs.Going.{silence, one_more_sweep, steps_quietly}
-use Rattle.ct_machine.specs.Quiet.{has_sweep, is_dormant, none_is_ready, goes_on_quietly, rounds, after_rounds, with_counts, IsThreadWindow, StaysAside, WentRound, WentRounds}
+use Rattle.ct_machine.specs.Going.{silence, one_more_sweep}
+use Rattle.ct_machine.specs.Quiet.{has_sweep, with_counts, IsThreadWindow, StaysAside, WentRound, WentRounds}
+use Rattle.ct_machine.specs.Onward.{RanOn}
 use Rattle.ct_machine.proofs.Guards.{kept_by, same_by}
-use Rattle.ct_machine.proofs.Statuses.{and_none}
+use Rattle.ct_machine.proofs.Appending.{both_ran, none_ran, round_ran, same_machine}
 use Rattle.ct_machine.proofs.Sweeping.{sweep_silent}
 
 -- ---- a slice where no sweep has work counts, and that is all
@@ -70,20 +66,10 @@ window_counted m n t w c board state has =
     subst (λ (b : Platform). IsWindow w (thread n.state t).pcc b.image.ram (8 * length n.state.granules)) (sym board)
     (subst (λ (s : State). IsWindow w (thread s t).pcc m.board.image.ram (8 * length s.granules)) (sym state) has)
 
-abbrev one_round : List Event
-one_round = Sweep ∷ Step ∷ []
-
-round_leaves : (m n : MachineRow) → has_sweep m.state ≡ false → WentRound m n → n.state ≡ run m.board m.state one_round
-unfolding run
-round_leaves m n idle w =
-    ap (λ (p : State × Happened). p.0) w.is ∙ ap (λ (s : State). (happens m.board s Step).0) (sym (idle_counts m.board m.state idle))
-
-round_tells : (m n : MachineRow) → has_sweep m.state ≡ false → WentRound m n → happenings_of m.board m.state one_round ≡ silence ∷ silence ∷ []
-unfolding happenings_of
-round_tells m n idle w =
-    ap (λ (h : Happened). h ∷ (happens m.board (happens m.board m.state Sweep).0 Step).1 ∷ []) (sweep_silent m.board m.state)
-    ∙ ap (λ (s : State). silence ∷ (happens m.board s Step).1 ∷ []) (idle_counts m.board m.state idle)
-    ∙ ap (λ (p : State × Happened). silence ∷ p.1 ∷ []) (sym w.is)
+went_ran : (m n : MachineRow) → has_sweep m.state ≡ false → WentRound m n → RanOn m n 1 silence
+went_ran m n idle w =
+    let mid : MachineRow = record { board = m.board; state = one_more_sweep m.state } in
+    round_ran m mid n silence refl (sym (idle_counts m.board m.state idle)) (sweep_silent m.board m.state) w.board w.is
 
 pub round_guarded : (m n : MachineRow) → has_sweep m.state ≡ false → WentRound m n → Guarded m → Guarded n
 round_guarded m n idle w g =
@@ -92,76 +78,20 @@ round_guarded m n idle w g =
 
 -- ---- many
 
-abbrev IsSilent : Happened → Type 0
-IsSilent h = h ≡ silence
-
-both_silent : (k : ℕ) (d : Happened) → k < 2 → get_or (silence ∷ silence ∷ []) k d ≡ silence
-both_silent zero d lt = refl
-both_silent (suc zero) d lt = refl
-both_silent (suc (suc k)) d lt = absurd (omega (arith, lt))
-
-one_more : (n : ℕ) → rounds (suc n) ≡ rounds n ++ one_round
-one_more zero = refl
-one_more (suc n) = ap (λ (es : List Event). Sweep ∷ Step ∷ es) (one_more n)
-
-pub same_machine : (m n : MachineRow) → m.board ≡ n.board → m.state ≡ n.state → m ≡ n
-same_machine m n board state = ap (λ (b : Platform). machine b m.state) board ∙ ap (λ (s : State). machine n.board s) state
-  where
-    machine : Platform → State → MachineRow
-    machine b s = record { board = b; state = s }
-
 pub none_went : (m : MachineRow) → WentRounds m m 0
-unfolding run happenings_of
-none_went m = record {
-  board = refl;
-  state = refl;
-  silent = λ k d inside. absurd (omega (arith, inside));
-  each = λ k lt. absurd (omega (arith, lt));
-  going = λ k lt. absurd (omega (arith, lt));
+none_went m = record { ran = none_ran m silence; going = λ some. absurd (omega (arith, some)) }
+
+-- the first of them began where the machine had come to no end
+first_going : (made : ℕ) (first m n : MachineRow) → WentRounds first m made → WentRound m n → end_of first.state ≡ None
+unfolding run
+first_going zero first m n went w = subst (λ (s : State). end_of s ≡ None) went.ran.state w.going
+first_going (suc made) first m n went w = went.going (omega arith)
+
+pub one_more_went : (first m n : MachineRow) (made : ℕ) → WentRounds first m made → has_sweep m.state ≡ false → WentRound m n → WentRounds first n (made + 1)
+one_more_went first m n made went idle w = record {
+  ran = both_ran first m n made 1 silence went.ran (λ some. w.going) (omega arith) (went_ran m n idle w);
+  going = λ some. first_going made first m n went w;
 }
-
-pub one_more_went : (first m n : MachineRow) (made : ℕ) → WentRounds first m made → has_sweep m.state ≡ false → goes_on_quietly m ≡ true → WentRound m n → WentRounds first n (suc made)
-one_more_went first m n made went idle goes w =
-    let here : m ≡ after_rounds first made = same_machine m (after_rounds first made) went.board went.state in
-    let last : All IsSilent (happenings_of first.board (run first.board first.state (rounds made)) one_round) =
-    subst (λ (x : MachineRow). All IsSilent (happenings_of x.board x.state one_round)) here
-    (subst (λ (hs : List Happened). All IsSilent hs) (sym (round_tells m n idle w)) both_silent) in
-    record {
-      board = w.board ∙ went.board;
-      state = round_leaves m n idle w
-          ∙ ap (λ (x : MachineRow). run x.board x.state one_round) here
-          ∙ sym (run_append first.board first.state (rounds made) one_round)
-          ∙ ap (run first.board first.state) (sym (one_more made));
-      silent = subst (λ (es : List Event). All IsSilent (happenings_of first.board first.state es)) (sym (one_more made))
-          (subst (λ (hs : List Happened). All IsSilent hs) (sym (told_append first.board first.state (rounds made) one_round))
-          (All-append IsSilent (happenings_of first.board first.state (rounds made)) (happenings_of first.board (run first.board first.state (rounds made)) one_round) went.silent last));
-      each = λ k lt. elim (cases_order k made) [
-        | inl same ↦ subst (λ j. goes_on_quietly (after_rounds first j) ≡ true) (sym same) (subst (λ (x : MachineRow). goes_on_quietly x ≡ true) here goes)
-        | inr (inl below) ↦ went.each k below
-        | inr (inr above) ↦ absurd (omega (arith, lt, above))
-      ];
-      going = λ k lt. elim (cases_order k made) [
-        | inl same ↦ subst (λ j. end_of (after_rounds first j).state ≡ None) (sym same) (subst (λ (x : MachineRow). end_of x.state ≡ None) here w.going)
-        | inr (inl below) ↦ went.going k below
-        | inr (inr above) ↦ absurd (omega (arith, lt, above))
-      ];
-    }
-
--- ---- when
-
-quiet_goes : (m : MachineRow) → has_sweep m.state ≡ false → steps_quietly m ≡ true → goes_on_quietly m ≡ true
-quiet_goes m none quiet =
-    ap (λ (b : Bool). not b && (steps_quietly m || is_dormant m)) none ∙ ap (λ (b : Bool). b || is_dormant m) quiet
-
-pub neither_goes : (m : MachineRow) → steps_quietly m ≡ false → is_dormant m ≡ false → goes_on_quietly m ≡ false
-neither_goes m loud busy =
-    ap (λ (b : Bool). not (has_sweep m.state) && (b || is_dormant m)) loud
-    ∙ ap (λ (b : Bool). not (has_sweep m.state) && b) busy
-    ∙ and_none (not (has_sweep m.state))
-
--- where a thread runs
-runs_busy : (m : MachineRow) (t : ℕ) → m.state.running ≡ Some t → is_dormant m ≡ false
-runs_busy m t runs = ap (λ (o : Option ℕ). is_none o && is_none (end_of m.state) && none_is_ready m) runs
 
 -- ---- the loop
 
@@ -191,16 +121,15 @@ starts m t most g idle none runs = record {
 pub has_room : (first now made most most_steps : ℕ) → now ≡ first + made → first + most ≤ most_steps → made < most → now < most_steps
 has_room first now made most most_steps is room more = omega (arith, is, room, more)
 
-pub goes_on : (first m n : MachineRow) (t most made : ℕ) → Rounding first m t most made → made < most → steps_quietly m ≡ true → WentRound m n → Rounding first n t most (made + 1)
-goes_on first m n t most made r more quiet w =
-    let next : suc made ≡ made + 1 = omega arith in
+pub goes_on : (first m n : MachineRow) (t most made : ℕ) → Rounding first m t most made → made < most → WentRound m n → Rounding first n t most (made + 1)
+goes_on first m n t most made r more w =
     let steps = w.steps in
     let sweeps = w.sweeps in
     let steps_so = r.steps in
     let sweeps_so = r.sweeps in
     record {
       within = omega (arith, more);
-      went = subst (λ k. WentRounds first n k) next (one_more_went first m n made r.went r.idle (quiet_goes m r.idle quiet) w);
+      went = one_more_went first m n made r.went r.idle w;
       guarded = round_guarded m n r.idle w r.guarded;
       idle = w.sweep ∙ r.idle;
       pending = w.pending ∙ r.pending;
@@ -211,19 +140,10 @@ goes_on first m n t most made r more quiet w =
 
 -- where the next step isn't quiet nothing has changed
 pub still_went : (first m n : MachineRow) (t most made : ℕ) → Rounding first m t most made → n.state ≡ m.state → n.board ≡ m.board → WentRounds first n made
-still_went first m n t most made r state board = record {
-  board = board ∙ r.went.board;
-  state = state ∙ r.went.state;
-  silent = r.went.silent;
-  each = r.went.each;
-  going = r.went.going;
-}
+still_went first m n t most made r state board = subst (λ (x : MachineRow). WentRounds first x made) (sym (same_machine n m board state)) r.went
 
 pub still_guarded : (first m n : MachineRow) (t most made : ℕ) → Rounding first m t most made → n.state ≡ m.state → n.board ≡ m.board → Guarded n
 still_guarded first m n t most made r state board = same_by m n state board r.guarded
-
-pub loud_next : (m n : MachineRow) (t : ℕ) → steps_quietly m ≡ false → m.state.running ≡ Some t → n.state ≡ m.state → n.board ≡ m.board → goes_on_quietly n ≡ false
-loud_next m n t loud runs state board = ap goes_on_quietly (same_machine n m board state) ∙ neither_goes m loud (runs_busy m t runs)
 
 -- all of them
 pub all_went : (first m : MachineRow) (t most made : ℕ) → Rounding first m t most made → most ≤ made → WentRounds first m most
@@ -231,7 +151,3 @@ all_went first m t most made r past =
     let within = r.within in
     let all : made ≡ most = omega (arith, within, past) in
     subst (λ k. WentRounds first m k) all r.went
-
--- where a sweep has work
-pub sweep_next : (m : MachineRow) → has_sweep m.state ≡ true → goes_on_quietly m ≡ false
-sweep_next m works = rw works refl

@@ -33,7 +33,6 @@ use Rattle.ct_execute.specs.declared.ran.ActBy.{ActBy}
 use Rattle.ct_execute.specs.declared.ran.Ran.{Ran}
 use Rattle.ct_execute.specs.declared.ran.Ran.TheVariants.{Went, Returned, Native, Trapped}
 use Rattle.ct_execute.specs.Deciding.{act_by, IfUnfinished}
-use Rattle.ct_execute.specs.Quiet.{goes_quietly}
 
 -- No entry reaches what is hidden, capabilities of boot are what their entries say, the state is confined, with what
 -- stands beside, and each row of a key or a token is of a live object.
@@ -77,15 +76,6 @@ one_more_sweep s = record s { counts = record s.counts { sweeps = s.counts.sweep
 -- what an event tells that tells nothing
 abbrev pub silence : Happened
 silence = record { deed = None; off = None }
-
--- whether the next instruction of who runs is carried out quietly
-abbrev pub runner_goes : ℕ → State → Option ℕ → Bool
-runner_goes ram s None = false
-runner_goes ram s (Some t) = goes_quietly (state.thread s t) ram s.granules
-
--- no tick is pending, and it is
-abbrev pub steps_quietly : MachineRow → Bool
-steps_quietly m = not m.state.pending && runner_goes m.board.image.ram m.state m.state.running
 
 -- each sleep is one tick shorter
 abbrev pub sleepers_on : State → State

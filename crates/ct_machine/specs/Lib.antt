@@ -1,4 +1,5 @@
 pub mod Parts
 pub mod Going
 pub mod Starting
+pub mod Onward
 pub mod Quiet

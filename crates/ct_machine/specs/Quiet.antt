@@ -1,17 +1,17 @@
 -- Rounds that tell nothing: slices of a sweep that has no work, each with a quiet step after it or with one of a
 -- dormant machine.
-use Rattle.std.specs.Prelude.{ℕ, zero, suc, ◌+◌, ◌≡◌, ◌<◌, ◌&&◌, ◌||◌, Bool, true, not, is_some, is_none, cond, List, [], ◌∷◌, All, Option, None}
+use Rattle.std.specs.Prelude.{ℕ, ◌+◌, ◌≡◌, ◌<◌, ◌&&◌, ◌||◌, Bool, is_some, is_none, cond, Option, None}
 use Rattle.def_machine.specs.Objects.{has_quarantined}
 use Rattle.def_machine.specs.Platform.{MachineRow}
 use Rattle.def_machine.specs.State.{State, Counts, thread}
 use Rattle.def_machine.specs.Threads.{statuses_of}
 use Rattle.def_sched.specs.Picks.{pick}
-use Rattle.def_step.specs.declared.Event.{Event}
-use Rattle.def_step.specs.declared.Event.TheVariants.{Step, Sweep}
-use Rattle.def_step.specs.Events.{run, happens, happenings_of, end_of}
+use Rattle.def_step.specs.declared.Event.TheVariants.{Step}
+use Rattle.def_step.specs.Events.{happens, end_of}
 use Rattle.ct_threads.specs.declared.window.Window.{Window}
 use Rattle.ct_threads.specs.Windows.{IsWindowOf}
-use Rattle.ct_machine.specs.Going.{silence, one_more_sweep, steps_quietly}
+use Rattle.ct_machine.specs.Going.{silence, one_more_sweep}
+use Rattle.ct_machine.specs.Onward.{RanOn}
 
 -- a sweep runs, or is to begin
 abbrev pub has_sweep : State → Bool
@@ -30,23 +30,10 @@ none_is_ready m =
 abbrev pub is_dormant : MachineRow → Bool
 is_dormant m = is_none m.state.running && is_none (end_of m.state) && none_is_ready m
 
--- no sweep has work, and the next step is quiet, or the machine is dormant
-abbrev pub goes_on_quietly : MachineRow → Bool
-goes_on_quietly m = not (has_sweep m.state) && (steps_quietly m || is_dormant m)
-
 -- a window of the thread, in the image's RAM
 abbrev pub IsThreadWindow : MachineRow → ℕ → Window → Type 0
 IsThreadWindow m t w =
     IsWindowOf (thread m.state t) m.board.image.ram m.state.granules w
-
--- so many rounds: a slice of a sweep and a step each
-abbrev pub rounds : ℕ → List Event
-rounds zero = []
-rounds (suc n) = Sweep ∷ Step ∷ rounds n
-
--- the machine after so many of them
-abbrev pub after_rounds : MachineRow → ℕ → MachineRow
-after_rounds m n = record { board = m.board; state = run m.board m.state (rounds n) }
 
 -- whatever was counted
 abbrev pub with_counts : State → Counts → State
@@ -77,11 +64,7 @@ pub record WentRound (m n : MachineRow) : Type 0 where
   pub running : n.state.running ≡ m.state.running
   pub going : end_of m.state ≡ None
 
--- So many rounds of machine m left machine n. They told nothing; each went on quietly, and began where the machine had
--- come to no end.
+-- So many rounds of machine m left machine n. They told nothing; and where there are any, m had come to no end.
 pub record WentRounds (m n : MachineRow) (count : ℕ) : Type 0 where
-  pub board : n.board ≡ m.board
-  pub state : n.state ≡ run m.board m.state (rounds count)
-  pub silent : All (λ h. h ≡ silence) (happenings_of m.board m.state (rounds count))
-  pub each : (k : ℕ) → k < count → goes_on_quietly (after_rounds m k) ≡ true
-  pub going : (k : ℕ) → k < count → end_of (after_rounds m k).state ≡ None
+  pub ran : RanOn m n count silence
+  pub going : 0 < count → end_of m.state ≡ None

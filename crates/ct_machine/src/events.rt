@@ -27,7 +27,7 @@ impl<M: Memory + Drop> Parts<M> {
     }
 
     /// One instruction, or one native routine.
-    fn step(&mut self) -> Happened
+    pub(crate) fn step(&mut self) -> Happened
         requires guarded { Guarded self.old }
         requires lawful { IsTrue (is_lawful self.old.state event.Step) }
         ensures is { (self.new.state, result) ≡ happens self.old.board self.old.state event.Step }

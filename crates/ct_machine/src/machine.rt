@@ -1,6 +1,6 @@
 //! The machine: parts whose state is confined.
 
-ghost use Rattle.std.specs.Prelude.{ℕ, ◌≡◌, ◌+◌, ◌≤◌, ◌<◌, List, IsTrue, IfOk, true, false};
+ghost use Rattle.std.specs.Prelude.{ℕ, ◌≡◌, ◌+◌, ◌≤◌, ◌<◌, ◌||◌, List, IsTrue, IfOk, is_some, true};
 ghost use Rattle.def_profile.specs.declared.limits.TheConstants.{MOST_STEPS};
 ghost use Rattle.def_events.specs.Guarded.{Guarded};
 ghost use Rattle.def_boot.specs.Boot.{booted_machine};
@@ -8,7 +8,7 @@ ghost use Rattle.def_confined.specs.Telling.{AllLicensed, IsLicensedEvent};
 ghost use Rattle.def_machine.specs.Image.{root};
 ghost use Rattle.def_machine.specs.Objects.{charges};
 ghost use Rattle.def_step.specs.declared.Event as events;
-ghost use Rattle.def_step.specs.declared.Event.TheVariants.{Step, Sweep};
+ghost use Rattle.def_step.specs.declared.Event.TheVariants.{Sweep};
 ghost use Rattle.def_events.specs.Upheld.{Upholds};
 ghost use Rattle.def_integrity.specs.Homes.{HomesKept, HomesStay};
 ghost use Rattle.def_integrity.specs.Integrity.{Integrity};
@@ -18,10 +18,11 @@ ghost use Rattle.def_step.specs.Events.{happenings_of, happens, run, is_lawful, 
 ghost use Rattle.def_boot.specs.Booting.{empty_granules};
 ghost use Rattle.def_safety.specs.Chunks.{SweptBeforeReuse, UnusedAfterFree};
 ghost use Rattle.def_truly.specs.Exactly.{TellsExactly};
-ghost use Rattle.ct_machine.specs.Going.{silence, steps_quietly};
-ghost use Rattle.ct_machine.specs.Quiet.{goes_on_quietly, WentRounds};
+ghost use Rattle.ct_machine.specs.Going.{silence};
+ghost use Rattle.ct_machine.specs.Onward.{tells, RanOn};
 
 use crate::parts::Parts;
+use crate::rounds::Rounds;
 use ct_entry::{End, Happened, Totals};
 use ct_image::Image;
 use ct_mem::Memory;
@@ -118,40 +119,23 @@ impl<M: Memory + Drop> Machine<M> {
         self.parts.sweep();
     }
 
-    /// A step, which is lawful now, where it tells nothing and is one of the many that take no more than the running
-    /// thread's registers and RAM: `true`, and what `advance` does of that event is done. Else `false`, and nothing
-    /// changes. It is `true` exactly where no tick is pending and a thread runs whose next instruction is carried out
-    /// quietly, as `ct_execute::execute_quietly` says of it. This call is for speed.
-    #[inline(always)]
-    pub fn step_quietly(&mut self) -> bool
-        requires { IsTrue (is_lawful self.old.state Step) }
-        ensures when { result ≡ steps_quietly self.old }
-        ensures state { result ≡ true
-            → self.new.state ≡ (happens self.old.board self.old.state Step).0 }
-        ensures silent { result ≡ true
-            → (happens self.old.board self.old.state Step).1 ≡ silence }
-        ensures same { result ≡ false → self.new.state ≡ self.old.state }
-        ensures board { self.new.board ≡ self.old.board }
-        ensures guarded { Guarded self.new }
-    {
-        self.parts.step_quietly()
-    }
-
-    /// Rounds, each a slice of a sweep and a step, as long as no sweep has work and the step is quiet, as
-    /// `step_quietly` says of it, or the machine dormant: no thread runs and none is ready, but one sleeps; at most
-    /// `most`, which are lawful now: how many. They leave what `advance` leaves of these events, one after another.
-    /// Each tells nothing, and before each round the machine has come to no end. Where they are fewer than `most`, a
-    /// sweep has work then, or the next step isn't quiet and the machine not dormant. This call is for speed: a dormant
-    /// machine makes all rounds at once.
-    pub fn run_quietly(&mut self, most: u32) -> u32
+    /// Rounds, each a slice of a sweep and a step, one after another up to one whose step tells something, up to one that
+    /// leaves the machine at its end, and up to `most`, which are lawful now: at least one. What they leave is what
+    /// `advance` leaves of these events; all but the last step told nothing, and what the last told is answered. This
+    /// call is for speed: what one step leaves for the next isn't asked again, and a machine of which no thread can run
+    /// before the next tick makes its rounds at once.
+    pub fn run_on(&mut self, most: u32) -> Rounds
+        requires some { 1 ≤ most }
         requires steps { self.old.state.counts.steps + most ≤ MOST_STEPS }
         requires sweeps { self.old.state.counts.sweeps + most ≤ MOST_STEPS }
-        ensures most { result ≤ most }
-        ensures went { WentRounds self.old self.new result }
-        ensures stops { result < most → goes_on_quietly self.new ≡ false }
+        ensures some { 1 ≤ result.count }
+        ensures most { result.count ≤ most }
+        ensures ran { RanOn self.old self.new result.count result.told }
+        ensures stops { result.count < most
+            → (tells result.told || is_some (end_of self.new.state)) ≡ true }
         ensures guarded { Guarded self.new }
     {
-        self.parts.run_quietly(most)
+        self.parts.run_on(most)
     }
 
     /// Whatever events come next, one after another, whatever the code bytes are. A law, told of the machine as it is

@@ -6,8 +6,8 @@ ghost use Rattle.def_events.specs.Guarded.{Guarded};
 ghost use Rattle.def_machine.specs.State.{Counts};
 ghost use Rattle.def_step.specs.Events.{end_of, happens, is_lawful, one_more_step};
 ghost use Rattle.def_step.specs.declared.Event.TheVariants as event;
-ghost use Rattle.ct_machine.specs.Going.{silence, steps_quietly};
-ghost use Rattle.ct_machine.specs.Quiet.{goes_on_quietly, has_sweep, is_dormant, none_is_ready, undisturbed, with_counts, with_rounds, IsThreadWindow, StaysAside, WentRound, WentRounds};
+ghost use Rattle.ct_machine.specs.Going.{silence};
+ghost use Rattle.ct_machine.specs.Quiet.{has_sweep, is_dormant, none_is_ready, undisturbed, with_counts, with_rounds, IsThreadWindow, StaysAside, WentRound, WentRounds};
 
 use crate::parts::Parts;
 use ct_execute::execute_quietly;
@@ -34,16 +34,15 @@ impl<M: Memory + Drop> Parts<M> {
         self.engine.window(t)
     }
 
-    /// A step of the running thread that isn't counted yet, where no tick is pending, exactly where `execute_quietly`
-    /// carries its instruction out: `true`, and the step tells nothing, whatever was counted. Else `false`, and nothing
-    /// changes. The window stays one of the thread.
+    /// A step of the running thread that isn't counted yet, where no tick is pending and `execute_quietly` carries its
+    /// instruction out: `true`, and the step tells nothing, whatever was counted. Else `false`, and nothing changes. The
+    /// window stays one of the thread.
     #[inline(always)]
     fn thread_goes_quietly(&mut self, t: u32, window: &mut Window) -> bool
         requires guarded { Guarded self.old }
         requires pending { self.old.state.pending ≡ false }
         requires runs { self.old.state.running ≡ Some t }
         requires window { IsThreadWindow self.old t window.old }
-        ensures when { result ≡ steps_quietly self.old }
         ensures is { result ≡ true → (c : Counts)
             → (one_more_step (with_counts self.new.state c), silence)
             ≡ happens self.old.board (with_counts self.old.state c) event.Step }
@@ -55,12 +54,11 @@ impl<M: Memory + Drop> Parts<M> {
         execute_quietly(&mut self.engine, t, &mut self.decoded, window)
     }
 
-    /// A step that isn't counted yet, exactly where no tick is pending, a thread runs, and `execute_quietly` carries
-    /// its instruction out: `true`, and the step tells nothing, whatever was counted. Else `false`, and nothing changes.
+    /// A step that isn't counted yet, where no tick is pending, a thread runs, and `execute_quietly` carries its
+    /// instruction out: `true`, and the step tells nothing, whatever was counted. Else `false`, and nothing changes.
     #[inline(always)]
     fn go_quietly(&mut self) -> bool
         requires { Guarded self.old }
-        ensures when { result ≡ steps_quietly self.old }
         ensures is { result ≡ true → (c : Counts)
             → (one_more_step (with_counts self.new.state c), silence)
             ≡ happens self.old.board (with_counts self.old.state c) event.Step }
@@ -76,13 +74,12 @@ impl<M: Memory + Drop> Parts<M> {
         }
     }
 
-    /// A step exactly where no tick is pending, a thread runs, and `execute_quietly` carries its instruction out:
-    /// `true`, and the step tells nothing. Else `false`, and nothing changes.
+    /// A step where no tick is pending, a thread runs, and `execute_quietly` carries its instruction out: `true`, and
+    /// the step tells nothing. Else `false`, and nothing changes.
     #[inline(always)]
     pub(crate) fn step_quietly(&mut self) -> bool
         requires guarded { Guarded self.old }
         requires lawful { IsTrue (is_lawful self.old.state event.Step) }
-        ensures when { result ≡ steps_quietly self.old }
         ensures is { result ≡ true
             → (self.new.state, silence) ≡ happens self.old.board self.old.state event.Step }
         ensures same { result ≡ false → self.new.state ≡ self.old.state }
@@ -103,8 +100,8 @@ impl<M: Memory + Drop> Parts<M> {
         self.engine.has_sweep()
     }
 
-    /// A slice of a sweep that has no work, and a step of the running thread, where no tick is pending, exactly where
-    /// that is quiet: `true`. Else `false`, and nothing changes. The window stays one of the thread.
+    /// A slice of a sweep that has no work, and a step of the running thread, where no tick is pending and that is
+    /// carried out quietly: `true`. Else `false`, and nothing changes. The window stays one of the thread.
     #[inline(always)]
     fn round_quietly(&mut self, t: u32, window: &mut Window) -> bool
         requires guarded { Guarded self.old }
@@ -113,7 +110,6 @@ impl<M: Memory + Drop> Parts<M> {
         requires window { IsThreadWindow self.old t window.old }
         requires steps { self.old.state.counts.steps < MOST_STEPS }
         requires sweeps { self.old.state.counts.sweeps < MOST_STEPS }
-        ensures when { result ≡ steps_quietly self.old }
         ensures went { result ≡ true → WentRound self.old self.new }
         ensures same { result ≡ false → self.new.state ≡ self.old.state }
         ensures board { self.new.board ≡ self.old.board }
@@ -127,7 +123,7 @@ impl<M: Memory + Drop> Parts<M> {
         true
     }
 
-    /// Such rounds as long as the step is quiet, at most `most`: how many. A quiet step leaves the thread running, no
+    /// Such rounds as long as they go so, at most `most`: how many. A quiet step leaves the thread running, no
     /// tick pending and no sweep with work, so these are looked at once, and where its code lies is asked once, and again
     /// where a jump by a register leads elsewhere.
     #[inline(always)]
@@ -140,7 +136,6 @@ impl<M: Memory + Drop> Parts<M> {
         requires sweeps { self.old.state.counts.sweeps + most ≤ MOST_STEPS }
         ensures most { result ≤ most }
         ensures went { WentRounds self.old self.new result }
-        ensures stops { result < most → goes_on_quietly self.new ≡ false }
         ensures guarded { Guarded self.new }
     {
         let mut window = self.window(t);
@@ -182,12 +177,10 @@ impl<M: Memory + Drop> Parts<M> {
     fn run_dormant(&mut self, most: u32) -> u32
         requires guarded { Guarded self.old }
         requires sweep { has_sweep self.old.state ≡ false }
-        requires loud { steps_quietly self.old ≡ false }
         requires steps { self.old.state.counts.steps + most ≤ MOST_STEPS }
         requires sweeps { self.old.state.counts.sweeps + most ≤ MOST_STEPS }
         ensures most { result ≤ most }
         ensures went { WentRounds self.old self.new result }
-        ensures stops { result < most → goes_on_quietly self.new ≡ false }
         ensures guarded { Guarded self.new }
     {
         if self.is_dormant() {
@@ -197,14 +190,14 @@ impl<M: Memory + Drop> Parts<M> {
         0
     }
 
-    /// Such rounds as long as no sweep has work and the step is quiet or the machine dormant, at most `most`: how many.
+    /// Such rounds where no sweep has work, at most `most`, of a thread as long as they go quietly, or of a dormant
+    /// machine: how many.
     pub(crate) fn run_quietly(&mut self, most: u32) -> u32
         requires guarded { Guarded self.old }
         requires steps { self.old.state.counts.steps + most ≤ MOST_STEPS }
         requires sweeps { self.old.state.counts.sweeps + most ≤ MOST_STEPS }
         ensures most { result ≤ most }
         ensures went { WentRounds self.old self.new result }
-        ensures stops { result < most → goes_on_quietly self.new ≡ false }
         ensures guarded { Guarded self.new }
     {
         if self.has_sweep() {

@@ -19,7 +19,7 @@ use Rattle.law_routines.proofs.Devices.{run_keeps}
 use Rattle.def_script.specs.declared.Given.{Given}
 use Rattle.def_program.specs.Runs.{input_of}
 use Rattle.ct_machine.specs.Going.{silence}
-use Rattle.ct_run.specs.Rounds.{Came, Passed, ticks_if, lines_of, round_of}
+use Rattle.ct_run.specs.Rounds.{before_of, Came, Passed, ticks_if, lines_of, round_of}
 use Rattle.ct_port.proofs.Pieces as pieces
 
 -- ---- lists of events
@@ -92,14 +92,6 @@ second_failed m n k es fs before mid after a w =
 came_kinds : (m n : MachineRow) (k : ℕ) (es : List Event) (before after : SinkView) → Came m n k es before after → kinds n.state.counts ≡ all_more es (kinds m.state.counts)
 came_kinds m n k es before after c = ap (λ (s : State). kinds s.counts) c.state ∙ run_kinds m.board m.state es
 
-pub ticked_steps : (m n : MachineRow) (due : Bool) (k : ℕ) (before after : SinkView) → Came m n k (ticks_if due) before after → n.state.counts.steps ≡ m.state.counts.steps
-ticked_steps m n true k before after c = ap (λ (x : Kinds). x.steps) (came_kinds m n k (Tick ∷ []) before after c)
-ticked_steps m n false k before after c = ap (λ (x : Kinds). x.steps) (came_kinds m n k [] before after c)
-
-pub ticked_sweeps : (m n : MachineRow) (due : Bool) (k : ℕ) (before after : SinkView) → Came m n k (ticks_if due) before after → n.state.counts.sweeps ≡ m.state.counts.sweeps
-ticked_sweeps m n true k before after c = ap (λ (x : Kinds). x.sweeps) (came_kinds m n k (Tick ∷ []) before after c)
-ticked_sweeps m n false k before after c = ap (λ (x : Kinds). x.sweeps) (came_kinds m n k [] before after c)
-
 pub inputs_kinds : (m n : MachineRow) (gs : List Given) (k : ℕ) (before after : SinkView) → Came m n k (map input_of gs) before after
     → kinds n.state.counts ≡ record (kinds m.state.counts) { inputs = m.state.counts.inputs + length gs }
 inputs_kinds m n gs k before after c =
@@ -109,6 +101,19 @@ inputs_kinds m n gs k before after c =
 
 pub came_devices : (m n : MachineRow) (k : ℕ) (es : List Event) (before after : SinkView) → Came m n k es before after → length n.state.devices ≡ length m.state.devices
 came_devices m n k es before after c = ap (λ (s : State). length s.devices) c.state ∙ run_keeps m.board m.state es
+
+-- what comes before a step
+before_kinds : (m n : MachineRow) (gs : List Given) (due : Bool) (k : ℕ) (before after : SinkView) → Came m n k (before_of gs due) before after
+    → kinds n.state.counts ≡ all_more (ticks_if due) (record (kinds m.state.counts) { inputs = m.state.counts.inputs + length gs })
+before_kinds m n gs due k before after c = came_kinds m n k (before_of gs due) before after c ∙ inputs_more input_of (λ g k. refl) gs (ticks_if due) (kinds m.state.counts)
+
+pub before_steps : (m n : MachineRow) (gs : List Given) (due : Bool) (k : ℕ) (before after : SinkView) → Came m n k (before_of gs due) before after → n.state.counts.steps ≡ m.state.counts.steps
+before_steps m n gs true k before after c = ap (λ (x : Kinds). x.steps) (before_kinds m n gs true k before after c)
+before_steps m n gs false k before after c = ap (λ (x : Kinds). x.steps) (before_kinds m n gs false k before after c)
+
+pub before_sweeps : (m n : MachineRow) (gs : List Given) (due : Bool) (k : ℕ) (before after : SinkView) → Came m n k (before_of gs due) before after → n.state.counts.sweeps ≡ m.state.counts.sweeps
+before_sweeps m n gs true k before after c = ap (λ (x : Kinds). x.sweeps) (before_kinds m n gs true k before after c)
+before_sweeps m n gs false k before after c = ap (λ (x : Kinds). x.sweeps) (before_kinds m n gs false k before after c)
 
 -- a whole round
 round_kinds : (m n : MachineRow) (gs : List Given) (due : Bool) (k : ℕ) (before after : SinkView) → Came m n k (round_of gs due) before after

@@ -18,7 +18,7 @@ use Rattle.def_program.specs.Scripts.{IsPlayable}
 use Rattle.def_program.specs.Runs.{round, inputs_before, or_last, last_line, lines_from, run_lines}
 use Rattle.ct_port.proofs.Added as added
 use Rattle.def_events.specs.Kinds.{IsUncounted}
-use Rattle.ct_run.specs.Rounds.{HasInputs, HasRoom, lines_of, round_of, Came, IsLeft, IsOver}
+use Rattle.ct_run.specs.Rounds.{HasInputs, lines_of, round_of, Came, IsLeft, IsOver}
 use Rattle.ct_run.proofs.Coming.{came_devices, round_inputs, round_steps, round_sweeps, round_ticks}
 use Rattle.ct_run.proofs.Ticking as ticking
 use Rattle.ct_run.proofs.Pieces.{next_fails, rest_written, rest_fails}
@@ -71,13 +71,11 @@ begins m script quantum limit old none playable =
       tick = ticking.starts quantum;
     }
 
-pub room : (first m : MachineRow) (script : List Due) (quantum limit done left : ℕ) (before now : SinkView) →
-    Going first m script quantum limit done left before now → done < limit → limit ≤ MOST_STEPS → HasRoom m.state.counts
-room first m script quantum limit done left before now g more few =
-    let steps = g.steps in
+pub ticks_room : (first m : MachineRow) (script : List Due) (quantum limit done left : ℕ) (before now : SinkView) →
+    Going first m script quantum limit done left before now → done < limit → limit ≤ MOST_STEPS → m.state.counts.ticks < MOST_STEPS
+ticks_room first m script quantum limit done left before now g more few =
     let ticks = g.ticks in
-    let sweeps = g.sweeps in
-    record { steps = omega (arith, steps, more, few); ticks = omega (arith, ticks, more, few); sweeps = omega (arith, sweeps, more, few) }
+    omega (arith, ticks, more, few)
 
 pub inputs_room : (first m : MachineRow) (script : List Due) (quantum limit done left : ℕ) (before now : SinkView) →
     Going first m script quantum limit done left before now → HasInputs m.state (given_at script (done + 1))

@@ -1,4 +1,4 @@
-pub mod Bursts
+pub mod Onward
 pub mod Pieces
 pub mod Coming
 pub mod Inputs

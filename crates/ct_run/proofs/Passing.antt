@@ -1,17 +1,16 @@
 -- Rounds of which nothing is written.
 use Rattle.std.proofs.Common.{◌≡◌, ℕ, zero, suc, ◌+◌, ◌-◌, ◌==◌, ◌<◌, ◌≤◌, nat_eq, Bool, true, false, List, [], ◌∷◌, ◌++◌, Some, None, if◌then◌else◌, refl, sym, ap, ◌∙◌, arith}
-use Rattle.std.proofs.lemmas.Bool.{lt-ltb}
 use Rattle.ct_entry.specs.declared.acts.End.{End}
 use Rattle.def_profile.specs.declared.limits.TheConstants.{MOST_STEPS}
 use Rattle.def_machine.specs.State.{State}
 use Rattle.def_step.specs.declared.Event.{Event}
 use Rattle.def_step.specs.declared.Event.TheVariants.{Step, Tick, Sweep}
 use Rattle.def_machine.specs.Platform.{Platform, MachineRow}
-use Rattle.def_step.specs.Events.{happens, run, end_of, is_lawful}
+use Rattle.def_step.specs.Events.{happens, run, end_of}
 use Rattle.def_program.specs.Runs.{round, unless_ended, events_from, events_until, last_line, summary_after}
 use Rattle.def_events.specs.Kinds.{Kinds, kinds, all_more, IsUncounted}
 use Rattle.law_routines.proofs.Counted.{run_kinds}
-use Rattle.ct_run.specs.Rounds.{HasRoom, IsLeft, Passed, ticks_if}
+use Rattle.ct_run.specs.Rounds.{IsLeft, Passed, ticks_if}
 use Rattle.law_routines.proofs.Appended.{run_append}
 use Rattle.ct_run.proofs.Going.{round_is}
 use Rattle.ct_run.proofs.Ticking as ticking
@@ -35,19 +34,10 @@ both_passed m n o es fs a b = record {
   state = b.state ∙ (rw (a.board, a.state) refl) ∙ sym (run_append m.board m.state es fs);
 }
 
--- another machine of the same state
-pub still_passed : (m n o : MachineRow) (es : List Event) → Passed m n es → o.state ≡ n.state → o.board ≡ n.board → Passed m o es
-still_passed m n o es p state board = record { board = board ∙ p.board; state = state ∙ p.state }
-
 -- ---- what was counted
 
 passed_kinds : (m n : MachineRow) (es : List Event) → Passed m n es → kinds n.state.counts ≡ all_more es (kinds m.state.counts)
 passed_kinds m n es p = ap (λ (s : State). kinds s.counts) p.state ∙ run_kinds m.board m.state es
-
-pub step_may : (m n : MachineRow) → Passed m n (Sweep ∷ []) → m.state.counts.steps < MOST_STEPS → is_lawful n.state Step ≡ true
-step_may m n p few =
-    let same : n.state.counts.steps ≡ m.state.counts.steps = ap (λ (x : Kinds). x.steps) (passed_kinds m n (Sweep ∷ []) p) in
-    lt-ltb n.state.counts.steps MOST_STEPS (omega (arith, same, few))
 
 pub ticked_steps : (m n : MachineRow) (due : Bool) → Passed m n (ticks_if due) → n.state.counts.steps ≡ m.state.counts.steps
 ticked_steps m n true p = ap (λ (x : Kinds). x.steps) (passed_kinds m n (Tick ∷ []) p)
@@ -114,12 +104,10 @@ begins m quantum limit none =
       tick = ticking.starts quantum;
     }
 
-pub room : (first m : MachineRow) (quantum limit done left : ℕ) → Passing first m quantum limit done left → done < limit → limit ≤ MOST_STEPS → HasRoom m.state.counts
-room first m quantum limit done left g more few =
-    let steps = g.steps in
+pub ticks_room : (first m : MachineRow) (quantum limit done left : ℕ) → Passing first m quantum limit done left → done < limit → limit ≤ MOST_STEPS → m.state.counts.ticks < MOST_STEPS
+ticks_room first m quantum limit done left g more few =
     let ticks = g.ticks in
-    let sweeps = g.sweeps in
-    record { steps = omega (arith, steps, more, few); ticks = omega (arith, ticks, more, few); sweeps = omega (arith, sweeps, more, few) }
+    omega (arith, ticks, more, few)
 
 -- a round, and then what is left after it
 next_leads : (m next : MachineRow) (quantum limit done left : ℕ) → 1 ≤ quantum → IsLeft quantum done left → done < limit → end_of m.state ≡ None

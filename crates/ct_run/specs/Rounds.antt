@@ -2,31 +2,26 @@
 use Rattle.std.specs.Prelude.{ℕ, ◌≡◌, ◌+◌, ◌*◌, ◌<◌, ◌≤◌, ◌⊎◌, ◌++◌, Bool, suc, List, [], ◌∷◌, All, length, map, if◌then◌else◌}
 use Rattle.std.specs.List.{flat_map}
 use Rattle.def_profile.specs.declared.limits.TheConstants.{MOST_STEPS}
-use Rattle.def_port.specs.Writes.{Writes}
+use Rattle.def_port.specs.Writes.{Writes, WriteFails}
 use Rattle.def_port.specs.Bytes.{AppendsBefore, SinkView}
-use Rattle.def_machine.specs.State.{State, Counts}
+use Rattle.def_machine.specs.State.{State}
 use Rattle.def_step.specs.declared.Event.{Event}
 use Rattle.def_step.specs.declared.Event.TheVariants.{Tick, Sweep, Step}
 use Rattle.def_step.specs.Events.{run, happenings_of}
 use Rattle.def_machine.specs.Platform.{MachineRow}
+use Rattle.ct_entry.specs.declared.acts.Happened.{Happened}
 use Rattle.def_trace.specs.Trace.{trace_line}
 use Rattle.def_script.specs.declared.Given.{Given}
 use Rattle.def_script.specs.Script.{Due, given_at}
 use Rattle.def_program.specs.Runs.{input_of, last_line, run_lines}
 use Rattle.def_events.specs.Kinds.{IsUncounted}
-use Rattle.ct_machine.specs.Quiet.{WentRounds}
+use Rattle.ct_machine.specs.Onward.{RanOn}
 
 -- no event has come yet, a quantum is a step at least, and no more steps are asked for than may be made
 pub record MayRun (m : MachineRow) (each most : ℕ) : Type 0 where
   pub booted : IsUncounted m.state.counts
   pub quantum : 1 ≤ each
   pub limit : most ≤ MOST_STEPS
-
--- a tick, a slice of a sweep and a step may come
-pub record HasRoom (c : Counts) : Type 0 where
-  pub steps : c.steps < MOST_STEPS
-  pub ticks : c.ticks < MOST_STEPS
-  pub sweeps : c.sweeps < MOST_STEPS
 
 -- so many bytes may come, and each to a device
 pub record HasInputs (s : State) (givens : List Given) : Type 0 where
@@ -37,7 +32,11 @@ pub record HasInputs (s : State) (givens : List Given) : Type 0 where
 abbrev pub ticks_if : Bool → List Event
 ticks_if due = if due then Tick ∷ [] else []
 
--- bytes, a tick where it is due, a slice of a sweep, and a step
+-- what comes before a step: bytes, and a tick where it is due
+abbrev pub before_of : List Given → Bool → List Event
+before_of givens due = map input_of givens ++ ticks_if due
+
+-- and with it a slice of a sweep, and the step
 abbrev pub round_of : List Given → Bool → List Event
 round_of givens due = map input_of givens ++ (ticks_if due ++ Sweep ∷ Step ∷ [])
 
@@ -64,13 +63,30 @@ pub record IsLeft (quantum done left : ℕ) : Type 0 where
   pub most : left ≤ quantum
   pub first : (done ≡ 0) ⊎ (left < quantum)
 
--- so many rounds that tell nothing came after so many steps: before the next tick, up to the limit, and before each no byte
--- of the script
-pub record IsBurst (m n : MachineRow) (script : List Due) (limit done left count : ℕ) : Type 0 where
-  pub went : WentRounds m n count
-  pub few : done + count ≤ limit
-  pub early : count ≤ left
-  pub bare : (k : ℕ) → k < count → given_at script (done + 1 + k) ≡ []
+-- so many rounds may come after so many steps: before the next tick, up to the limit, and before each but the first no
+-- byte of the script
+pub record AreBare (script : List Due) (left limit done most : ℕ) : Type 0 where
+  pub some : 1 ≤ most
+  pub few : done + most ≤ limit
+  pub early : most ≤ left
+  pub bare : (k : ℕ) → 0 < k → k < most → given_at script (done + 1 + k) ≡ []
+
+-- so many rounds came after so many steps, and the line of what the last told was written
+pub record WentOn (m n : MachineRow) (most done count : ℕ) (before after : SinkView) : Type 0 where
+  pub some : 1 ≤ count
+  pub few : count ≤ most
+  pub told : Happened
+  pub ran : RanOn m n count told
+  pub written : Writes before after (trace_line (done + count) told)
+
+-- rounds came, and the line of what the last told wasn't written
+pub record FailedOn (m n : MachineRow) (most done : ℕ) (before after : SinkView) : Type 0 where
+  pub count : ℕ
+  pub some : 1 ≤ count
+  pub few : count ≤ most
+  pub told : Happened
+  pub ran : RanOn m n count told
+  pub failed : WriteFails before after (trace_line (done + count) told)
 
 -- the run of a machine that was so first came to its end: the summary is left to be written
 pub record IsOver (first m : MachineRow) (script : List Due) (quantum limit : ℕ)

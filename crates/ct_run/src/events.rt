@@ -1,13 +1,11 @@
-//! One event, or the few of a round, with the lines of what they do.
+//! One event, or what comes before a step, or rounds, with the lines of what they do.
 
-ghost use Rattle.std.specs.Prelude.{◌≡◌, ◌<◌, ◌++◌, [], ◌∷◌, map, IsTrue, MatchResult};
+ghost use Rattle.std.specs.Prelude.{◌≡◌, ◌+◌, ◌<◌, ◌≤◌, [], ◌∷◌, map, IsTrue, MatchResult};
 ghost use Rattle.def_profile.specs.declared.limits.TheConstants.{MOST_STEPS};
 ghost use Rattle.def_port.specs.Writes.{WriteFails};
-ghost use Rattle.def_step.specs.declared.Event.TheVariants.{Step, Sweep};
-ghost use Rattle.def_step.specs.Events.{happens, is_lawful};
+ghost use Rattle.def_step.specs.Events.{is_lawful};
 ghost use Rattle.def_program.specs.Runs.{input_of};
-ghost use Rattle.ct_machine.specs.Going.{silence};
-ghost use Rattle.ct_run.specs.Rounds.{Came, HasInputs, HasRoom, Passed, lines_of, round_of, ticks_if};
+ghost use Rattle.ct_run.specs.Rounds.{before_of, lines_of, ticks_if, Came, FailedOn, HasInputs, Passed, WentOn};
 
 use crate::lines::write_happened;
 use ct_machine::{Event, Machine};
@@ -80,75 +78,49 @@ fn write_tick<M: Memory + Drop, S: Sink>(
     Ok(())
 }
 
-/// A slice of a sweep, which tells nothing, so nothing is written.
-fn make_sweep<M: Memory + Drop>(machine: &mut Machine<M>)
-    requires { machine.old.state.counts.sweeps < MOST_STEPS }
-    ensures passed { Passed machine.old machine.new (Sweep ∷ []) }
-    ensures silent { (happens machine.old.board machine.old.state Sweep).1 ≡ silence }
-{
-    machine.sweep();
-}
-
-/// A slice of a sweep, and a step.
-fn write_step<M: Memory + Drop, S: Sink>(
-    machine: &mut Machine<M>,
-    number: u32,
-    sink: &mut S,
-) -> Result<(), WriteFailed>
-    requires steps { machine.old.state.counts.steps < MOST_STEPS }
-    requires sweeps { machine.old.state.counts.sweeps < MOST_STEPS }
-    ensures { MatchResult result
-        (λ _.
-        Came machine.old machine.new number (Sweep ∷ Step ∷ []) (S.shows sink.old) (S.shows sink.new))
-        (λ _.
-        WriteFails (S.shows sink.old) (S.shows sink.new) (lines_of machine.old number (Sweep ∷ Step ∷ []))) }
-{
-    make_sweep(machine);
-    if machine.step_quietly() {
-        return Ok(());
-    }
-    write_event(machine, Event::Step, number, sink)
-}
-
-/// A step with the tick and the slice of a sweep before it.
-fn write_due<M: Memory + Drop, S: Sink>(
-    machine: &mut Machine<M>,
-    due: bool,
-    number: u32,
-    sink: &mut S,
-) -> Result<(), WriteFailed>
-    requires { HasRoom machine.old.state.counts }
-    ensures { MatchResult result
-        (λ _.
-        Came machine.old machine.new number (ticks_if due ++ Sweep ∷ Step ∷ [])
-        (S.shows sink.old) (S.shows sink.new))
-        (λ _.
-        WriteFails (S.shows sink.old) (S.shows sink.new) (lines_of machine.old number (ticks_if due ++ Sweep ∷ Step ∷ []))) }
-{
-    match write_tick(machine, due, number, sink) {
-        Ok(()) => write_step(machine, number, sink),
-        Err(failed) => Err(failed),
-    }
-}
-
-/// A step with what comes before it: bytes, a tick where it is due, and a slice of a sweep.
-pub(crate) fn write_round<M: Memory + Drop, S: Sink>(
+/// What comes before a step: bytes, and a tick where it is due.
+pub(crate) fn write_before<M: Memory + Drop, S: Sink>(
     machine: &mut Machine<M>,
     givens: &[Given],
     due: bool,
     number: u32,
     sink: &mut S,
 ) -> Result<(), WriteFailed>
-    requires room { HasRoom machine.old.state.counts }
+    requires ticks { machine.old.state.counts.ticks < MOST_STEPS }
     requires inputs { HasInputs machine.old.state givens.now }
     ensures { MatchResult result
         (λ _.
-        Came machine.old machine.new number (round_of givens.now due) (S.shows sink.old) (S.shows sink.new))
+        Came machine.old machine.new number (before_of givens.now due) (S.shows sink.old) (S.shows sink.new))
         (λ _.
-        WriteFails (S.shows sink.old) (S.shows sink.new) (lines_of machine.old number (round_of givens.now due))) }
+        WriteFails (S.shows sink.old) (S.shows sink.new) (lines_of machine.old number (before_of givens.now due))) }
 {
     match write_inputs(machine, givens, number, sink) {
-        Ok(()) => write_due(machine, due, number, sink),
+        Ok(()) => write_tick(machine, due, number, sink),
+        Err(failed) => Err(failed),
+    }
+}
+
+/// Rounds up to one that tells something, at most `most`, after so many that were made, with the lines of what the last
+/// told: how many.
+pub(crate) fn write_on<M: Memory + Drop, S: Sink>(
+    machine: &mut Machine<M>,
+    most: u32,
+    done: u32,
+    sink: &mut S,
+) -> Result<u32, WriteFailed>
+    requires some { 1 ≤ most }
+    requires few { done + most ≤ MOST_STEPS }
+    requires steps { machine.old.state.counts.steps ≡ done }
+    requires sweeps { machine.old.state.counts.sweeps ≡ done }
+    ensures { MatchResult result
+        (λ count.
+        WentOn machine.old machine.new most done count (S.shows sink.old) (S.shows sink.new))
+        (λ _.
+        FailedOn machine.old machine.new most done (S.shows sink.old) (S.shows sink.new)) }
+{
+    let ran = machine.run_on(most);
+    match write_happened(&ran.told, done + ran.count, sink) {
+        Ok(()) => Ok(ran.count),
         Err(failed) => Err(failed),
     }
 }
@@ -162,32 +134,11 @@ fn make_event<M: Memory + Drop>(machine: &mut Machine<M>, event: Event)
 }
 
 /// A tick where it is due, of which nothing is written.
-fn make_tick<M: Memory + Drop>(machine: &mut Machine<M>, due: bool)
+pub(crate) fn make_tick<M: Memory + Drop>(machine: &mut Machine<M>, due: bool)
     requires { machine.old.state.counts.ticks < MOST_STEPS }
     ensures { Passed machine.old machine.new (ticks_if due) }
 {
     if due {
         make_event(machine, Event::Tick);
     }
-}
-
-/// A slice of a sweep, and a step, of which nothing is written.
-fn make_step<M: Memory + Drop>(machine: &mut Machine<M>)
-    requires steps { machine.old.state.counts.steps < MOST_STEPS }
-    requires sweeps { machine.old.state.counts.sweeps < MOST_STEPS }
-    ensures { Passed machine.old machine.new (Sweep ∷ Step ∷ []) }
-{
-    make_sweep(machine);
-    if !machine.step_quietly() {
-        make_event(machine, Event::Step);
-    }
-}
-
-/// A step with what comes before it, of which nothing is written.
-pub(crate) fn make_round<M: Memory + Drop>(machine: &mut Machine<M>, due: bool)
-    requires { HasRoom machine.old.state.counts }
-    ensures { Passed machine.old machine.new (ticks_if due ++ Sweep ∷ Step ∷ []) }
-{
-    make_tick(machine, due);
-    make_step(machine);
 }

@@ -1,24 +1,23 @@
 //! The rounds of a run, one after another.
 
-ghost use Rattle.std.specs.Prelude.{[], ◌≡◌, ◌+◌, ◌-◌, ◌==◌, ◌≤◌, ◌⊎◌, MatchResult, if◌then◌else◌};
+ghost use Rattle.std.specs.Prelude.{[], ◌≡◌, ◌+◌, ◌==◌, ◌<◌, ◌≤◌, ◌⊎◌, MatchResult, if◌then◌else◌};
 ghost use Rattle.def_profile.specs.declared.limits.TheConstants.{MOST_STEPS};
 ghost use Rattle.def_port.specs.Writes.{WriteFails};
 ghost use Rattle.def_program.specs.Runs.{events_until, run_lines};
 ghost use Rattle.def_program.specs.Scripts.{IsPlayable};
-ghost use Rattle.ct_run.specs.Rounds.{IsBurst, IsOver, MayRun, Passed};
+ghost use Rattle.ct_run.specs.Rounds.{AreBare, IsOver, MayRun, Passed};
 
-use crate::events::{make_round, write_round};
+use crate::events::{make_tick, write_before, write_on};
 use ct_machine::Machine;
 use ct_mem::Memory;
 use ct_port::{Sink, WriteFailed};
 use ct_script::Script;
 
-/// How many steps are left to the next tick, once another one is made.
-fn after_step(left: u32, quantum: u32) -> u32
-    requires { 1 ≤ quantum }
-    ensures { result ≡ (if left == 0 then quantum else left) - 1 }
+/// How many steps are left to the next tick, past one that is due now.
+fn up_to_tick(left: u32, quantum: u32) -> u32
+    ensures { result ≡ (if left == 0 then quantum else left) }
 {
-    if left == 0 { quantum - 1 } else { left - 1 }
+    if left == 0 { quantum } else { left }
 }
 
 /// How many rounds may come before the next tick and up to the limit.
@@ -32,33 +31,14 @@ fn rounds_left(left: u32, limit: u32, done: u32) -> u32
     if left < rest { left } else { rest }
 }
 
-/// Rounds that tell nothing, so nothing is written, before the next tick and the script's next byte, and up to the limit:
-/// how many.
-fn pass_quietly<M: Memory + Drop>(
-    machine: &mut Machine<M>,
-    script: &Script,
-    limit: u32,
-    done: u32,
-    left: u32,
-) -> u32
-    requires done { done ≤ limit }
+/// How many rounds come, before the next tick and up to the limit, of which the first alone may have bytes before it.
+fn bare_rounds(script: &Script, left: u32, limit: u32, done: u32) -> u32
+    requires some { 1 ≤ left }
+    requires more { done < limit }
     requires limit { limit ≤ MOST_STEPS }
-    requires steps { machine.old.state.counts.steps ≡ done }
-    requires sweeps { machine.old.state.counts.sweeps ≡ done }
-    ensures { IsBurst machine.old machine.new script.now limit done left result }
+    ensures { AreBare script.now left limit done result }
 {
-    machine.run_quietly(script.bare_steps(done + 1, rounds_left(left, limit, done)))
-}
-
-/// The same without a script.
-fn make_quietly<M: Memory + Drop>(machine: &mut Machine<M>, limit: u32, made: u32, left: u32) -> u32
-    requires made { made ≤ limit }
-    requires limit { limit ≤ MOST_STEPS }
-    requires steps { machine.old.state.counts.steps ≡ made }
-    requires sweeps { machine.old.state.counts.sweeps ≡ made }
-    ensures { IsBurst machine.old machine.new [] limit made left result }
-{
-    machine.run_quietly(rounds_left(left, limit, made))
+    1 + script.bare_steps(done + 2, rounds_left(left, limit, done) - 1)
 }
 
 /// All rounds up to an end of the machine or the limit, with the lines of what they do.
@@ -82,16 +62,20 @@ pub(crate) fn write_rounds<M: Memory + Drop, S: Sink>(
     while done < limit {
         match machine.ended() {
             Some(_) => return Ok(()),
-            None => match write_round(machine, script.at(done + 1), left == 0, done + 1, sink) {
-                Ok(()) => {}
-                Err(failed) => return Err(failed),
-            },
+            None => {}
         }
-        left = after_step(left, quantum);
-        done += 1;
-        let quiet = pass_quietly(machine, script, limit, done, left);
-        left -= quiet;
-        done += quiet;
+        match write_before(machine, script.at(done + 1), left == 0, done + 1, sink) {
+            Ok(()) => {}
+            Err(failed) => return Err(failed),
+        }
+        left = up_to_tick(left, quantum);
+        match write_on(machine, bare_rounds(script, left, limit, done), done, sink) {
+            Ok(count) => {
+                left -= count;
+                done += count;
+            }
+            Err(failed) => return Err(failed),
+        }
     }
     Ok(())
 }
@@ -101,17 +85,17 @@ pub(crate) fn make_rounds<M: Memory + Drop>(machine: &mut Machine<M>, quantum: u
     requires { MayRun machine.old quantum limit }
     ensures { Passed machine.old machine.new (events_until machine.old [] quantum limit) }
 {
-    let mut to_tick = quantum;
-    let mut made = 0;
-    while made < limit {
+    let mut left = quantum;
+    let mut done = 0;
+    while done < limit {
         match machine.ended() {
             Some(_) => return,
-            None => make_round(machine, to_tick == 0),
+            None => {}
         }
-        to_tick = after_step(to_tick, quantum);
-        made += 1;
-        let quiet = make_quietly(machine, limit, made, to_tick);
-        to_tick -= quiet;
-        made += quiet;
+        make_tick(machine, left == 0);
+        left = up_to_tick(left, quantum);
+        let count = machine.run_on(rounds_left(left, limit, done)).count;
+        left -= count;
+        done += count;
     }
 }

@@ -1,38 +1,39 @@
-use Rattle.std.proofs.Common.{sym, subst, ◌+◌, ◌-◌}
-use Rattle.ct_run.proofs.Bursts as bursts
-use Rattle.ct_run.proofs.Going.{Going, begins, room, inputs_room, goes_on, breaks, ends_early, ends_late}
+use Rattle.std.proofs.Common.{◌+◌, ◌≤◌, arith, sym, ◌∙◌}
+use Rattle.ct_run.proofs.Onward.{before_fails, fails_left, goes_on_left, going_steps, going_sweeps}
+use Rattle.ct_run.proofs.Going.{begins, ends_early, ends_late, inputs_room, ticks_room}
 use Rattle.ct_run.proofs.rounds.write_rounds.Goals as goal
 
 pub loop-done-init : goal.loop-done-init
 loop-done-init g c = begins _ _ _ _ _ c.requires.may.booted c.requires.script
 
-pub write_round-requires-clause-room : goal.write_round-requires-clause-room
-write_round-requires-clause-room g c = room _ _ _ _ _ _ _ _ _ c.loop-done.invariant c.loop-done-test.true c.requires.may.limit
+pub write_before-requires-clause-ticks : goal.write_before-requires-clause-ticks
+write_before-requires-clause-ticks g c = ticks_room _ _ _ _ _ _ _ _ _ c.loop-done.invariant c.loop-done-test.true c.requires.may.limit
 
-pub write_round-requires-clause-inputs : goal.write_round-requires-clause-inputs
-write_round-requires-clause-inputs g c = rw c.at.ensures (inputs_room _ _ _ _ _ _ _ _ _ c.loop-done.invariant)
+pub write_before-requires-clause-inputs : goal.write_before-requires-clause-inputs
+write_before-requires-clause-inputs g c = rw c.at.ensures (inputs_room _ _ _ _ _ _ _ _ _ c.loop-done.invariant)
 
-pub pass_quietly-quiet-requires-clause-steps : goal.pass_quietly-quiet-requires-clause-steps
-pass_quietly-quiet-requires-clause-steps g c =
-    (goes_on _ _ c.write_round.new.machine _ _ _ _ _ _ _ _ c.requires.may.quantum c.loop-done.invariant c.loop-done-test.true (sym c.in-None.ensures) (rw c.at.ensures at c.in-Ok.ensures)).steps
+pub write_on-requires-clause-steps : goal.write_on-requires-clause-steps
+write_on-requires-clause-steps g c = going_steps _ _ c.write_before.new.machine _ _ _ _ _ _ _ _ c.loop-done.invariant (rw c.at.ensures at c.in-Ok.ensures)
 
-pub pass_quietly-quiet-requires-clause-sweeps : goal.pass_quietly-quiet-requires-clause-sweeps
-pass_quietly-quiet-requires-clause-sweeps g c =
-    (goes_on _ _ c.write_round.new.machine _ _ _ _ _ _ _ _ c.requires.may.quantum c.loop-done.invariant c.loop-done-test.true (sym c.in-None.ensures) (rw c.at.ensures at c.in-Ok.ensures)).sweeps
+pub write_on-requires-clause-sweeps : goal.write_on-requires-clause-sweeps
+write_on-requires-clause-sweeps g c = going_sweeps _ _ c.write_before.new.machine _ _ _ _ _ _ _ _ c.loop-done.invariant (rw c.at.ensures at c.in-Ok.ensures)
 
 pub loop-done-preserved : goal.loop-done-preserved
 loop-done-preserved g c =
-    let one : Going c.args.machine.now c.write_round.new.machine c.args.script.now c.args.quantum c.args.limit (c.loop-done.done + 1) c.after_step-left.result
-    (g.S.Sink.shows c.args.sink.now) (g.S.Sink.shows c.write_round.new.sink) =
-    rw c.after_step-left.ensures
-    (goes_on _ _ c.write_round.new.machine _ _ _ _ _ _ _ _ c.requires.may.quantum c.loop-done.invariant c.loop-done-test.true (sym c.in-None.ensures) (rw c.at.ensures at c.in-Ok.ensures)) in
-    bursts.goes_on c.pass_quietly-quiet.result _ _ c.pass_quietly-quiet.new.machine _ _ _ _ _ _ _ c.requires.may.quantum one c.pass_quietly-quiet.ensures
+    goes_on_left _ _ c.write_before.new.machine _ _ _ _ _ _ _ _ c.requires.may.quantum c.loop-done.invariant c.loop-done-test.true (sym c.in-None.ensures) (rw c.at.ensures at c.in-Ok.ensures)
+    c.up_to_tick-left.result c.in-Ok-write_on.count c.bare_rounds.result c.write_on.new.machine (g.S.Sink.shows c.write_on.new.sink) c.up_to_tick-left.ensures c.bare_rounds.ensures c.in-Ok-write_on.ensures
+
+pub returns-in-Err : goal.returns-in-Err
+returns-in-Err g c =
+    before_fails _ _ _ _ _ _ _ _ _ _ c.requires.may.quantum c.loop-done.invariant c.loop-done-test.true (sym c.in-None.ensures) (rw c.at.ensures at c.in-Err.ensures)
+
+pub returns-in-Err-write_on : goal.returns-in-Err-write_on
+returns-in-Err-write_on g c =
+    fails_left _ _ c.write_before.new.machine _ _ _ _ _ _ _ _ c.requires.may.quantum c.loop-done.invariant c.loop-done-test.true (sym c.in-None.ensures) (rw c.at.ensures at c.in-Ok.ensures)
+    c.up_to_tick-left.result c.bare_rounds.result c.write_on.new.machine (g.S.Sink.shows c.write_on.new.sink) c.up_to_tick-left.ensures c.bare_rounds.ensures c.in-Err-write_on.ensures
 
 pub returns-in-Some : goal.returns-in-Some
 returns-in-Some g c = ends_early _ _ c.in-Some.field-0 _ _ _ _ _ _ _ c.loop-done.invariant (sym c.in-Some.ensures)
-
-pub returns-in-Err : goal.returns-in-Err
-returns-in-Err g c = breaks _ _ _ _ _ _ _ _ _ _ c.requires.may.quantum c.loop-done.invariant c.loop-done-test.true (sym c.in-None.ensures) (rw c.at.ensures at c.in-Err.ensures)
 
 pub returns : goal.returns
 returns g c = ends_late _ _ _ _ _ _ _ _ _ c.loop-done.invariant c.loop-done-test.false

@@ -1,6 +1,6 @@
 use Rattle.std.proofs.Common.{sym, ◌∙◌}
 use Rattle.ct_machine.proofs.Dormant.{dormant_went}
-use Rattle.ct_machine.proofs.Rounding.{neither_goes, none_went}
+use Rattle.ct_machine.proofs.Rounding.{none_went}
 use Rattle.ct_machine.proofs.parts.Parts.run_dormant.Goals as goal
 
 pub returns-then-is_dormant-clause-went : goal.returns-then-is_dormant-clause-went
@@ -13,6 +13,3 @@ returns-then-is_dormant-clause-guarded g c =
 
 pub returns-clause-went : goal.returns-clause-went
 returns-clause-went g c = none_went c.args.self.now
-
-pub returns-clause-stops : goal.returns-clause-stops
-returns-clause-stops g c less = neither_goes c.args.self.now c.requires.loud (sym c.is_dormant.ensures ∙ c.if-is_dormant.false)

@@ -1,13 +1,10 @@
 use Rattle.std.proofs.Common.{sym, ◌∙◌}
-use Rattle.ct_machine.proofs.Quietly.{undisturbed_parts, disturbed_loud}
-use Rattle.ct_machine.proofs.Rounding.{none_went, sweep_next}
+use Rattle.ct_machine.proofs.Quietly.{undisturbed_parts}
+use Rattle.ct_machine.proofs.Rounding.{none_went}
 use Rattle.ct_machine.proofs.parts.Parts.run_quietly.Goals as goal
 
 pub returns-then-has_sweep-clause-went : goal.returns-then-has_sweep-clause-went
 returns-then-has_sweep-clause-went g c = none_went c.args.self.now
-
-pub returns-then-has_sweep-clause-stops : goal.returns-then-has_sweep-clause-stops
-returns-then-has_sweep-clause-stops g c less = sweep_next c.args.self.now (sym c.has_sweep.ensures ∙ c.if-has_sweep.true)
 
 pub run_thread_quietly-requires-clause-idle : goal.run_thread_quietly-requires-clause-idle
 run_thread_quietly-requires-clause-idle g c = sym c.has_sweep.ensures ∙ c.if-has_sweep.false
@@ -20,6 +17,3 @@ run_thread_quietly-requires-clause-runs g c = (undisturbed_parts c.args.self.now
 
 pub run_dormant-requires-clause-sweep : goal.run_dormant-requires-clause-sweep
 run_dormant-requires-clause-sweep g c = sym c.has_sweep.ensures ∙ c.if-has_sweep.false
-
-pub run_dormant-requires-clause-loud : goal.run_dormant-requires-clause-loud
-run_dormant-requires-clause-loud g c = sym (disturbed_loud c.args.self.now c.in-None.ensures)

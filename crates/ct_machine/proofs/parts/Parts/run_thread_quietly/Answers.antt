@@ -1,5 +1,4 @@
-use Rattle.std.proofs.Common.{sym, ◌∙◌}
-use Rattle.ct_machine.proofs.Rounding.{starts, has_room, goes_on, still_went, still_guarded, loud_next, all_went}
+use Rattle.ct_machine.proofs.Rounding.{starts, has_room, goes_on, still_went, still_guarded, all_went}
 use Rattle.ct_machine.proofs.parts.Parts.run_thread_quietly.Goals as goal
 
 pub loop-made-init : goal.loop-made-init
@@ -26,18 +25,13 @@ round_quietly-requires-clause-sweeps g c = has_room _ _ _ _ _ c.loop-made.invari
 pub loop-made-preserved : goal.loop-made-preserved
 loop-made-preserved g c = (
   goes_on c.args.self.now c.loop-made.self c.round_quietly.new.self c.args.t c.args.most c.loop-made.made c.loop-made.invariant.0 c.loop-made-test.true
-      (sym c.round_quietly.ensures.when ∙ c.if-not-round_quietly.false) (c.round_quietly.ensures.went c.if-not-round_quietly.false),
+      (c.round_quietly.ensures.went c.if-not-round_quietly.false),
   c.round_quietly.ensures.window,
 )
 
 pub returns-then-not-round_quietly-clause-went : goal.returns-then-not-round_quietly-clause-went
 returns-then-not-round_quietly-clause-went g c =
     still_went c.args.self.now c.loop-made.self c.round_quietly.new.self c.args.t c.args.most c.loop-made.made c.loop-made.invariant.0
-    (c.round_quietly.ensures.same c.if-not-round_quietly.true) c.round_quietly.ensures.board
-
-pub returns-then-not-round_quietly-clause-stops : goal.returns-then-not-round_quietly-clause-stops
-returns-then-not-round_quietly-clause-stops g c less =
-    loud_next c.loop-made.self c.round_quietly.new.self c.args.t (sym c.round_quietly.ensures.when ∙ c.if-not-round_quietly.true) c.loop-made.invariant.0.runs
     (c.round_quietly.ensures.same c.if-not-round_quietly.true) c.round_quietly.ensures.board
 
 pub returns-then-not-round_quietly-clause-guarded : goal.returns-then-not-round_quietly-clause-guarded

@@ -4,11 +4,10 @@ use Rattle.def_step.specs.declared.Event.TheVariants.{Step}
 use Rattle.def_step.specs.Events.{happens, end_of, one_more_step}
 use Rattle.def_machine.specs.Platform.{MachineRow}
 use Rattle.ct_engine.specs.Seen.{Seen}
-use Rattle.ct_machine.specs.Going.{steps_quietly}
 use Rattle.ct_machine.specs.Parts.{state_by}
 use Rattle.ct_machine.specs.Quiet.{has_sweep, with_counts, IsThreadWindow}
 use Rattle.ct_machine.proofs.Opened.{is_open}
-use Rattle.ct_machine.proofs.Quietly.{kept_after, quietly_is, when_runs, sweep_stays, none_ended, window_in, window_out}
+use Rattle.ct_machine.proofs.Quietly.{kept_after, quietly_is, sweep_stays, none_ended, window_in, window_out}
 use Rattle.ct_machine.proofs.parts.Parts.thread_goes_quietly.Goals as goal
 
 -- as the machine is seen, and so as it stands
@@ -38,12 +37,6 @@ invariant_of-self g c =
     let i = c.self.inside in
     kept_after i.plan i.engine c.execute_quietly.new.engine i.sched i.bus i.pending i.time i.counts c.args.t c.self.invariant.0 c.self.invariant.1 (runs_now _ c.args.self.now c.args.t c.self.view_is c.requires.runs)
     c.execute_quietly.ensures.stays c.execute_quietly.result (λ told. c.execute_quietly.ensures.quiet told i.plan.entries i.bus i.time) c.execute_quietly.ensures.same
-
-pub returns-clause-when : goal.returns-clause-when
-returns-clause-when g c =
-    let i = c.self.inside in
-    when_runs i.plan i.engine i.sched i.bus i.pending i.time i.counts c.args.t c.execute_quietly.result c.self.invariant.0 (none_now _ c.args.self.now c.self.view_is c.requires.pending) (runs_now _ c.args.self.now c.args.t c.self.view_is c.requires.runs) c.execute_quietly.ensures.when
-    ∙ ap steps_quietly c.self.view_is
 
 pub returns-clause-is : goal.returns-clause-is
 returns-clause-is g c told counts =

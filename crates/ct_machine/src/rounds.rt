@@ -1,0 +1,124 @@
+//! Rounds, each a slice of a sweep and a step, one after another up to one that tells something.
+
+ghost use Rattle.std.specs.Prelude.{◌≡◌, ◌+◌, ◌≤◌, ◌<◌, ◌||◌, is_some, None, true, false};
+ghost use Rattle.def_profile.specs.declared.limits.TheConstants.{MOST_STEPS};
+ghost use Rattle.def_events.specs.Guarded.{Guarded};
+ghost use Rattle.def_step.specs.Events.{end_of};
+ghost use Rattle.ct_machine.specs.Going.{silence};
+ghost use Rattle.ct_machine.specs.Onward.{tells, RanOn};
+
+use crate::parts::Parts;
+use ct_entry::Happened;
+use ct_mem::Memory;
+
+/// So many rounds, and what the last step told; no step before it told anything.
+#[derive(Clone, Copy, Drop)]
+pub struct Rounds {
+    pub count: u32,
+    pub told: Happened,
+}
+
+/// What an event tells that tells nothing.
+pub(crate) fn nothing() -> Happened
+    ensures { result ≡ silence }
+{
+    Happened {
+        deed: None,
+        off: None,
+    }
+}
+
+/// So many rounds that told nothing.
+fn silent(count: u32) -> Rounds
+    ensures count { result.count ≡ count }
+    ensures told { result.told ≡ silence }
+{
+    Rounds {
+        count,
+        told: nothing(),
+    }
+}
+
+/// Whether a deed is told, or a span with interrupts off.
+fn tells(told: &Happened) -> bool
+    ensures { result ≡ tells told.now }
+{
+    told.deed.is_some() || told.off.is_some()
+}
+
+impl<M: Memory + Drop> Parts<M> {
+    /// One round: what its step tells.
+    fn round(&mut self) -> Happened
+        requires guarded { Guarded self.old }
+        requires steps { self.old.state.counts.steps < MOST_STEPS }
+        requires sweeps { self.old.state.counts.sweeps < MOST_STEPS }
+        ensures ran { RanOn self.old self.new 1 result }
+        ensures guarded { Guarded self.new }
+    {
+        self.sweep();
+        if self.step_quietly() {
+            return nothing();
+        }
+        self.step()
+    }
+
+    /// Whether the machine has come to its end after so many rounds, of which there are some.
+    fn is_over(&self, made: u32) -> bool
+        ensures some { result ≡ true → 0 < made }
+        ensures going { result ≡ false → 0 < made → end_of self.now.state ≡ None }
+    {
+        made > 0 && self.ended().is_some()
+    }
+
+    /// Quiet rounds, and one more, which may tell something: at least one, and at most `most`.
+    fn rounds_and_one(&mut self, most: u32) -> Rounds
+        requires guarded { Guarded self.old }
+        requires some { 1 ≤ most }
+        requires steps { self.old.state.counts.steps + most ≤ MOST_STEPS }
+        requires sweeps { self.old.state.counts.sweeps + most ≤ MOST_STEPS }
+        ensures some { 1 ≤ result.count }
+        ensures most { result.count ≤ most }
+        ensures ran { RanOn self.old self.new result.count result.told }
+        ensures guarded { Guarded self.new }
+    {
+        let count = self.run_quietly(most);
+        if count == most {
+            return silent(count);
+        }
+        if self.is_over(count) {
+            return silent(count);
+        }
+        let told = self.round();
+        Rounds {
+            count: count + 1,
+            told,
+        }
+    }
+
+    /// Rounds up to one that tells something, that leaves the machine at its end, or that is the last that is asked for.
+    pub(crate) fn run_on(&mut self, most: u32) -> Rounds
+        requires guarded { Guarded self.old }
+        requires some { 1 ≤ most }
+        requires steps { self.old.state.counts.steps + most ≤ MOST_STEPS }
+        requires sweeps { self.old.state.counts.sweeps + most ≤ MOST_STEPS }
+        ensures some { 1 ≤ result.count }
+        ensures most { result.count ≤ most }
+        ensures ran { RanOn self.old self.new result.count result.told }
+        ensures stops { result.count < most
+            → (tells result.told || is_some (end_of self.new.state)) ≡ true }
+        ensures guarded { Guarded self.new }
+    {
+        let mut count = 0;
+        while count < most {
+            let more = self.rounds_and_one(most - count);
+            count += more.count;
+            if tells(&more.told) || self.ended().is_some() {
+                return Rounds {
+                    count,
+                    told: more.told,
+                };
+            }
+        }
+        silent(count)
+    }
+}
