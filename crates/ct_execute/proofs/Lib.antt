@@ -1,6 +1,6 @@
 pub mod Ends
 pub mod Executed
 pub mod Opens
-pub mod Quietly
+pub mod Carrying
 pub mod Reaching
 pub mod Windows

@@ -14,5 +14,5 @@ mod ran;
 
 pub use executing::execute;
 pub use laws::{executed_decided, running_opened};
-pub use quiet::execute_quietly;
+pub use quiet::{Quietly, execute_quietly};
 pub use ran::{ActBy, Ran};

@@ -1,6 +1,6 @@
 //! One instruction that does nothing that is told, on the running thread where it stands.
 
-ghost use Rattle.std.specs.Prelude.{ℕ, ◌≡◌, ◌<◌, ◌%◌, ◌==◌, Some, IfSome, true, false, is_some};
+ghost use Rattle.std.specs.Prelude.{ℕ, ◌≡◌, ◌<◌, ◌%◌, ◌==◌, Some, IfSome, true, false, if◌then◌else◌};
 ghost use Rattle.ct_entry.specs.Listed.{Listed};
 ghost use Rattle.def_instr.specs.declared.Instr.{Instr};
 ghost use Rattle.def_instr.specs.declared.Instr.TheVariants.{CJalr};
@@ -15,7 +15,8 @@ ghost use Rattle.ct_engine.specs.Seen.{thread};
 ghost use Rattle.ct_engine.specs.Steps.{HasWindow};
 ghost use Rattle.ct_execute.specs.Deciding.{decision, Stays, WentQuietly};
 ghost use Rattle.ct_execute.specs.Opening.{IsOpen};
-ghost use Rattle.ct_execute.specs.Quiet.{accesses_ram, goes_quietly, is_posture, jump_by, jump_offset, jumps_quietly, jumps_through, linked_to, Carried, CarriesQuietly, KeepsWindows, LeadsTo, MayCarry, Says};
+ghost use Rattle.ct_execute.specs.declared.quiet.Quietly.TheVariants.{Loud, Turned, Went};
+ghost use Rattle.ct_execute.specs.Quiet.{is_posture, jump_by, jump_offset, linked_to, stays_in, went, Carried, CarriesQuietly, KeepsWindows, LeadsTo, MayCarry, Says};
 
 use ct_alu::alu;
 use ct_cap::{Live, Posture, link, turn};
@@ -29,43 +30,46 @@ use def_instr::Instr;
 use def_profile::seals::SENTRY_DISABLE;
 use def_step::Class;
 
+/// What became of an instruction that was to be carried out quietly: it wasn't, and nothing changed (`Loud`); it was, and
+/// a window of the thread is one of it still (`Went`); or it was, and the program counter capability may be another
+/// (`Turned`).
+#[derive(Clone, Copy, PartialEq, Eq, Drop)]
+pub enum Quietly {
+    Loud,
+    Went,
+    Turned,
+}
+
 /// What stands at the running thread's program counter is carried out where it is an instruction of integers, of
-/// capabilities, a branch, a jump, or a load or a store of RAM, no check fails, and the posture stays; else `false`,
-/// and nothing changes. `true` says that this is the written step: the thread goes on, nothing is told, and devices and
-/// posture stay as they are.
+/// capabilities, a branch, a jump, or a load or a store of RAM, no check fails, and the posture stays; else `Loud`, and
+/// nothing changes. Otherwise this is the written step: the thread goes on, nothing is told, and devices and posture stay
+/// as they are.
 ///
-/// So it is `true` exactly where each check of the fetch passes, a whole word of RAM past the native routines stands
-/// there, and that word is an instruction of integers or of capabilities; or a branch, taken or not, or a jump by an
-/// offset, with a link or without, which leads to a multiple of 4; or a jump by a register that no check refuses, that
-/// goes through no sentry that disables interrupts, and that leaves the posture that was; or a load or a store that no
-/// check refuses, and that lies in RAM. `execute` does all that this leaves.
+/// Which of these instructions it leaves, for `execute` to carry out, is for speed alone.
 ///
 /// Conditions: the thread runs, nothing is hidden that it may reach, RAM begins at a multiple of 16, and the window is
-/// one of the thread's program counter capability, as it is after the step too: a jump by a register makes it anew.
-/// Where the program counter is in the window a fetch asks for the tag and for a multiple of 4 alone. Window and cache
-/// are for speed alone: by the empty window, or with each word decoded anew, the step is the same.
+/// one of the thread's program counter capability. Where the program counter is in the window a fetch asks for the tag
+/// and for a multiple of 4 alone. Window and cache are for speed alone: by the empty window, or with each word decoded
+/// anew, the step is the same.
 #[inline(always)]
 pub fn execute_quietly<M: Memory + Drop>(
     engine: &mut Engine<M>,
     t: u32,
     decoded: &mut Decoded,
-    window: &mut Window,
-) -> bool
+    window: Window,
+) -> Quietly
     requires runs { engine.old.running ≡ Some t }
     requires opened { IsOpen engine.old t }
     requires even { engine.old.region.ram % 16 ≡ 0 }
-    requires window { HasWindow engine.old t window.old }
-    ensures when { result
-        ≡ goes_quietly (thread engine.old t) engine.old.region.ram
-        engine.old.granules }
-    ensures quiet { result ≡ true → (e : Listed) (k : DeviceStates) (time : ℕ)
+    requires window { HasWindow engine.old t window }
+    ensures quiet { went result ≡ true → (e : Listed) (k : DeviceStates) (time : ℕ)
         → WentQuietly (decision e engine.old t k time) t engine.old k
         engine.new }
-    ensures same { result ≡ false → engine.new ≡ engine.old }
+    ensures same { went result ≡ false → engine.new ≡ engine.old }
     ensures stays { Stays engine.old engine.new }
-    ensures window { HasWindow engine.new t window.new }
+    ensures window { stays_in result ≡ true → HasWindow engine.new t window }
 {
-    match engine.fetch(t, *window) {
+    match engine.fetch(t, window) {
         Some(word) => {
             let at = engine.address(t);
             if decoded.holds(at, word) {
@@ -74,7 +78,7 @@ pub fn execute_quietly<M: Memory + Drop>(
             decoded.keep(at, word);
             execute_anew(engine, t, decoded.reading(at), window)
         }
-        None => false,
+        None => Quietly::Loud,
     }
 }
 
@@ -84,80 +88,94 @@ fn execute_anew<M: Memory + Drop>(
     engine: &mut Engine<M>,
     t: u32,
     reading: &Reading,
-    window: &mut Window,
-) -> bool
-    requires { MayCarry engine.old t reading.now window.old }
-    ensures { Carried engine.old t reading.now window.new result engine.new }
+    window: Window,
+) -> Quietly
+    requires { MayCarry engine.old t reading.now window }
+    ensures { Carried engine.old t reading.now window result engine.new }
 {
     execute_class(engine, t, reading, window)
 }
 
-/// What was read is carried out where it is such an instruction; else `false`, and nothing changes.
+/// What was read is carried out where it is such an instruction; else `Loud`, and nothing changes.
 #[inline(always)]
 fn execute_class<M: Memory + Drop>(
     engine: &mut Engine<M>,
     t: u32,
     reading: &Reading,
-    window: &mut Window,
-) -> bool
-    requires { MayCarry engine.old t reading.now window.old }
-    ensures { Carried engine.old t reading.now window.new result engine.new }
+    window: Window,
+) -> Quietly
+    requires { MayCarry engine.old t reading.now window }
+    ensures { Carried engine.old t reading.now window result engine.new }
 {
     match &reading.instruction {
         Some(instruction) => match reading.class {
             Class::Integer => {
                 let x = engine.address_in(t, reading.operands.first);
                 let y = engine.address_in(t, reading.operands.second);
-                engine.put_number(t, reading.operands.to, alu(*instruction, x, y), *window);
-                true
+                engine.put_number(t, reading.operands.to, alu(*instruction, x, y), window);
+                Quietly::Went
             }
             Class::Jump => jump(engine, t, reading, *instruction, window),
-            Class::Access => access(engine, t, reading, *window),
+            Class::Access => went_if(access(engine, t, reading, window)),
             Class::Capability => {
-                derive(engine, t, reading, *instruction, *window);
-                true
+                derive(engine, t, reading, *instruction, window);
+                Quietly::Went
             }
-            _ => false,
+            _ => Quietly::Loud,
         },
-        None => false,
+        None => Quietly::Loud,
     }
 }
 
+/// It went, and the window is one still; or it was left.
+#[inline(always)]
+fn went_if(went: bool) -> Quietly
+    ensures { result ≡ (if went then Went else Loud) }
+{
+    if went { Quietly::Went } else { Quietly::Loud }
+}
+
 /// A branch, taken or not, or `jal`, where it leads to a multiple of 4; or a jump by a register, where no check refuses
-/// it and the posture stays; else `false`, and nothing changes.
+/// it and the posture stays; else `Loud`, and nothing changes.
 #[inline(always)]
 fn jump<M: Memory + Drop>(
     engine: &mut Engine<M>,
     t: u32,
     reading: &Reading,
     instruction: Instr,
-    window: &mut Window,
-) -> bool
+    window: Window,
+) -> Quietly
     requires runs { engine.old.running ≡ Some t }
     requires says { Says reading.now instruction }
     requires registers { AreRegisters reading.now.operands }
     requires class { class_of instruction ≡ kinds.Jump }
-    requires window { HasWindow engine.old t window.old }
-    ensures when { result ≡ jumps_quietly (thread engine.old t) instruction }
-    ensures quiet { result ≡ true
+    requires window { HasWindow engine.old t window }
+    ensures quiet { went result ≡ true
         → CarriesQuietly engine.old t instruction engine.new }
-    ensures same { result ≡ false → engine.new ≡ engine.old }
+    ensures same { went result ≡ false → engine.new ≡ engine.old }
     ensures stays { Stays engine.old engine.new }
-    ensures window { HasWindow engine.new t window.new }
+    ensures window { stays_in result ≡ true → HasWindow engine.new t window }
 {
     match instruction {
         Instr::CJalr { rd, rs1, immediate } => {
-            jump_through(engine, t, rd, rs1, immediate, window)
+            turned_if(jump_through(engine, t, rd, rs1, immediate))
         }
         _ => match moved_by(engine, t, reading, instruction) {
-            Some(by) => go_by(engine, t, by, reading.operands.to),
-            None => false,
+            Some(by) => went_if(go_by(engine, t, by, reading.operands.to)),
+            None => Quietly::Loud,
         },
     }
 }
 
-/// A jump by a register, where no check refuses it and the posture stays; else `false`, and nothing changes. The window
-/// is made anew, since the program counter capability is another.
+/// It went, and the program counter capability may be another; or it was left.
+#[inline(always)]
+fn turned_if(went: bool) -> Quietly
+    ensures { result ≡ (if went then Turned else Loud) }
+{
+    if went { Quietly::Turned } else { Quietly::Loud }
+}
+
+/// A jump by a register, where no check refuses it and the posture stays; else `false`, and nothing changes.
 #[inline(never)]
 fn jump_through<M: Memory + Drop>(
     engine: &mut Engine<M>,
@@ -165,26 +183,20 @@ fn jump_through<M: Memory + Drop>(
     rd: u32,
     rs1: u32,
     immediate: u32,
-    window: &mut Window,
 ) -> bool
     requires runs { engine.old.running ≡ Some t }
     requires to { rd < 16 }
     requires at { rs1 < 16 }
-    requires window { HasWindow engine.old t window.old }
-    ensures when { result
-        ≡ jumps_quietly (thread engine.old t) (CJalr rd rs1 immediate) }
     ensures quiet { result ≡ true
         → CarriesQuietly engine.old t (CJalr rd rs1 immediate) engine.new }
     ensures same { result ≡ false → engine.new ≡ engine.old }
     ensures stays { Stays engine.old engine.new }
-    ensures window { HasWindow engine.new t window.new }
 {
     let x = engine.register(t, rs1);
     match led(rd, rs1, x, immediate, engine.pcc(t), engine.posture(t)) {
         Some(went) => {
             let link = went.link.unwrap_or(Live::integer(0));
             engine.jump_to(t, went.pcc, went.posture, rd, link);
-            *window = engine.window(t);
             true
         }
         None => false,
@@ -195,8 +207,7 @@ fn jump_through<M: Memory + Drop>(
 /// and it leaves the posture that was, whatever export x's root names; else `None`.
 #[inline(always)]
 fn led(to: u32, at: u32, x: Live, immediate: u32, pcc: Live, before: Posture) -> Option<Flow>
-    ensures when { is_some result ≡ jumps_through to at x immediate before }
-    ensures led { IfSome result (λ f. LeadsTo to at x immediate pcc before f) }
+    ensures { IfSome result (λ f. LeadsTo to at x immediate pcc before f) }
 {
     if disables(&x) {
         return None;
@@ -284,7 +295,7 @@ fn branch<M: Memory + Drop>(
 fn go_by<M: Memory + Drop>(engine: &mut Engine<M>, t: u32, by: u32, to: u32) -> bool
     requires runs { engine.old.running ≡ Some t }
     requires to { to < 16 }
-    ensures whole { result ≡ (target_at (thread engine.old t).pcc by % 4 == 0) }
+    ensures whole { result ≡ true → (target_at (thread engine.old t).pcc by % 4 == 0) ≡ true }
     ensures gone { result ≡ true → engine.new
         ≡ linked_to engine.old t (target_at (thread engine.old t).pcc by) to }
     ensures same { result ≡ false → engine.new ≡ engine.old }
@@ -330,9 +341,6 @@ fn access<M: Memory + Drop>(
     requires says { (i : Instr) × Says reading.now i × (class_of i ≡ kinds.Access) }
     requires registers { AreRegisters reading.now.operands }
     requires window { HasWindow engine.old t window }
-    ensures when { result
-        ≡ accesses_ram (thread engine.old t) engine.old.region.ram
-        engine.old.granules reading.now.access reading.now.operands }
     ensures quiet { result ≡ true → (i : Instr) → Says reading.now i
         → class_of i ≡ kinds.Access → CarriesQuietly engine.old t i engine.new }
     ensures same { result ≡ false → engine.new ≡ engine.old }

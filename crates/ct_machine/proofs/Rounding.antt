@@ -42,6 +42,11 @@ told_nothing s new is = ap with_silence is
 
 -- ---- one round
 
+-- what is true isn't false
+pub unfinished : (a b : Bool) → a ≡ b → a ≡ true → b ≡ false → ⊥
+unfinished true b same is none = absurd (let clash : true ≡ false = same ∙ none in cc)
+unfinished false b same is none = absurd (cc)
+
 -- the step that was taken, counted with the slice before it
 pub round_is : (m n mid counted : MachineRow) → (one_more_step (with_counts n.state (one_more_sweep m.state).counts), silence) ≡ happens m.board (with_counts m.state (one_more_sweep m.state).counts) Step
     → StaysAside m n → mid.state ≡ one_more_sweep n.state → mid.board ≡ n.board → counted.state ≡ one_more_step mid.state → counted.board ≡ mid.board → end_of m.state ≡ None

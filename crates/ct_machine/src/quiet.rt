@@ -6,13 +6,22 @@ ghost use Rattle.def_events.specs.Guarded.{Guarded};
 ghost use Rattle.def_machine.specs.State.{Counts};
 ghost use Rattle.def_step.specs.Events.{end_of, happens, is_lawful, one_more_step};
 ghost use Rattle.def_step.specs.declared.Event.TheVariants as event;
+ghost use Rattle.ct_execute.specs.Quiet.{stays_in, went};
 ghost use Rattle.ct_machine.specs.Going.{silence};
 ghost use Rattle.ct_machine.specs.Quiet.{has_sweep, is_dormant, none_is_ready, undisturbed, with_counts, with_rounds, IsThreadWindow, StaysAside, WentRound, WentRounds};
 
 use crate::parts::Parts;
-use ct_execute::execute_quietly;
+use ct_execute::{Quietly, execute_quietly};
 use ct_mem::Memory;
 use ct_threads::Window;
+
+/// Whether an instruction was carried out.
+#[inline(always)]
+fn is_done(how: Quietly) -> bool
+    ensures { result ≡ went how }
+{
+    !matches!(how, Quietly::Loud)
+}
 
 impl<M: Memory + Drop> Parts<M> {
     /// The running thread, where no tick is pending.
@@ -35,21 +44,20 @@ impl<M: Memory + Drop> Parts<M> {
     }
 
     /// A step of the running thread that isn't counted yet, where no tick is pending and `execute_quietly` carries its
-    /// instruction out: `true`, and the step tells nothing, whatever was counted. Else `false`, and nothing changes. The
-    /// window stays one of the thread.
+    /// instruction out, and the step tells nothing, whatever was counted; else nothing changes.
     #[inline(always)]
-    fn thread_goes_quietly(&mut self, t: u32, window: &mut Window) -> bool
+    fn thread_goes_quietly(&mut self, t: u32, window: Window) -> Quietly
         requires guarded { Guarded self.old }
         requires pending { self.old.state.pending ≡ false }
         requires runs { self.old.state.running ≡ Some t }
-        requires window { IsThreadWindow self.old t window.old }
-        ensures is { result ≡ true → (c : Counts)
+        requires window { IsThreadWindow self.old t window }
+        ensures is { went result ≡ true → (c : Counts)
             → (one_more_step (with_counts self.new.state c), silence)
             ≡ happens self.old.board (with_counts self.old.state c) event.Step }
-        ensures same { result ≡ false → self.new.state ≡ self.old.state }
+        ensures same { went result ≡ false → self.new.state ≡ self.old.state }
         ensures aside { StaysAside self.old self.new }
         ensures going { end_of self.old.state ≡ None }
-        ensures window { IsThreadWindow self.new t window.new }
+        ensures window { stays_in result ≡ true → IsThreadWindow self.new t window }
     {
         execute_quietly(&mut self.engine, t, &mut self.decoded, window)
     }
@@ -67,8 +75,8 @@ impl<M: Memory + Drop> Parts<M> {
     {
         match self.undisturbed() {
             Some(t) => {
-                let mut window = Window::empty();
-                self.thread_goes_quietly(t, &mut window)
+                let window = Window::empty();
+                is_done(self.thread_goes_quietly(t, window))
             }
             None => false,
         }
@@ -101,30 +109,44 @@ impl<M: Memory + Drop> Parts<M> {
     }
 
     /// A slice of a sweep that has no work, and a step of the running thread, where no tick is pending and that is
-    /// carried out quietly: `true`. Else `false`, and nothing changes. The window stays one of the thread.
+    /// carried out quietly; else nothing changes.
     #[inline(always)]
-    fn round_quietly(&mut self, t: u32, window: &mut Window) -> bool
+    fn round_quietly(&mut self, t: u32, window: Window) -> Quietly
         requires guarded { Guarded self.old }
         requires pending { self.old.state.pending ≡ false }
         requires runs { self.old.state.running ≡ Some t }
-        requires window { IsThreadWindow self.old t window.old }
+        requires window { IsThreadWindow self.old t window }
         requires steps { self.old.state.counts.steps < MOST_STEPS }
         requires sweeps { self.old.state.counts.sweeps < MOST_STEPS }
-        ensures went { result ≡ true → WentRound self.old self.new }
-        ensures same { result ≡ false → self.new.state ≡ self.old.state }
+        ensures went { went result ≡ true → WentRound self.old self.new }
+        ensures same { went result ≡ false → self.new.state ≡ self.old.state }
         ensures board { self.new.board ≡ self.old.board }
-        ensures window { IsThreadWindow self.new t window.new }
+        ensures window { stays_in result ≡ true → IsThreadWindow self.new t window }
     {
-        if !self.thread_goes_quietly(t, window) {
-            return false;
+        let how = self.thread_goes_quietly(t, window);
+        if is_done(how) {
+            self.count_sweep();
+            self.count_step();
         }
-        self.count_sweep();
-        self.count_step();
-        true
+        how
     }
 
-    /// Such rounds as long as they go so, at most `most`: how many. A quiet step leaves the thread running, no
-    /// tick pending and no sweep with work, so these are looked at once, and where its code lies is asked once, and again
+    /// The window after an instruction that was carried out so: made anew where the program counter capability may be
+    /// another.
+    #[inline(always)]
+    fn window_after(&self, t: u32, how: Quietly, window: Window) -> Window
+        requires runs { self.now.state.running ≡ Some t }
+        requires window { stays_in how ≡ true → IsThreadWindow self.now t window }
+        ensures { IsThreadWindow self.now t result }
+    {
+        match how {
+            Quietly::Turned => self.window(t),
+            _ => window,
+        }
+    }
+
+    /// Such rounds as long as they go so, at most `most`: how many. A quiet step leaves the thread running, no tick
+    /// pending and no sweep with work, so these are looked at once, and where its code lies is asked once, and again
     /// where a jump by a register leads elsewhere.
     #[inline(always)]
     fn run_thread_quietly(&mut self, t: u32, most: u32) -> u32
@@ -140,9 +162,11 @@ impl<M: Memory + Drop> Parts<M> {
     {
         let mut window = self.window(t);
         for made in 0..most {
-            if !self.round_quietly(t, &mut window) {
+            let how = self.round_quietly(t, window);
+            if !is_done(how) {
                 return made;
             }
+            window = self.window_after(t, how, window);
         }
         most
     }

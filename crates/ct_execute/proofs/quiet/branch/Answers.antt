@@ -1,6 +1,6 @@
 use Rattle.std.proofs.Common.{Bool, ap, sym, if◌then◌else◌}
 use Rattle.ct_engine.specs.Seen.{thread}
-use Rattle.ct_execute.proofs.Quietly.{moved_so}
+use Rattle.ct_execute.proofs.Carrying.{moved_so}
 use Rattle.ct_execute.proofs.quiet.branch.Goals as goal
 
 pub returns-then-takes : goal.returns-then-takes

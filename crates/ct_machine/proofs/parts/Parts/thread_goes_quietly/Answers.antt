@@ -4,6 +4,7 @@ use Rattle.def_step.specs.declared.Event.TheVariants.{Step}
 use Rattle.def_step.specs.Events.{happens, end_of, one_more_step}
 use Rattle.def_machine.specs.Platform.{MachineRow}
 use Rattle.ct_engine.specs.Seen.{Seen}
+use Rattle.ct_execute.specs.Quiet.{went}
 use Rattle.ct_machine.specs.Parts.{state_by}
 use Rattle.ct_machine.specs.Quiet.{has_sweep, with_counts, IsThreadWindow}
 use Rattle.ct_machine.proofs.Opened.{is_open}
@@ -29,14 +30,14 @@ execute_quietly-requires-clause-opened g c =
 pub execute_quietly-requires-clause-window : goal.execute_quietly-requires-clause-window
 execute_quietly-requires-clause-window g c =
     let i = c.self.inside in
-    window_in i.plan i.engine i.sched i.bus i.pending i.time i.counts c.args.t c.args.window.now c.self.invariant.0
-    (subst (λ (m : MachineRow). IsThreadWindow m c.args.t c.args.window.now) (sym c.self.view_is) c.requires.window)
+    window_in i.plan i.engine i.sched i.bus i.pending i.time i.counts c.args.t c.args.window c.self.invariant.0
+    (subst (λ (m : MachineRow). IsThreadWindow m c.args.t c.args.window) (sym c.self.view_is) c.requires.window)
 
 pub invariant_of-self : goal.invariant_of-self
 invariant_of-self g c =
     let i = c.self.inside in
     kept_after i.plan i.engine c.execute_quietly.new.engine i.sched i.bus i.pending i.time i.counts c.args.t c.self.invariant.0 c.self.invariant.1 (runs_now _ c.args.self.now c.args.t c.self.view_is c.requires.runs)
-    c.execute_quietly.ensures.stays c.execute_quietly.result (λ told. c.execute_quietly.ensures.quiet told i.plan.entries i.bus i.time) c.execute_quietly.ensures.same
+    c.execute_quietly.ensures.stays (went c.execute_quietly.result) (λ told. c.execute_quietly.ensures.quiet told i.plan.entries i.bus i.time) c.execute_quietly.ensures.same
 
 pub returns-clause-is : goal.returns-clause-is
 returns-clause-is g c told counts =
@@ -69,8 +70,8 @@ returns-clause-going g c =
     subst (λ (m : MachineRow). end_of m.state ≡ None) c.self.view_is (none_ended i.plan i.engine i.sched i.pending i.bus.states i.time i.counts c.args.t c.self.invariant.0 (runs_now _ c.args.self.now c.args.t c.self.view_is c.requires.runs))
 
 pub returns-clause-window : goal.returns-clause-window
-returns-clause-window g c =
+returns-clause-window g c still =
     let i = c.self.inside in
     let kept = kept_after i.plan i.engine c.execute_quietly.new.engine i.sched i.bus i.pending i.time i.counts c.args.t c.self.invariant.0 c.self.invariant.1 (runs_now _ c.args.self.now c.args.t c.self.view_is c.requires.runs)
-    c.execute_quietly.ensures.stays c.execute_quietly.result (λ told. c.execute_quietly.ensures.quiet told i.plan.entries i.bus i.time) c.execute_quietly.ensures.same in
-    window_out i.plan c.execute_quietly.new.engine i.sched i.bus i.pending i.time i.counts c.args.t c.execute_quietly.new.window kept.0 c.execute_quietly.ensures.window
+    c.execute_quietly.ensures.stays (went c.execute_quietly.result) (λ told. c.execute_quietly.ensures.quiet told i.plan.entries i.bus i.time) c.execute_quietly.ensures.same in
+    window_out i.plan c.execute_quietly.new.engine i.sched i.bus i.pending i.time i.counts c.args.t c.args.window kept.0 (c.execute_quietly.ensures.window still)

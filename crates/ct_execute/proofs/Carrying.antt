@@ -1,5 +1,5 @@
 -- What is carried out quietly: what a reading says, a fetch that passes, and branches and jumps whose target is whole.
-use Rattle.std.proofs.Common.{ℕ, ◌≡◌, ◌%◌, ◌==◌, ◌&&◌, Bool, true, false, Option, Some, None, IfSome, is_none, unwrap_or, Result, Ok, Err, not, refl, sym, ap, ◌∙◌, subst, if◌then◌else◌}
+use Rattle.std.proofs.Common.{ℕ, ◌≡◌, ◌%◌, ◌==◌, ◌&&◌, Bool, true, false, Option, Some, None, IsSomeAnd, is_none, unwrap_or, Result, Ok, Err, not, refl, sym, ap, ◌∙◌, subst, if◌then◌else◌}
 use Rattle.std.proofs.lemmas.Bool.{and_parts, eqb-true}
 use Rattle.ct_entry.specs.Listed.{Listed}
 use Rattle.def_words.specs.declared.Cap.{Cap}
@@ -28,7 +28,9 @@ use Rattle.ct_threads.specs.Steps.{is_word_of_ram, finds_word}
 use Rattle.ct_engine.specs.Seen.{Seen, thread, after_jump}
 use Rattle.ct_engine.specs.Steps.{space_in, next_in}
 use Rattle.ct_execute.specs.Deciding.{decision, decide_fetched, decide_next, named_in, WentQuietly}
-use Rattle.ct_execute.specs.Quiet.{offset_of, address_in, takes, jal_offset, jump_by, jump_offset, is_posture, keeps_posture, jumps_quietly, jumps_through, jumps_whole, linked_to, LeadsTo, goes_at, goes_quietly, Says, CarriesQuietly}
+use Rattle.ct_execute.specs.declared.quiet.Quietly.{Quietly}
+use Rattle.ct_execute.specs.declared.quiet.Quietly.TheVariants.{Loud, Turned, Went}
+use Rattle.ct_execute.specs.Quiet.{offset_of, address_in, takes, jal_offset, jump_by, jump_offset, is_posture, linked_to, went, LeadsTo, Says, CarriesQuietly}
 
 -- ---- what a reading says
 
@@ -53,50 +55,22 @@ passes : (e : Listed) (s : Seen) (t : ℕ) (k : DeviceStates) (time : ℕ) (new 
 passes e s t k time new None none h = h
 passes e s t k time new (Some why) none h = absurd (cc)
 
-fetched_quietly : (e : Listed) (s : Seen) (t : ℕ) (k : DeviceStates) (time : ℕ) (new : Seen) (o : Option Instr) → goes_at (thread s t) s.region.ram s.granules (next_word o) ≡ true → IfSome o (λ i. CarriesQuietly s t i new)
+fetched_quietly : (e : Listed) (s : Seen) (t : ℕ) (k : DeviceStates) (time : ℕ) (new : Seen) (o : Option Instr) → IsSomeAnd o (λ i. CarriesQuietly s t i new)
     → next_in s (cap_address (thread s t).pcc) ≡ next_word o
     → WentQuietly (decide_next e (thread s t) (space_in s k time) (next_at (space_in s k time) (cap_address (thread s t).pcc))) t s k new
-fetched_quietly e s t k time new None goes carries next = absurd (cc)
-fetched_quietly e s t k time new (Some i) goes carries next =
+fetched_quietly e s t k time new None carries next = absurd carries
+fetched_quietly e s t k time new (Some i) carries next =
     subst (λ (n : Next). WentQuietly (decide_next e (thread s t) (space_in s k time) n) t s k new) (sym next) (carries e k time)
 
 pub decided_quietly : (s : Seen) (t word : ℕ) (new : Seen) (o : Option Instr) (r : Reading) → r ≡ reading_by word o
     → is_none (first_failed (fetch_checks (thread s t).pcc)) ≡ true
     → next_in s (cap_address (thread s t).pcc) ≡ next_word o
-    → goes_at (thread s t) s.region.ram s.granules (next_word r.instruction) ≡ true → IfSome r.instruction (λ i. CarriesQuietly s t i new)
+    → IsSomeAnd r.instruction (λ i. CarriesQuietly s t i new)
     → (e : Listed) (k : DeviceStates) (time : ℕ) → WentQuietly (decision e s t k time) t s k new
-decided_quietly s t word new o r is checks next goes carries e k time =
+decided_quietly s t word new o r is checks next carries e k time =
     let same : r.instruction ≡ o = subst (λ (q : Reading). q.instruction ≡ o) (sym is) (instruction_read word o) in
     passes e s t k time new (first_failed (fetch_checks (thread s t).pcc)) checks
-    (fetched_quietly e s t k time new o (subst (λ (p : Option Instr). goes_at (thread s t) s.region.ram s.granules (next_word p) ≡ true) same goes)
-    (subst (λ (p : Option Instr). IfSome p (λ i. CarriesQuietly s t i new)) same carries) next)
-
--- ---- when
-
-both_pass : (found goes went : Bool) → found ≡ true → went ≡ goes → went ≡ (found && goes)
-both_pass found goes went is same = rw is same
-
-none_pass : (found goes : Bool) → false ≡ found → false ≡ (found && goes)
-none_pass true goes none = absurd (cc)
-none_pass false goes none = refl
-
--- a word is found, and it goes or not
-pub when_found : (s : Seen) (t word : ℕ) (o : Option Instr) (r : Reading) (went : Bool) → r ≡ reading_by word o
-    → finds_word (thread s t).pcc s.region.ram s.granules ≡ true → next_in s (cap_address (thread s t).pcc) ≡ next_word o
-    → went ≡ goes_at (thread s t) s.region.ram s.granules (next_word r.instruction)
-    → went ≡ goes_quietly (thread s t) s.region.ram s.granules
-when_found s t word o r went is found next goes =
-    let same : r.instruction ≡ o = subst (λ (q : Reading). q.instruction ≡ o) (sym is) (instruction_read word o) in
-    both_pass (finds_word (thread s t).pcc s.region.ram s.granules)
-    (goes_at (thread s t) s.region.ram s.granules (next_in s (cap_address (thread s t).pcc))) went found
-    (goes ∙ ap (λ (p : Option Instr). goes_at (thread s t) s.region.ram s.granules (next_word p)) same
-    ∙ ap (λ (n : Next). goes_at (thread s t) s.region.ram s.granules n) (sym next))
-
--- none is found
-pub when_none : (s : Seen) (t : ℕ) → false ≡ finds_word (thread s t).pcc s.region.ram s.granules → false ≡ goes_quietly (thread s t) s.region.ram s.granules
-when_none s t none =
-    none_pass (finds_word (thread s t).pcc s.region.ram s.granules)
-    (goes_at (thread s t) s.region.ram s.granules (next_in s (cap_address (thread s t).pcc))) none
+    (fetched_quietly e s t k time new o (subst (λ (p : Option Instr). IsSomeAnd p (λ i. CarriesQuietly s t i new)) same carries) next)
 
 pub checks_pass : (s : Seen) (t : ℕ) → finds_word (thread s t).pcc s.region.ram s.granules ≡ true → is_none (first_failed (fetch_checks (thread s t).pcc)) ≡ true
 checks_pass s t found = (and_parts (is_none (first_failed (fetch_checks (thread s t).pcc))) (is_word_of_ram s.region.ram s.granules (cap_address (thread s t).pcc)) found).0
@@ -115,8 +89,8 @@ branch_goes true pcc posture offset n is whole =
 branch_goes false pcc posture offset n is whole =
     subst (λ (m : ℕ). branched false pcc posture offset ≡ Ok (record { link = None; pcc = with_address pcc (target_at pcc m); posture = posture })) (sym is) refl
 
-abbrev pub Turned : Seen → ℕ → Instr → ℕ → Seen → Type 0
-Turned s t i n new = new ≡ linked_to s t (target_at (thread s t).pcc n) (operands_of i).to
+abbrev IsTurned : Seen → ℕ → Instr → ℕ → Seen → Type 0
+IsTurned s t i n new = new ≡ linked_to s t (target_at (thread s t).pcc n) (operands_of i).to
 
 -- what a branch comes to is by its offset
 branch_flows : (i : Instr) (offset : ℕ) (x y pcc : Cap) (posture : Posture) (named : ℕ) → offset_of i ≡ Some offset
@@ -142,7 +116,7 @@ branch_class i offset e = absurd (cc)
 
 branch_by : (s : Seen) (t : ℕ) (i : Instr) (offset n : ℕ) (new : Seen) → offset_of i ≡ Some offset
     → n ≡ (if takes (thread s t) i then offset else 4)
-    → (target_at (thread s t).pcc n % 4 == 0) ≡ true → Turned s t i n new → CarriesQuietly s t i new
+    → (target_at (thread s t).pcc n % 4 == 0) ≡ true → IsTurned s t i n new → CarriesQuietly s t i new
 branch_by s t i offset n new e by whole is listed k time =
     let w = thread s t in
     let named : ℕ = named_in listed (register w (operands_of i).first) in
@@ -169,28 +143,24 @@ pub moved_so : (w : Thread) (i : Instr) (o : Operands) (offset n x y : ℕ) (tak
 moved_so w i o offset n x y taken os xs ys is by = ap Some (by ∙ ap (λ (b : Bool). if b then offset else 4) (taken_is w i o x y taken os xs ys is))
 
 jal_quiet : (s : Seen) (t : ℕ) (i : Instr) (n : ℕ) (new : Seen) → Some n ≡ jal_offset i
-    → (target_at (thread s t).pcc n % 4 == 0) ≡ true → Turned s t i n new → CarriesQuietly s t i new
+    → (target_at (thread s t).pcc n % 4 == 0) ≡ true → IsTurned s t i n new → CarriesQuietly s t i new
 unfolding flow_result
 jal_quiet s t (Jal rd offset) n new e whole is listed k time =
     let w = thread s t in
     let same : n ≡ offset = cc in
     rw (whole_target w.pcc w.posture (target_at w.pcc offset) (Some (linked w.pcc w.posture)) (subst (λ (m : ℕ). (target_at w.pcc m % 4 == 0) ≡ true) same whole))
-    (subst (λ (m : ℕ). Turned s t (Jal rd offset) m new) same is, refl, refl, refl)
+    (subst (λ (m : ℕ). IsTurned s t (Jal rd offset) m new) same is, refl, refl, refl)
 jal_quiet s t i n new e whole is listed k time = absurd (cc)
 
 moved_quiet : (s : Seen) (t : ℕ) (i : Instr) (o : Option ℕ) (n : ℕ) (new : Seen) → offset_of i ≡ o → Some n ≡ jump_by (thread s t) i o
-    → (target_at (thread s t).pcc n % 4 == 0) ≡ true → Turned s t i n new → CarriesQuietly s t i new
+    → (target_at (thread s t).pcc n % 4 == 0) ≡ true → IsTurned s t i n new → CarriesQuietly s t i new
 moved_quiet s t i None n new e by whole is = jal_quiet s t i n new by whole is
 moved_quiet s t i (Some offset) n new e by whole is = branch_by s t i offset n new e (cc) whole is
 
 pub jump_quiet : (s new : Seen) (t : ℕ) (i : Instr) (n : ℕ) → Some n ≡ jump_offset (thread s t) i
-    → (target_at (thread s t).pcc n % 4 == 0) ≡ true → Turned s t i n new → CarriesQuietly s t i new
+    → (target_at (thread s t).pcc n % 4 == 0) ≡ true → IsTurned s t i n new → CarriesQuietly s t i new
 jump_quiet s new t i n by whole turned =
     moved_quiet s t i (offset_of i) n new refl by whole turned
-
-pub whole_is : (w : Thread) (i : Instr) (n : ℕ) → Some n ≡ jump_offset w i → jumps_quietly w i ≡ (target_at w.pcc n % 4 == 0)
-whole_is w (CJalr rd rs1 by) n e = absurd (cc)
-whole_is w i n e = ap (jumps_whole w.pcc) (sym e)
 
 -- ---- a jump by a register
 
@@ -219,38 +189,6 @@ Unnamed to at x n pcc before = flow_result (CJalr to at n) x x pcc before 0
 unnamed_is : (to at : ℕ) (x : Cap) (n : ℕ) (pcc : Cap) (before : Posture) → Unnamed to at x n pcc before ≡ register_jumped to at x n pcc before 0
 unfolding flow_result
 unnamed_is to at x n pcc before = refl
-
--- by the checks' outcome, whether it disables interrupts, and whether the posture stays
-disabled_by : (o : Option Trap) (off still : Bool) → off ≡ true → false ≡ (is_none o && (not off && still))
-disabled_by None off still is = rw is refl
-disabled_by (Some why) off still is = refl
-
-refused_by : (o : Option Trap) (v : Flowed) (why : Trap) (stays : Bool) → Err why ≡ unless o v → false ≡ (is_none o && stays)
-refused_by None v why stays is = absurd (cc)
-refused_by (Some other) v why stays is = refl
-
-led_by : (o : Option Trap) (v f : Flowed) (off still : Bool) (before : Posture) → Ok f ≡ unless o v → off ≡ false → still ≡ is_posture f.posture before → still ≡ (is_none o && (not off && is_posture v.posture before))
-led_by None v f off still before is on so =
-    let same : f ≡ v = cc in
-    rw on (so ∙ ap (λ (w : Flowed). is_posture w.posture before) same)
-led_by (Some why) v f off still before is on so = absurd (cc)
-
--- a sentry that disables interrupts
-pub when_disables : (to at : ℕ) (x : Cap) (n : ℕ) (before : Posture) (off : Bool) → off ≡ (cap_seal x == SENTRY_DISABLE) → off ≡ true → false ≡ jumps_through to at x n before
-when_disables to at x n before off is so =
-    disabled_by (first_failed (register_jump_checks to at x n)) (cap_seal x == SENTRY_DISABLE)
-    (is_posture (posture_through before (cap_seal x) 0 x.shadow.source) before) (sym is ∙ so)
-
--- a check refuses it
-pub when_refused : (to at : ℕ) (x : Cap) (n : ℕ) (pcc : Cap) (before : Posture) (why : Trap) → Err why ≡ Unnamed to at x n pcc before → false ≡ jumps_through to at x n before
-when_refused to at x n pcc before why is =
-    refused_by (first_failed (register_jump_checks to at x n)) _ why (keeps_posture before (cap_seal x) x.shadow.source) (is ∙ unnamed_is to at x n pcc before)
-
--- none does, and the posture stays or not
-pub when_led : (to at : ℕ) (x : Cap) (n : ℕ) (pcc : Cap) (before : Posture) (off still : Bool) (f : Flowed) → off ≡ (cap_seal x == SENTRY_DISABLE) → off ≡ false
-    → Ok f ≡ Unnamed to at x n pcc before → still ≡ is_posture f.posture before → still ≡ jumps_through to at x n before
-when_led to at x n pcc before off still f disables on is so =
-    led_by (first_failed (register_jump_checks to at x n)) _ f (cap_seal x == SENTRY_DISABLE) still before (is ∙ unnamed_is to at x n pcc before) (sym disables ∙ on) so
 
 -- where nothing is by what is named
 named_by : (o : Option Trap) (a b f : Flowed) → Ok f ≡ unless o a → a ≡ b → unless o b ≡ Ok f
@@ -281,3 +219,13 @@ through_quiet s new t to at n x pcc before f value here counter posture leads li
     (subst (λ (p : Posture). register_jumped to at x n w.pcc p named ≡ Ok f) posture
     (subst (λ (c : Cap). register_jumped to at x n c before named ≡ Ok f) counter (leads.is named))) in
     rw is (subst (λ (v : Cap). new ≡ after_jump s t f.pcc f.posture to v) link turned, refl, refl, leads.keeps ∙ posture)
+
+-- ---- how it went
+
+pub went_if : (gone : Bool) (how : Quietly) → how ≡ (if gone then Went else Loud) → went how ≡ gone
+went_if true how is = ap went is
+went_if false how is = ap went is
+
+pub turned_if : (gone : Bool) (how : Quietly) → how ≡ (if gone then Turned else Loud) → went how ≡ gone
+turned_if true how is = ap went is
+turned_if false how is = ap went is
