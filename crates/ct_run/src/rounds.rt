@@ -85,17 +85,17 @@ pub(crate) fn make_rounds<M: Memory + Drop>(machine: &mut Machine<M>, quantum: u
     requires { MayRun machine.old quantum limit }
     ensures { Passed machine.old machine.new (events_until machine.old [] quantum limit) }
 {
-    let mut left = quantum;
-    let mut done = 0;
-    while done < limit {
+    let mut to_tick = quantum;
+    let mut made = 0;
+    while made < limit {
         match machine.ended() {
             Some(_) => return,
             None => {}
         }
-        make_tick(machine, left == 0);
-        left = up_to_tick(left, quantum);
-        let count = machine.run_on(rounds_left(left, limit, done)).count;
-        left -= count;
-        done += count;
+        make_tick(machine, to_tick == 0);
+        to_tick = up_to_tick(to_tick, quantum);
+        let count = machine.run_on(rounds_left(to_tick, limit, made)).count;
+        to_tick -= count;
+        made += count;
     }
 }
