@@ -1,5 +1,5 @@
 -- What is carried out quietly: what a reading says, a fetch that passes, and branches and jumps whose target is whole.
-use Rattle.std.proofs.Common.{ℕ, ◌≡◌, ◌%◌, ◌==◌, ◌&&◌, Bool, true, false, Option, Some, None, IsSomeAnd, is_none, unwrap_or, Result, Ok, Err, not, refl, sym, ap, ◌∙◌, subst, if◌then◌else◌}
+use Rattle.std.proofs.Common.{ℕ, ◌≡◌, ◌%◌, ◌==◌, Bool, true, false, Option, Some, None, IsSomeAnd, is_none, unwrap_or, Result, Ok, not, refl, sym, ap, ◌∙◌, subst, if◌then◌else◌}
 use Rattle.std.proofs.lemmas.Bool.{and_parts, eqb-true}
 use Rattle.ct_entry.specs.Listed.{Listed}
 use Rattle.def_words.specs.declared.Cap.{Cap}

@@ -1,35 +1,21 @@
 -- What a reading says of an instruction, and what it is to carry one out quietly.
-use Rattle.std.specs.Prelude.{ℕ, ◌%◌, ◌==◌, ◌&&◌, ◌≡◌, Bool, true, false, not, List, Option, Some, None, Ok, IsSomeAnd, if◌then◌else◌}
+use Rattle.std.specs.Prelude.{ℕ, ◌%◌, ◌==◌, ◌&&◌, ◌≡◌, Bool, true, false, not, Option, Some, None, Ok, IsSomeAnd, if◌then◌else◌}
 use Rattle.ct_entry.specs.Listed.{Listed}
 use Rattle.def_instr.specs.declared.Instr.{Instr}
-use Rattle.def_instr.specs.declared.Instr.TheVariants.{Jal, CJalr, Beq, Bne, Blt, Bge, Bltu, Bgeu}
+use Rattle.def_instr.specs.declared.Instr.TheVariants.{Jal, Beq, Bne, Blt, Bge, Bltu, Bgeu}
 use Rattle.def_machine.specs.State.{Thread, register}
-use Rattle.def_memory.specs.declared.Granule.{Granule}
-use Rattle.def_profile.specs.declared.seals.TheConstants.{SENTRY_DISABLE}
-use Rattle.def_step.specs.declared.Access.{Access}
-use Rattle.def_step.specs.declared.Class.{Class}
-use Rattle.def_step.specs.declared.Class.TheVariants as class
-use Rattle.def_step.specs.declared.Next.{Next}
-use Rattle.def_step.specs.declared.Next.TheVariants.{Instruction}
-use Rattle.def_step.specs.declared.Operands.{Operands}
 use Rattle.def_step.specs.Accesses.{access_of}
-use Rattle.def_step.specs.Checks.{first_failed}
 use Rattle.def_step.specs.Devices.{DeviceStates}
-use Rattle.def_step.specs.Instructions.{next_at, next_word}
-use Rattle.def_step.specs.Jumps.{is_taken, register_jump_checks, register_jumped, target_at, Flowed}
+use Rattle.def_step.specs.Jumps.{is_taken, register_jumped, Flowed}
 use Rattle.def_step.specs.Operands.{class_of, operands_of}
 use Rattle.def_words.specs.declared.Cap.{Cap}
 use Rattle.def_words.specs.declared.Posture.{Posture}
 use Rattle.def_words.specs.Authority.{cap_address}
 use Rattle.def_words.specs.Capability.{with_address}
 use Rattle.def_words.specs.Jumped.{linked}
-use Rattle.def_words.specs.Seals.{cap_seal, posture_through}
 use Rattle.ct_decode.specs.declared.reading.Reading.{Reading}
 use Rattle.ct_decode.specs.Reading.{AreRegisters}
-use Rattle.ct_loadstore.specs.Quiet.{is_quiet_load, is_quiet_store}
-use Rattle.ct_loadstore.specs.Shapes.{space_of}
 use Rattle.ct_threads.specs.declared.window.Window.{Window}
-use Rattle.ct_threads.specs.Steps.{no_bank, finds_word}
 use Rattle.ct_engine.specs.Seen.{Seen, thread, after_jump}
 use Rattle.ct_engine.specs.Steps.{space_in, HasWindow}
 use Rattle.ct_execute.specs.declared.quiet.Quietly.{Quietly}

@@ -1,9 +1,9 @@
 -- Rounds one after another: those of two lists of them, and what was counted.
-use Rattle.std.proofs.Common.{ℕ, zero, suc, ◌+◌, ◌-◌, ◌≡◌, ◌<◌, inl, inr, Option, None, List, [], ◌∷◌, ◌++◌, refl, sym, ap, ◌∙◌, subst, arith}
+use Rattle.std.proofs.Common.{ℕ, zero, suc, ◌+◌, ◌-◌, ◌≡◌, ◌<◌, inl, inr, None, List, [], ◌∷◌, ◌++◌, refl, sym, ap, ◌∙◌, subst, arith}
 use Rattle.std.proofs.lemmas.Bool.{cases_order}
 use Rattle.ct_entry.specs.declared.acts.Happened.{Happened}
 use Rattle.def_machine.specs.Platform.{Platform, MachineRow}
-use Rattle.def_machine.specs.State.{State, Counts}
+use Rattle.def_machine.specs.State.{State}
 use Rattle.def_events.specs.Kinds.{Kinds, kinds, all_more}
 use Rattle.def_step.specs.declared.Event.{Event}
 use Rattle.def_step.specs.declared.Event.TheVariants.{Step, Sweep}

@@ -16,5 +16,6 @@ pub mod Starts
 pub mod Statuses
 pub mod Stepping
 pub mod Sweeping
+pub mod Swept
 pub mod Taking
 pub mod Walks

@@ -1,6 +1,6 @@
 -- The running thread carries on: what that asks, what an instruction or a native routine came to, and what is left
 -- where its frame ends, or where its error handler is entered.
-use Rattle.std.specs.Prelude.{ℕ, ◌+◌, ◌≡◌, ◌<◌, ◌&&◌, Bool, true, false, not, length, map, nat_lt, Option, Some, None, option_map, slice_set, cond}
+use Rattle.std.specs.Prelude.{ℕ, ◌+◌, ◌≡◌, ◌<◌, Bool, true, false, length, map, nat_lt, Option, Some, None, option_map, slice_set, cond}
 use Rattle.def_profile.specs.declared.answers.TheConstants.{UNWOUND}
 use Rattle.ct_entry.specs.Listed.{Listed}
 use Rattle.ct_entry.specs.declared.acts.Deed.{Deed}

@@ -17,7 +17,7 @@ use ct_threads::Window;
 
 /// Whether an instruction was carried out.
 #[inline(always)]
-fn is_done(how: Quietly) -> bool
+pub(crate) fn is_done(how: Quietly) -> bool
     ensures { result ≡ went how }
 {
     !matches!(how, Quietly::Loud)
@@ -26,7 +26,7 @@ fn is_done(how: Quietly) -> bool
 impl<M: Memory + Drop> Parts<M> {
     /// The running thread, where no tick is pending.
     #[inline(always)]
-    fn undisturbed(&self) -> Option<u32>
+    pub(crate) fn undisturbed(&self) -> Option<u32>
         ensures { result ≡ undisturbed self.now.state }
     {
         if self.pending {
@@ -36,7 +36,7 @@ impl<M: Memory + Drop> Parts<M> {
     }
 
     /// The addresses at which a fetch by the running thread need only ask for the tag and for a multiple of 4.
-    fn window(&self, t: u32) -> Window
+    pub(crate) fn window(&self, t: u32) -> Window
         requires { self.now.state.running ≡ Some t }
         ensures { IsThreadWindow self.now t result }
     {
@@ -46,7 +46,7 @@ impl<M: Memory + Drop> Parts<M> {
     /// A step of the running thread that isn't counted yet, where no tick is pending and `execute_quietly` carries its
     /// instruction out, and the step tells nothing, whatever was counted; else nothing changes.
     #[inline(always)]
-    fn thread_goes_quietly(&mut self, t: u32, window: Window) -> Quietly
+    pub(crate) fn thread_goes_quietly(&mut self, t: u32, window: Window) -> Quietly
         requires guarded { Guarded self.old }
         requires pending { self.old.state.pending ≡ false }
         requires runs { self.old.state.running ≡ Some t }
@@ -57,6 +57,7 @@ impl<M: Memory + Drop> Parts<M> {
         ensures same { went result ≡ false → self.new.state ≡ self.old.state }
         ensures aside { StaysAside self.old self.new }
         ensures going { end_of self.old.state ≡ None }
+        ensures still { end_of self.new.state ≡ None }
         ensures window { stays_in result ≡ true → IsThreadWindow self.new t window }
     {
         execute_quietly(&mut self.engine, t, &mut self.decoded, window)
@@ -102,7 +103,7 @@ impl<M: Memory + Drop> Parts<M> {
 
     /// Whether a sweep runs, or is to begin.
     #[inline(always)]
-    fn has_sweep(&self) -> bool
+    pub(crate) fn has_sweep(&self) -> bool
         ensures { result ≡ has_sweep self.now.state }
     {
         self.engine.has_sweep()
@@ -134,7 +135,7 @@ impl<M: Memory + Drop> Parts<M> {
     /// The window after an instruction that was carried out so: made anew where the program counter capability may be
     /// another.
     #[inline(always)]
-    fn window_after(&self, t: u32, how: Quietly, window: Window) -> Window
+    pub(crate) fn window_after(&self, t: u32, how: Quietly, window: Window) -> Window
         requires runs { self.now.state.running ≡ Some t }
         requires window { stays_in how ≡ true → IsThreadWindow self.now t window }
         ensures { IsThreadWindow self.now t result }

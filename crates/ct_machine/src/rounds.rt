@@ -1,6 +1,6 @@
 //! Rounds, each a slice of a sweep and a step, one after another up to one that tells something.
 
-ghost use Rattle.std.specs.Prelude.{◌≡◌, ◌+◌, ◌≤◌, ◌<◌, ◌||◌, is_some, None, true, false};
+ghost use Rattle.std.specs.Prelude.{◌≡◌, ◌+◌, ◌≤◌, ◌<◌, ◌||◌, is_some, None, Some, true, false};
 ghost use Rattle.def_profile.specs.declared.limits.TheConstants.{MOST_STEPS};
 ghost use Rattle.def_events.specs.Guarded.{Guarded};
 ghost use Rattle.def_step.specs.Events.{end_of};
@@ -8,6 +8,7 @@ ghost use Rattle.ct_machine.specs.Going.{silence};
 ghost use Rattle.ct_machine.specs.Onward.{tells, RanOn};
 
 use crate::parts::Parts;
+use crate::quiet::is_done;
 use ct_entry::Happened;
 use ct_mem::Memory;
 
@@ -70,6 +71,39 @@ impl<M: Memory + Drop> Parts<M> {
         made > 0 && self.ended().is_some()
     }
 
+    /// Rounds of the running thread under a sweep, with no tick pending, up to one whose step isn't carried out quietly,
+    /// one that ends the sweep, or the last that is asked for.
+    fn swept_rounds(&mut self, t: u32, most: u32) -> Rounds
+        requires guarded { Guarded self.old }
+        requires pending { self.old.state.pending ≡ false }
+        requires runs { self.old.state.running ≡ Some t }
+        requires some { 1 ≤ most }
+        requires steps { self.old.state.counts.steps + most ≤ MOST_STEPS }
+        requires sweeps { self.old.state.counts.sweeps + most ≤ MOST_STEPS }
+        ensures some { 1 ≤ result.count }
+        ensures most { result.count ≤ most }
+        ensures ran { RanOn self.old self.new result.count result.told }
+        ensures guarded { Guarded self.new }
+    {
+        let mut window = self.window(t);
+        for made in 0..most {
+            self.sweep();
+            let how = self.thread_goes_quietly(t, window);
+            if !is_done(how) {
+                return Rounds {
+                    count: made + 1,
+                    told: self.step(),
+                };
+            }
+            self.count_step();
+            window = self.window_after(t, how, window);
+            if !self.has_sweep() {
+                return silent(made + 1);
+            }
+        }
+        silent(most)
+    }
+
     /// Quiet rounds, and one more, which may tell something: at least one, and at most `most`.
     fn rounds_and_one(&mut self, most: u32) -> Rounds
         requires guarded { Guarded self.old }
@@ -81,6 +115,11 @@ impl<M: Memory + Drop> Parts<M> {
         ensures ran { RanOn self.old self.new result.count result.told }
         ensures guarded { Guarded self.new }
     {
+        if self.has_sweep() {
+            if let Some(t) = self.undisturbed() {
+                return self.swept_rounds(t, most);
+            }
+        }
         let count = self.run_quietly(most);
         if count == most {
             return silent(count);

@@ -8,7 +8,7 @@ use Rattle.def_port.specs.Bytes.{SinkView}
 use Rattle.def_port.specs.Writes.{Writes, WriteFails}
 use Rattle.def_machine.specs.State.{State}
 use Rattle.def_step.specs.declared.Event.{Event}
-use Rattle.def_step.specs.declared.Event.TheVariants.{Step, Tick, Sweep}
+use Rattle.def_step.specs.declared.Event.TheVariants.{Step, Sweep}
 use Rattle.def_machine.specs.Platform.{Platform, MachineRow}
 use Rattle.def_step.specs.Events.{happens, run, happenings_of}
 use Rattle.def_trace.specs.Trace.{trace_line}

@@ -1,11 +1,10 @@
 -- Rounds up to one that tells something are as many rounds of the run.
-use Rattle.std.proofs.Common.{◌≡◌, ℕ, zero, suc, ◌+◌, ◌-◌, ◌==◌, ◌<◌, ◌≤◌, ◌⊎◌, inl, inr, nat_eq, Bool, true, false, List, [], ◌∷◌, ◌++◌, get_or, drop, map, if◌then◌else◌, None, refl, sym, ap, ◌∙◌, subst, arith}
+use Rattle.std.proofs.Common.{◌≡◌, ℕ, zero, suc, ◌+◌, ◌-◌, ◌==◌, ◌<◌, ◌≤◌, ◌⊎◌, inl, inr, nat_eq, Bool, List, [], ◌∷◌, ◌++◌, get_or, drop, map, if◌then◌else◌, None, refl, sym, ap, ◌∙◌, subst, arith}
 use Rattle.std.proofs.lemmas.List.{append_assoc}
 use Rattle.ct_entry.specs.declared.acts.Happened.{Happened}
 use Rattle.def_port.specs.Bytes.{SinkView}
 use Rattle.def_port.specs.Writes.{Writes, WriteFails}
-use Rattle.def_machine.specs.State.{State}
-use Rattle.def_machine.specs.Platform.{Platform, MachineRow}
+use Rattle.def_machine.specs.Platform.{MachineRow}
 use Rattle.def_step.specs.declared.Event.{Event}
 use Rattle.def_step.specs.declared.Event.TheVariants.{Step, Sweep}
 use Rattle.def_step.specs.Events.{happens, run, happenings_of, end_of}
@@ -14,7 +13,7 @@ use Rattle.def_script.specs.declared.Given.{Given}
 use Rattle.def_script.specs.Script.{Due, given_at}
 use Rattle.def_program.specs.Runs.{input_of, run_lines}
 use Rattle.ct_machine.specs.Going.{silence}
-use Rattle.ct_machine.specs.Onward.{after_rounds, rounds, RanOn}
+use Rattle.ct_machine.specs.Onward.{after_rounds, RanOn}
 use Rattle.ct_run.specs.Rounds.{before_of, lines_of, round_of, ticks_if, AreBare, Came, FailedOn, Passed, WentOn}
 use Rattle.ct_run.proofs.Coming.{before_steps, before_sweeps, both_came, first_failed, one_came, one_fails, second_failed, silent_came}
 use Rattle.ct_run.proofs.Going as writing

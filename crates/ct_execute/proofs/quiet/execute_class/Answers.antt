@@ -1,5 +1,4 @@
-use Rattle.std.proofs.Common.{rules, ◌∙◌, sym}
-use Rattle.ct_execute.proofs.Carrying.{went_if}
+use Rattle.std.proofs.Common.{rules}
 use Rattle.ct_execute.proofs.Windows.{advanced_window}
 use Rattle.ct_execute.proofs.quiet.execute_class.Goals as goal
 

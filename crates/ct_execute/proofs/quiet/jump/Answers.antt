@@ -3,7 +3,7 @@ use Rattle.def_step.specs.declared.Operands.{Operands}
 use Rattle.def_step.specs.Jumps.{target_at}
 use Rattle.ct_engine.specs.Seen.{thread}
 use Rattle.ct_execute.specs.Quiet.{linked_to}
-use Rattle.ct_execute.proofs.Carrying.{jump_quiet, turned_if, went_if}
+use Rattle.ct_execute.proofs.Carrying.{jump_quiet, went_if}
 use Rattle.ct_execute.proofs.quiet.jump.Goals as goal
 
 pub returns-in-Some : goal.returns-in-Some

@@ -1,5 +1,3 @@
-use Rattle.std.proofs.Common.{◌≡◌, ◌+◌, ◌-◌, ◌≤◌, ◌<◌, [], arith, subst, inl, inr}
-use Rattle.def_script.specs.Script.{given_at}
 use Rattle.ct_run.proofs.Onward.{bare_from}
 use Rattle.ct_run.proofs.rounds.bare_rounds.Goals as goal
 

@@ -1,4 +1,4 @@
-use Rattle.std.proofs.Common.{◌+◌, ◌≤◌, arith, sym, ◌∙◌}
+use Rattle.std.proofs.Common.{arith, sym}
 use Rattle.ct_run.proofs.Onward.{passes_left, passing_steps, passing_sweeps}
 use Rattle.ct_run.proofs.Passing.{begins, ticks_room, ends_early, ends_late}
 use Rattle.ct_run.proofs.rounds.make_rounds.Goals as goal

@@ -1,4 +1,4 @@
-use Rattle.std.proofs.Common.{◌+◌, ◌≤◌, arith, sym, ◌∙◌}
+use Rattle.std.proofs.Common.{sym}
 use Rattle.ct_run.proofs.Onward.{before_fails, fails_left, goes_on_left, going_steps, going_sweeps}
 use Rattle.ct_run.proofs.Going.{begins, ends_early, ends_late, inputs_room, ticks_room}
 use Rattle.ct_run.proofs.rounds.write_rounds.Goals as goal

@@ -1,4 +1,4 @@
-use Rattle.std.proofs.Common.{◌≡◌, sym, subst, ◌<◌, ◌∙◌}
+use Rattle.std.proofs.Common.{sym, subst, ◌<◌}
 use Rattle.def_profile.specs.declared.limits.TheConstants.{MOST_STEPS}
 use Rattle.def_machine.specs.State.{State, Counts}
 use Rattle.ct_machine.specs.Going.{one_more_sweep}

@@ -1,4 +1,4 @@
-use Rattle.std.proofs.Common.{ap, arith, ◌<◌}
+use Rattle.std.proofs.Common.{ap, arith}
 use Rattle.def_events.specs.Kinds.{Kinds}
 use Rattle.ct_machine.specs.Going.{silence}
 use Rattle.ct_machine.proofs.Appending.{both_ran, ran_kinds}

@@ -75,3 +75,11 @@ returns-clause-window g c still =
     let kept = kept_after i.plan i.engine c.execute_quietly.new.engine i.sched i.bus i.pending i.time i.counts c.args.t c.self.invariant.0 c.self.invariant.1 (runs_now _ c.args.self.now c.args.t c.self.view_is c.requires.runs)
     c.execute_quietly.ensures.stays (went c.execute_quietly.result) (λ told. c.execute_quietly.ensures.quiet told i.plan.entries i.bus i.time) c.execute_quietly.ensures.same in
     window_out i.plan c.execute_quietly.new.engine i.sched i.bus i.pending i.time i.counts c.args.t c.args.window kept.0 (c.execute_quietly.ensures.window still)
+
+pub returns-clause-still : goal.returns-clause-still
+returns-clause-still g c =
+    let i = c.self.inside in
+    let kept = kept_after i.plan i.engine c.execute_quietly.new.engine i.sched i.bus i.pending i.time i.counts c.args.t c.self.invariant.0 c.self.invariant.1 (runs_now _ c.args.self.now c.args.t c.self.view_is c.requires.runs)
+    c.execute_quietly.ensures.stays (went c.execute_quietly.result) (λ told. c.execute_quietly.ensures.quiet told i.plan.entries i.bus i.time) c.execute_quietly.ensures.same in
+    none_ended i.plan c.execute_quietly.new.engine i.sched i.pending i.bus.states i.time i.counts c.args.t kept.0
+    (runs_now _ c.args.self.now c.args.t c.self.view_is c.requires.runs ∙ sym (ap (λ (x : Seen). x.running) c.execute_quietly.ensures.stays.beside))

@@ -1,4 +1,4 @@
-use Rattle.std.proofs.Common.{ℕ, ◌≡◌, ◌∙◌, Bool, true, false, cond, Option, None, sym, ap}
+use Rattle.std.proofs.Common.{◌∙◌, Bool, cond, None, sym, ap}
 use Rattle.def_machine.specs.Platform.{MachineRow}
 use Rattle.ct_machine.specs.Quiet.{undisturbed}
 use Rattle.ct_machine.proofs.parts.Parts.undisturbed.Goals as goal
