@@ -8,7 +8,6 @@ ghost use Rattle.def_confined.specs.Telling.{AllLicensed, IsLicensedEvent};
 ghost use Rattle.def_machine.specs.Image.{root};
 ghost use Rattle.def_machine.specs.Objects.{charges};
 ghost use Rattle.def_step.specs.declared.Event as events;
-ghost use Rattle.def_step.specs.declared.Event.TheVariants.{Sweep};
 ghost use Rattle.def_events.specs.Upheld.{Upholds};
 ghost use Rattle.def_integrity.specs.Homes.{HomesKept, HomesStay};
 ghost use Rattle.def_integrity.specs.Integrity.{Integrity};
@@ -18,7 +17,6 @@ ghost use Rattle.def_step.specs.Events.{happenings_of, happens, run, is_lawful, 
 ghost use Rattle.def_boot.specs.Booting.{empty_granules};
 ghost use Rattle.def_safety.specs.Chunks.{SweptBeforeReuse, UnusedAfterFree};
 ghost use Rattle.def_truly.specs.Exactly.{TellsExactly};
-ghost use Rattle.ct_machine.specs.Going.{silence};
 ghost use Rattle.ct_machine.specs.Onward.{tells, RanOn};
 
 use crate::parts::Parts;
@@ -106,17 +104,6 @@ impl<M: Memory + Drop> Machine<M> {
         ensures licensed { IsLicensedEvent self.old.board.image.entries result }
     {
         self.parts.advance(event)
-    }
-
-    /// A slice of a sweep, which is lawful now: what `advance` does of that event, which tells nothing.
-    pub fn sweep(&mut self)
-        requires { IsTrue (is_lawful self.old.state Sweep) }
-        ensures state { self.new.state ≡ (happens self.old.board self.old.state Sweep).0 }
-        ensures silent { (happens self.old.board self.old.state Sweep).1 ≡ silence }
-        ensures board { self.new.board ≡ self.old.board }
-        ensures guarded { Guarded self.new }
-    {
-        self.parts.sweep();
     }
 
     /// Rounds, each a slice of a sweep and a step, one after another up to one whose step tells something, up to one that
