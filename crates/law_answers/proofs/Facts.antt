@@ -9,7 +9,7 @@ use Rattle.def_image.specs.Raw.{RawDevice, RawCode, RawCompartment, RawThread, R
 use Rattle.def_image.specs.Parts.{SlotRow, GateRow, SharedRow, SealedRow, CodeRow, CompartmentRow, ThreadRow, PartsRow}
 use Rattle.def_image.specs.Spelling.{padding_after, raw_of}
 use Rattle.def_image.specs.Shapes.{IsField, IsNumber, IsCounted, IsRawEntry, IsDevice, IsShared, IsSealed, IsCode, IsCompartment, IsThread, IsShaped, Clean, SpellableSlot, SpellableGate, SpellableCode, IsSpellable}
-use Rattle.law_answers.specs.Tests.{are_bytes, is_field, is_number, is_counted, is_entry, is_device, is_code, is_compartment, is_thread, is_plain, is_clean, is_clean_slot, is_clean_gate, is_clean_code, is_plainly_spelled}
+use Rattle.law_answers.proofs.Tests.{are_bytes, is_field, is_number, is_counted, is_entry, is_device, is_code, is_compartment, is_thread, is_plain, is_clean, is_clean_slot, is_clean_gate, is_clean_code, is_plainly_spelled}
 
 all_by : {A : Type 0} (test : A → Bool) (P : A → Type 0) → ((x : A) → test x ≡ true → P x) → (xs : List A) → list_all test xs ≡ true → AllByRecursion P xs
 all_by test P one [] h = tt

@@ -1,2 +1,1 @@
 pub mod Altered
-pub mod Tests
