@@ -21,6 +21,7 @@ use Rattle.def_machine.specs.Image.{region, root, booted}
 use Rattle.def_machine.specs.State.{thread}
 use Rattle.def_machine.specs.Frames.{returned}
 use Rattle.def_confined.specs.Capabilities.{Rooted, Kept}
+use Rattle.def_confined.specs.Confined.{Confined}
 use Rattle.def_confined.specs.Places.{Placed, InFrames, OwnStack, HasLive}
 use Rattle.law_moves.proofs.Puts.{plain_kept}
 use Rattle.law_moves.proofs.Places.{all_of}
@@ -31,7 +32,7 @@ use Rattle.law_lists.proofs.Tests.{by_test}
 use Rattle.law_examples.proofs.Cases.{of_kind, past_end}
 use Rattle.law_examples.proofs.Rooting.{by_entry_of, entry_placed}
 use Rattle.law_examples.proofs.Alone.{Filled, ThreadHolds, alone_confined}
-use Rattle.law_examples.specs.Loosely.{without_exports, Loosely}
+use Rattle.law_examples.specs.WithoutExports.{without_exports}
 use Rattle.law_examples.specs.Apart.{two, sentry, inner_globals, inner, outermost, runner, before}
 
 is_sentry : IsMade RETURN_ENTRY (RETURN_ENTRY + NATIVE_LENGTH) SERVICE_RIGHTS RETURN_ENTRY RETURN_ENABLE sentry × (sentry.shadow ≡ record { root = 0; source = 0 })
@@ -146,12 +147,12 @@ runner_holds = record {
       (none_live, (none_live, (none_live, (none_live, (none_live, (none_live, (none_live, (none_live, (none_live, (none_live, (not_live two [] 4 inner_globals is_inner.1, tt)))))))))));
 }
 
-pub before_loosely : Loosely two before
-before_loosely = alone_confined two before.granules (thread (without_exports before) 0) (Some 0) [] (0 ∷ []) two_filled runner_holds
+pub before_confined : Confined two (without_exports before)
+before_confined = alone_confined two before.granules (thread (without_exports before) 0) (Some 0) [] (0 ∷ []) two_filled runner_holds
 
-pub after_not_loosely : Loosely two (returned two before 0 (inner ∷ outermost ∷ [])) → ⊥
+pub after_not_confined : Confined two (without_exports (returned two before 0 (inner ∷ outermost ∷ []))) → ⊥
 unfolding root_of gate_for
-after_not_loosely h =
+after_not_confined h =
     let placed : Placed two [] (λ y. y ≡ 0) (OwnStack two 0 (outermost ∷ [])) inner_globals = h.registers 0 10 is_inner.0.tagged in
     let P : Shadow → Type 0 = λ z. is_owned (root two z.root).origin ≡ true → (y : ℕ) → y ≡ 0 → Reaches two.entries (root two z.root).owner y in
     let owner = subst P is_inner.1 placed.owner in

@@ -1,5 +1,5 @@
 -- Each capability of boot is what the image says.
-use Rattle.std.proofs.Common.{ℕ, ◌≡◌, [], ◌||◌, ◌&&◌, ◌==◌, nat_le, nat_lt, nat_eq, Bool, not, inl, inr, true, false, refl, sym, ap, ◌∙◌, subst, arith}
+use Rattle.std.proofs.Common.{ℕ, ◌≡◌, [], ◌||◌, ◌&&◌, ◌==◌, nat_le, nat_lt, nat_eq, Bool, not, inl, inr, true, false, refl, sym, ap, ◌∙◌, subst}
 use Rattle.std.proofs.lemmas.Bool.{leb-true, ltb-true, and_parts, not-true}
 use Rattle.def_words.specs.declared.Cap.{Cap}
 use Rattle.def_words.specs.declared.Shadow.{Shadow}

@@ -1,4 +1,4 @@
 pub mod Small
 pub mod Starting
-pub mod Loosely
+pub mod WithoutExports
 pub mod Apart
