@@ -4,3 +4,4 @@ pub mod Agreeing
 pub mod Secrecy
 pub mod Others
 pub mod Runs
+pub mod Turns

@@ -1,2 +1,1 @@
 pub mod Walls
-pub mod Turns

@@ -1,5 +1,6 @@
--- Two compartments that share nothing, with a thread each: a prowler that would read the keeper's globals, and a keeper
--- that writes a byte of them, its secret, to the serial port. An image for each secret, of which all else is the same.
+-- Two compartments that share nothing, with a thread each: a prowler (thread 0) that would read the keeper's globals, and
+-- a keeper (thread 1) that writes a byte of them, its secret, to the serial port. An image for each secret, of which all
+-- else is the same.
 use Rattle.std.specs.Prelude.{ℕ, true, List, [], ◌∷◌, codes}
 use Rattle.ct_entry.specs.declared.rows.Mode.TheVariants.{Enabled}
 use Rattle.ct_entry.specs.declared.hardware.DeviceKind.TheVariants.{Uart}

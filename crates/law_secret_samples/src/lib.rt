@@ -16,10 +16,10 @@ ghost use Rattle.def_machine.specs.State.{State};
 ghost use Rattle.def_memory.specs.declared.Granule.{Granule};
 ghost use Rattle.def_memory.specs.Accesses.{byte_at};
 ghost use Rattle.def_secrecy.specs.Runs.{Moment};
+ghost use Rattle.def_secrecy.specs.Turns.{TakesTurns, TellsAlike};
 ghost use Rattle.def_secrecy.specs.View.{InView, UnseenBytes};
 ghost use Rattle.def_step.specs.declared.Event.{Event};
 ghost use Rattle.def_step.specs.Events.{happens};
-ghost use Rattle.law_secret_samples.specs.Turns.{TakesTurns, TellsAlike};
 ghost use Rattle.law_secret_samples.specs.Walls.{prowler, secret_at, walls};
 
 /// Nothing is asked of the images that fails, whatever the secret is, and each has 652 bytes.
@@ -53,9 +53,9 @@ pub fn secrets_stay_untold()
     ensures seen { (n x : ℕ) → prowler.globals ≤ x → x < prowler.globals + prowler.globals_length
         → InView (image_of (walls n)) (boot_state (walls n)) 0 x }
     ensures untold { (n m : ℕ) (ms : List Moment) → n < 256 → m < 256
-        → TakesTurns (platform_of (walls n)) (platform_of (walls m))
+        → TakesTurns (platform_of (walls n)) (platform_of (walls m)) 0 1
         (boot_state (walls n)) (boot_state (walls m)) ms
-        → TellsAlike (platform_of (walls n)) (platform_of (walls m))
+        → TellsAlike (platform_of (walls n)) (platform_of (walls m)) 0
         (boot_state (walls n)) (boot_state (walls m)) ms }
 {
     walls_stand();
