@@ -30,8 +30,9 @@ use Rattle.ct_engine.specs.Calls.{HeadStands, switch_at, after_call}
 use Rattle.ct_engine.specs.Written.{Shows, callee_thread}
 use Rattle.ct_engine.proofs.AsWritten.{enters_is}
 use Rattle.ct_services.specs.Served.{answered_in, switched_in}
-use Rattle.law_callable.specs.Showing.{IsOfSound, ShowsCaller}
+use Rattle.law_callable.proofs.Showing.{ShowsCaller}
 use Rattle.ct_machine.specs.Parts.{state_by, IsKept}
+use Rattle.ct_machine.specs.Starting.{IsOfSound}
 use Rattle.ct_machine.specs.Going.{ran_by_call, CameTo}
 use Rattle.ct_machine.proofs.Statuses.{like_with, set_with}
 use Rattle.ct_machine.proofs.Taking.{ram_is, frames_with}
@@ -130,7 +131,9 @@ module _ (i : Image) (e : Seen) (r : SchedRow) (k : DeviceStates) (pending : Boo
 pub shows_caller : (i : Image) (e : Seen) (r : SchedRow) (pending : Bool) (devices : List DeviceState) (time : ℕ) (c : Counts) (t : ℕ) → IsKept i e r → IsOfSound i → Confined i (state_by e r pending devices time c)
     → 0 < length (engine.thread e t).frames → ShowsCaller i (state_by e r pending devices time c) e t
 shows_caller i e r pending devices time c t kept sound confined some = record {
-  booted = sound;
+  parts = sound.parts;
+  sound = sound.sound;
+  is = sound.is;
   confined = confined;
   region = kept.region;
   heap = kept.heap.base;

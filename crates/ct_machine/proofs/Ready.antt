@@ -16,9 +16,9 @@ use Rattle.ct_engine.specs.Seen as engine
 use Rattle.ct_engine.specs.Seen.{Seen}
 use Rattle.ct_engine.specs.Calls.{IsEnterable}
 use Rattle.ct_engine.specs.Handling.{MayHandle}
-use Rattle.law_callable.specs.Showing.{IsOfSound}
 use Rattle.law_callable.proofs.Calls.{handlers_asked}
 use Rattle.ct_machine.specs.Parts.{state_by, IsKept}
+use Rattle.ct_machine.specs.Starting.{IsOfSound}
 use Rattle.law_history.proofs.TokensEvents.{ready_fit}
 use Rattle.ct_machine.specs.Going.{MayGoOn}
 use Rattle.ct_machine.proofs.Calling.{shows_caller}

@@ -5,6 +5,7 @@ use Rattle.ct_entry.specs.declared.rows.Entry.{Entry}
 use Rattle.def_sched.specs.declared.Status.TheVariants.{Ready}
 use Rattle.def_sched.specs.Picks.{first_order}
 use Rattle.def_step.specs.Devices.{DeviceStates}
+use Rattle.def_machine.specs.Image.{Image}
 use Rattle.def_machine.specs.State.{fresh_device}
 use Rattle.def_image.specs.Parts.{ThreadRow, PartsRow}
 use Rattle.def_image.specs.Sound.{Sound}
@@ -35,6 +36,12 @@ rows_of p = record {
 -- what each quota may take, by the numbers of the entries; what is no quota takes nothing
 abbrev pub limits_of : Listed → List ℕ
 limits_of e = 0 ∷ map (λ (r : Entry). r.limit) e.rows
+
+-- the machine's image of a sound image
+pub record IsOfSound (i : Image) : Type 0 where
+  pub parts : PartsRow
+  pub sound : Sound parts
+  pub is : i ≡ image_of parts
 
 -- what is kept of a sound image: its entries, the numbers of its compartments' error handlers, where RAM and its heap
 -- begin, and how many granules a slice of a sweep passes

@@ -4,7 +4,7 @@ ghost use Rattle.std.specs.Prelude.{◌≡◌, IfOk, slice_index_or};
 ghost use Rattle.def_boot.specs.Boot.{image_of};
 ghost use Rattle.ct_switch.specs.Exports.{AreSorted};
 ghost use Rattle.def_machine.specs.Image.{handler_entry};
-ghost use Rattle.law_callable.specs.Showing.{IsOfSound};
+ghost use Rattle.ct_machine.specs.Starting.{IsOfSound};
 
 use crate::Known;
 use ct_entries::{entries, handlers};

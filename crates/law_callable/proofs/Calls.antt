@@ -27,7 +27,7 @@ use Rattle.ct_threads.proofs.Entering.{enters_by}
 use Rattle.ct_engine.specs.Seen.{Seen, region_of, thread, area_at}
 use Rattle.ct_engine.specs.Calls.{IsEnterable, MayCall, HeadStands, switch_at}
 use Rattle.ct_boot.specs.Placed.{IsPlaced}
-use Rattle.law_callable.specs.Showing.{IsOfSound, ShowsCaller}
+use Rattle.law_callable.proofs.Showing.{ShowsCaller}
 use Rattle.law_callable.proofs.Rising.{image_sorted}
 use Rattle.law_callable.proofs.Tops.{top_lies}
 use Rattle.law_callable.proofs.Heads.{enterable, export_stands, entries_are, callee_is}
@@ -84,21 +84,21 @@ handler_stands p m s t b sound shows some =
 -- a thread of a confined state may call, where it has frames and an engine shows it
 pub may_call : (i : Image) (m : State) (s : Seen) (t : ℕ) → ShowsCaller i m s t → 0 < length (thread s t).frames → MayCall s t i.entries
 may_call i m s t shows some =
-    subst (λ (j : Image). ShowsCaller j m s t → MayCall s t j.entries) (sym shows.booted.is)
-    (λ here. caller_asks shows.booted.parts m s t shows.booted.sound here some) shows
+    subst (λ (j : Image). ShowsCaller j m s t → MayCall s t j.entries) (sym shows.is)
+    (λ here. caller_asks shows.parts m s t shows.sound here some) shows
 
 -- the head of an export table is as boot made it, of each export that a call import names
-pub heads_stand : (i : Image) (m : State) (s : Seen) (size t n : ℕ) → IsOfSound i → Confined i m → IsPlaced i size t (area_at s t)
+pub heads_stand : (i : Image) (m : State) (s : Seen) (size t n : ℕ) (p : PartsRow) → Sound p → i ≡ image_of p → Confined i m → IsPlaced i size t (area_at s t)
     → s.region ≡ region_of i → s.granules ≡ m.granules → (root i n).origin ≡ Listing kind.Call → HeadStands i s t (root i n).of
-heads_stand i m s size t n booted confined placed region granules is =
-    subst (λ (j : Image). Confined j m → IsPlaced j size t (area_at s t) → s.region ≡ region_of j → (root j n).origin ≡ Listing kind.Call → HeadStands j s t (root j n).of) (sym booted.is)
-    (λ held lies here call. head_stands booted.parts m s size t n booted.sound held lies here granules call) confined placed region is
+heads_stand i m s size t n p sound booted confined placed region granules is =
+    subst (λ (j : Image). Confined j m → IsPlaced j size t (area_at s t) → s.region ≡ region_of j → (root j n).origin ≡ Listing kind.Call → HeadStands j s t (root j n).of) (sym booted)
+    (λ held lies here call. head_stands p m s size t n sound held lies here granules call) confined placed region is
 
 -- what a call through an import of a confined thread asks
 pub import_stands : (i : Image) (m : State) (s : Seen) (t : ℕ) → ShowsCaller i m s t → (register (thread s t) 6).tag ≡ true
     → cap_seal (register (thread s t) 6) ≡ EXPORT_TYPE → HeadStands i s t (root i (register (thread s t) 6).shadow.root).of
 import_stands i m s t shows tagged sealed =
-    heads_stand i m s (8 * length s.granules) t (register (thread s t) 6).shadow.root shows.booted shows.confined shows.placed shows.region shows.granules
+    heads_stand i m s (8 * length s.granules) t (register (thread s t) 6).shadow.root shows.parts shows.sound shows.is shows.confined shows.placed shows.region shows.granules
     (import_is i m s t shows.confined shows.registers tagged sealed)
 
 -- and what the callee that it enters asks
@@ -115,16 +115,16 @@ entered_stands i m s t export high shows enters =
 -- what a trap that enters an error handler asks
 pub handlers_asked : (i : Image) (m : State) (s : Seen) (t b : ℕ) → ShowsCaller i m s t → (handler_entry i b ≡ 0 → ⊥) → IsEnterable s i.entries (handler_entry i b)
 handlers_asked i m s t b shows some =
-    subst (λ (j : Image). ShowsCaller j m s t → (handler_entry j b ≡ 0 → ⊥) → IsEnterable s j.entries (handler_entry j b)) (sym shows.booted.is)
-    (λ here has. handler_asks shows.booted.parts m s t b shows.booted.sound here has) shows some
+    subst (λ (j : Image). ShowsCaller j m s t → (handler_entry j b ≡ 0 → ⊥) → IsEnterable s j.entries (handler_entry j b)) (sym shows.is)
+    (λ here has. handler_asks shows.parts m s t b shows.sound here has) shows some
 
 -- the handler's export is one of the compartment's own
-pub handlers_own : (i : Image) (b : ℕ) → IsOfSound i → (handler_entry i b ≡ 0 → ⊥) → callee_of i.entries (handler_entry i b) ≡ b
-handlers_own i b booted some =
-    subst (λ (j : Image). (handler_entry j b ≡ 0 → ⊥) → callee_of j.entries (handler_entry j b) ≡ b) (sym booted.is) (λ has. handler_own booted.parts b booted.sound has) some
+pub handlers_own : (i : Image) (b : ℕ) (p : PartsRow) → Sound p → i ≡ image_of p → (handler_entry i b ≡ 0 → ⊥) → callee_of i.entries (handler_entry i b) ≡ b
+handlers_own i b p sound booted some =
+    subst (λ (j : Image). (handler_entry j b ≡ 0 → ⊥) → callee_of j.entries (handler_entry j b) ≡ b) (sym booted) (λ has. handler_own p b sound has) some
 
 -- the head of its export table is as boot made it
 pub handlers_stand : (i : Image) (m : State) (s : Seen) (t b : ℕ) → ShowsCaller i m s t → (handler_entry i b ≡ 0 → ⊥) → HeadStands i s t (handler_entry i b)
 handlers_stand i m s t b shows some =
-    subst (λ (j : Image). ShowsCaller j m s t → (handler_entry j b ≡ 0 → ⊥) → HeadStands j s t (handler_entry j b)) (sym shows.booted.is)
-    (λ here has. handler_stands shows.booted.parts m s t b shows.booted.sound here has) shows some
+    subst (λ (j : Image). ShowsCaller j m s t → (handler_entry j b ≡ 0 → ⊥) → HeadStands j s t (handler_entry j b)) (sym shows.is)
+    (λ here has. handler_stands shows.parts m s t b shows.sound here has) shows some

@@ -1,3 +1,4 @@
+pub mod Showing
 pub mod Rising
 pub mod Tops
 pub mod Rows

@@ -61,7 +61,7 @@ returns-clause-is g c =
       acts = m.acts;
       handles = record {
         is = c.handler-handler.ensures;
-        own = λ has. handlers_own i.plan c.args.actor sound has;
+        own = λ has. handlers_own i.plan c.args.actor sound.parts sound.sound sound.is has;
         heads = λ has. handlers_stand i.plan _ i.engine c.args.t c.args.actor
             (shows_caller i.plan i.engine i.sched i.pending i.bus.states i.time i.counts c.args.t c.self.invariant.0 sound m.may.keeps.confined some) has;
       };
