@@ -18,7 +18,8 @@ import sys
 
 sys.dont_write_bytecode = True
 sys.path.insert(0, os.path.dirname(os.path.abspath(__file__)))
-from checks import blocks, counts, lists, marks, pages, pictures, reading, recipes, sources, surface  # noqa: E402
+from checks import (blocks, counts, lists, marks, pages, pictures, places, reading, recipes, sources,  # noqa: E402
+                    surface)
 
 MOST_WORDS = {"README.md": 1500}
 MOST_OF_ALL = 50000
@@ -97,8 +98,8 @@ def all_faults(wanted):
         pages.check_page(path, faults)
     for path in marks.PAGES:
         pages.check_calls(path, faults)
-    for check in (marks.check_told, check_rooms, check_proofs, check_sizes, check_parts, sources.check_errors,
-                  surface.check_surface, recipes.check_recipes, pages.check_cited, pages.check_read):
+    for check in (marks.check_told, check_rooms, check_proofs, check_sizes, check_parts, places.check_places,
+                  sources.check_errors, surface.check_surface, recipes.check_recipes, pages.check_cited, pages.check_read):
         check(faults)
     for name, rows in counts.tables().items():
         if not rows:

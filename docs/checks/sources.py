@@ -139,7 +139,7 @@ def read_clauses(lines, at):
             break
         if not clauses and k >= at and body_begins(line, indent) and not line.rstrip().endswith("("):
             break
-        if clauses and line.rstrip().endswith("};"):
+        if clauses and line.rstrip().endswith("};") and clauses[-1].text.count("}") > clauses[-1].text.count("{"):
             break
     return clauses
 
