@@ -89,7 +89,8 @@ pub record LeadsTo (to at : ℕ) (x : Cap) (n : ℕ) (pcc : Cap) (before : Postu
 
 -- ---- a reading carried out
 
--- what is asked before: thread t runs, nothing is hidden that it may reach, and the window is one of it
+-- what is asked before: thread t runs, nothing is hidden that it may reach, RAM begins at a multiple of 16, what is
+-- read is what its instruction says, and the window is one of the thread
 pub record MayCarry (s : Seen) (t : ℕ) (r : Reading) (w : Window) : Type 0 where
   pub runs : s.running ≡ Some t
   pub opened : IsOpen s t
@@ -105,14 +106,14 @@ went Went = true
 went Turned = true
 
 -- whether a window of the thread is one of it still
-abbrev pub stays_in : Quietly → Bool
-stays_in Loud = true
-stays_in Went = true
-stays_in Turned = false
+abbrev pub keeps_window : Quietly → Bool
+keeps_window Loud = true
+keeps_window Went = true
+keeps_window Turned = false
 
 -- it went quietly, or nothing changes; and where it says so w is a window of the thread then
 pub record Carried (s : Seen) (t : ℕ) (r : Reading) (w : Window) (how : Quietly) (new : Seen) : Type 0 where
   pub quiet : went how ≡ true → IsSomeAnd r.instruction (λ i. CarriesQuietly s t i new)
   pub same : went how ≡ false → new ≡ s
   pub stays : Stays s new
-  pub window : stays_in how ≡ true → HasWindow new t w
+  pub window : keeps_window how ≡ true → HasWindow new t w

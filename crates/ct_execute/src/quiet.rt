@@ -16,7 +16,7 @@ ghost use Rattle.ct_engine.specs.Steps.{HasWindow};
 ghost use Rattle.ct_execute.specs.Deciding.{decision, Stays, WentQuietly};
 ghost use Rattle.ct_execute.specs.Opening.{IsOpen};
 ghost use Rattle.ct_execute.specs.declared.quiet.Quietly.TheVariants.{Loud, Turned, Went};
-ghost use Rattle.ct_execute.specs.Quiet.{is_posture, jump_by, jump_offset, linked_to, stays_in, went, Carried, CarriesQuietly, KeepsWindows, LeadsTo, MayCarry, Says};
+ghost use Rattle.ct_execute.specs.Quiet.{is_posture, jump_by, jump_offset, linked_to, keeps_window, went, Carried, CarriesQuietly, KeepsWindows, LeadsTo, MayCarry, Says};
 
 use ct_alu::alu;
 use ct_cap::{Live, Posture, link, turn};
@@ -30,8 +30,8 @@ use def_instr::Instr;
 use def_profile::seals::SENTRY_DISABLE;
 use def_step::Class;
 
-/// What became of an instruction that was to be carried out quietly: it wasn't, and nothing changed (`Loud`); it was, and
-/// a window of the thread is one of it still (`Went`); or it was, and the program counter capability may be another
+/// What became of an instruction that was to be carried out quietly: it wasn't, and nothing changed (`Loud`); it was,
+/// and a window of the thread is one of it still (`Went`); or it was, and the program counter capability may be another
 /// (`Turned`).
 #[derive(Clone, Copy, PartialEq, Eq, Drop)]
 pub enum Quietly {
@@ -40,12 +40,9 @@ pub enum Quietly {
     Turned,
 }
 
-/// What stands at the running thread's program counter is carried out where it is an instruction of integers, of
-/// capabilities, a branch, a jump, or a load or a store of RAM, no check fails, and the posture stays; else `Loud`, and
-/// nothing changes. Otherwise this is the written step: the thread goes on, nothing is told, and devices and posture stay
-/// as they are.
-///
-/// Which of these instructions it leaves, for `execute` to carry out, is for speed alone.
+/// What stands at the running thread's program counter is carried out, or left: then `Loud`, and nothing changes. What
+/// is carried out is the written step: the thread goes on, nothing is told, and devices and posture stay. Which
+/// instructions are left, for `execute`, is for speed alone.
 ///
 /// Conditions: the thread runs, nothing is hidden that it may reach, RAM begins at a multiple of 16, and the window is
 /// one of the thread's program counter capability. Where the program counter is in the window a fetch asks for the tag
@@ -67,7 +64,7 @@ pub fn execute_quietly<M: Memory + Drop>(
         engine.new }
     ensures same { went result ≡ false → engine.new ≡ engine.old }
     ensures stays { Stays engine.old engine.new }
-    ensures window { stays_in result ≡ true → HasWindow engine.new t window }
+    ensures window { keeps_window result ≡ true → HasWindow engine.new t window }
 {
     match engine.fetch(t, window) {
         Some(word) => {
@@ -154,7 +151,7 @@ fn jump<M: Memory + Drop>(
         → CarriesQuietly engine.old t instruction engine.new }
     ensures same { went result ≡ false → engine.new ≡ engine.old }
     ensures stays { Stays engine.old engine.new }
-    ensures window { stays_in result ≡ true → HasWindow engine.new t window }
+    ensures window { keeps_window result ≡ true → HasWindow engine.new t window }
 {
     match instruction {
         Instr::CJalr { rd, rs1, immediate } => {
@@ -203,8 +200,8 @@ fn jump_through<M: Memory + Drop>(
     }
 }
 
-/// Where a jump to the capability x in register `at` leads, with the link in register `to`: where no check refuses it
-/// and it leaves the posture that was, whatever export x's root names; else `None`.
+/// Where a jump to the capability x in register `at` leads, with the link in register `to`: it leaves the posture that
+/// was, whatever export x's root names. `None` where it is left.
 #[inline(always)]
 fn led(to: u32, at: u32, x: Live, immediate: u32, pcc: Live, before: Posture) -> Option<Flow>
     ensures { IfSome result (λ f. LeadsTo to at x immediate pcc before f) }

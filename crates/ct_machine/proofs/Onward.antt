@@ -1,16 +1,19 @@
 -- The loop of rounds up to one that tells something.
-use Rattle.std.proofs.Common.{ℕ, ◌+◌, ◌-◌, ◌≡◌, ◌≤◌, ◌<◌, ◌||◌, Bool, false, is_some, inl, inr, Option, None, Some, refl, ap, subst, arith}
-use Rattle.std.proofs.lemmas.Bool.{cases_order}
+use Rattle.std.proofs.Common.{ℕ, zero, suc, ◌+◌, ◌-◌, ◌≡◌, ◌≤◌, ◌<◌, ◌&&◌, ◌||◌, nat_lt, Bool, true, false, is_some, inl, inr, List, Option, None, Some, refl, sym, ap, ◌∙◌, subst, arith}
+use Rattle.std.proofs.lemmas.Bool.{cases_order, lt-ltb}
 use Rattle.ct_entry.specs.declared.acts.Deed.{Deed}
 use Rattle.ct_entry.specs.declared.acts.End.{End}
 use Rattle.ct_entry.specs.declared.acts.Happened.{Happened}
+use Rattle.ct_entry.specs.Listed.{Listed}
+use Rattle.def_confined.specs.Telling.{AllLicensed, IsLicensedEvent}
+use Rattle.law_events.proofs.Running.{told_licensed}
 use Rattle.ct_entry.specs.declared.acts.Owned.{Owned}
 use Rattle.def_events.specs.Guarded.{Guarded}
 use Rattle.def_events.specs.Kinds.{Kinds}
 use Rattle.def_machine.specs.Platform.{MachineRow}
 use Rattle.def_step.specs.Events.{end_of}
 use Rattle.ct_machine.specs.Going.{silence}
-use Rattle.ct_machine.specs.Onward.{tells, RanOn}
+use Rattle.ct_machine.specs.Onward.{rounds, tells, told_last, RanOn}
 use Rattle.ct_machine.proofs.Appending.{both_ran, none_ran, ran_kinds}
 
 -- after so many rounds of a machine that was so first, which told nothing
@@ -48,6 +51,11 @@ room_left now first made most all is few less room =
       | inr (inr above) ↦ absurd (omega (arith, few, above))
     ]
 
+-- after some rounds the machine has come to no end, where it isn't over
+pub not_over : (made : ℕ) (o : Option End) (over : Bool) → over ≡ (nat_lt 0 made && is_some o) → over ≡ false → 0 < made → o ≡ None
+not_over made None over is none some = refl
+not_over made (Some e) over is none some = absurd (let clash : true ≡ false = sym (is ∙ ap (λ b. b && true) (lt-ltb 0 made some)) ∙ none in cc)
+
 pub none_some : (o : Option End) (b : Bool) → b ≡ is_some o → b ≡ false → o ≡ None
 none_some None b is none = refl
 none_some (Some e) b is none = absurd (cc)
@@ -70,3 +78,18 @@ goes_on first m n most count more h o left some few r g none going = record {
   going = λ above. going;
   guarded = g;
 }
+
+-- ---- what the last told
+
+last_licensed : (e : Listed) (n : ℕ) (h : Happened) → 1 ≤ n → AllLicensed e (told_last n h) → IsLicensedEvent e h
+last_licensed e zero h some all = absurd (omega (arith, some))
+last_licensed e (suc zero) h some all = all.1.0
+last_licensed e (suc (suc n)) h some all = last_licensed e (suc n) h (omega arith) all.1.1
+
+licensed_by : (m n : MachineRow) (count : ℕ) (h : Happened) → Guarded m → 1 ≤ count → RanOn m n count h → IsLicensedEvent m.board.image.entries h
+licensed_by m n count h g some r =
+    last_licensed m.board.image.entries count h some
+    (subst (λ (hs : List Happened). AllLicensed m.board.image.entries hs) r.told (told_licensed m.board m.state (rounds count) g.partitioned g.facts g.wired g.keeps))
+
+pub ran_licensed : (m seen n : MachineRow) (count : ℕ) (h : Happened) → Guarded m → m ≡ seen → 1 ≤ count → RanOn m n count h → IsLicensedEvent seen.board.image.entries h
+ran_licensed m seen n count h g same some r = subst (λ (x : MachineRow). IsLicensedEvent x.board.image.entries h) same (licensed_by m n count h g some r)

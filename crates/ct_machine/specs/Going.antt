@@ -53,8 +53,8 @@ pub record MayEnd (m : MachineRow) (t actor : ℕ) : Type 0 where
   pub runs : Runs m t
   pub acts : actor ≡ actor_of (state.thread m.state t).frames
 
--- What a slice of a sweep asks, so that the sweep may end: no range of an entry meets the heap, and the state is confined,
--- with what stands beside.
+-- What a slice of a sweep asks, so that the sweep may end: no range of an entry meets the heap, and the state is
+-- confined, with what stands beside.
 pub record MaySweep (m : MachineRow) : Type 0 where
   pub parts : Partitioned m.board.image
   pub away : RootsAway m.board.image

@@ -1,4 +1,4 @@
--- Rounds, each a slice of a sweep and a step, one after another, of which the last alone tells something.
+-- Rounds, each a slice of a sweep and a step, one after another, of which the last alone may tell something.
 use Rattle.std.specs.Prelude.{ℕ, zero, suc, ◌≡◌, ◌<◌, ◌||◌, Bool, is_some, List, [], ◌∷◌, None}
 use Rattle.ct_entry.specs.declared.acts.Happened.{Happened}
 use Rattle.def_machine.specs.Platform.{MachineRow}
@@ -16,7 +16,7 @@ rounds (suc n) = Sweep ∷ Step ∷ rounds n
 abbrev pub after_rounds : MachineRow → ℕ → MachineRow
 after_rounds m n = record { board = m.board; state = run m.board m.state (rounds n) }
 
--- what so many rounds tell of which the last step alone tells something
+-- what so many rounds tell of which the last step alone may tell something
 abbrev pub told_last : ℕ → Happened → List Happened
 told_last zero h = []
 told_last (suc zero) h = silence ∷ h ∷ []
@@ -26,8 +26,8 @@ told_last (suc (suc n)) h = silence ∷ silence ∷ told_last (suc n) h
 abbrev pub tells : Happened → Bool
 tells h = is_some h.deed || is_some h.off
 
--- So many rounds of machine m left machine n. All but the last step told nothing, and the last told this; and before each
--- round but the first the machine had come to no end.
+-- So many rounds of machine m left machine n. All but the last step told nothing, and the last told this; and before
+-- each round but the first the machine had come to no end.
 pub record RanOn (m n : MachineRow) (count : ℕ) (last : Happened) : Type 0 where
   pub board : n.board ≡ m.board
   pub state : n.state ≡ run m.board m.state (rounds count)

@@ -106,11 +106,12 @@ impl<M: Memory + Drop> Machine<M> {
         self.parts.advance(event)
     }
 
-    /// Rounds, each a slice of a sweep and a step, one after another up to one whose step tells something, up to one that
-    /// leaves the machine at its end, and up to `most`, which are lawful now: at least one. What they leave is what
-    /// `advance` leaves of these events; all but the last step told nothing, and what the last told is answered. This
-    /// call is for speed: what one step leaves for the next isn't asked again, and a machine of which no thread can run
-    /// before the next tick makes its rounds at once.
+    /// Rounds, each a slice of a sweep and a step: at least one, even of a machine at its end, at most `most`, which are
+    /// lawful now, and none after one whose step tells something or that leaves the machine at its end.
+    ///
+    /// What they leave is what `advance` leaves of these events; all but the last step told nothing, and what the last
+    /// told is answered. This call is for speed: what one step leaves for the next isn't asked again, and a machine of
+    /// which no thread can run before the next tick makes its rounds at once.
     pub fn run_on(&mut self, most: u32) -> Rounds
         requires some { 1 ≤ most }
         requires steps { self.old.state.counts.steps + most ≤ MOST_STEPS }
@@ -121,6 +122,7 @@ impl<M: Memory + Drop> Machine<M> {
         ensures stops { result.count < most
             → (tells result.told || is_some (end_of self.new.state)) ≡ true }
         ensures guarded { Guarded self.new }
+        ensures licensed { IsLicensedEvent self.old.board.image.entries result.told }
     {
         self.parts.run_on(most)
     }
@@ -146,9 +148,9 @@ impl<M: Memory + Drop> Machine<M> {
     ///
     /// Of all of them: code stays as it is, and globals, stacks, threads, live objects and devices while none acts
     /// who may change them (`stay`); a capability without GL stands in stacks alone (`locals`); each deed and each span
-    /// with interrupts off is licensed by the image's entries (`licensed`); after a free that is told no access goes through a capability of its object (`unused`); a chunk
-    /// is handed out again only after a whole sweep that began after its free (`swept`); and no quota is charged with
-    /// more than its limit (`quotas`).
+    /// with interrupts off is licensed by the image's entries (`licensed`); after a free that is told no access goes
+    /// through a capability of its object (`unused`); a chunk is handed out again only after a whole sweep that began
+    /// after its free (`swept`); and no quota is charged with more than its limit (`quotas`).
     pub fn whatever_comes(&self)
         ensures safe { (es : List events.Event)
             → EachEvent (Upholds self.now.board) self.now.board self.now.state es }

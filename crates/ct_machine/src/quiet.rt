@@ -6,7 +6,7 @@ ghost use Rattle.def_events.specs.Guarded.{Guarded};
 ghost use Rattle.def_machine.specs.State.{Counts};
 ghost use Rattle.def_step.specs.Events.{end_of, happens, is_lawful, one_more_step};
 ghost use Rattle.def_step.specs.declared.Event.TheVariants as event;
-ghost use Rattle.ct_execute.specs.Quiet.{stays_in, went};
+ghost use Rattle.ct_execute.specs.Quiet.{keeps_window, went};
 ghost use Rattle.ct_machine.specs.Going.{silence};
 ghost use Rattle.ct_machine.specs.Quiet.{has_sweep, is_dormant, none_is_ready, undisturbed, with_counts, with_rounds, IsThreadWindow, StaysAside, WentRound, WentRounds};
 
@@ -58,7 +58,7 @@ impl<M: Memory + Drop> Parts<M> {
         ensures aside { StaysAside self.old self.new }
         ensures going { end_of self.old.state ≡ None }
         ensures still { end_of self.new.state ≡ None }
-        ensures window { stays_in result ≡ true → IsThreadWindow self.new t window }
+        ensures window { keeps_window result ≡ true → IsThreadWindow self.new t window }
     {
         execute_quietly(&mut self.engine, t, &mut self.decoded, window)
     }
@@ -122,7 +122,7 @@ impl<M: Memory + Drop> Parts<M> {
         ensures went { went result ≡ true → WentRound self.old self.new }
         ensures same { went result ≡ false → self.new.state ≡ self.old.state }
         ensures board { self.new.board ≡ self.old.board }
-        ensures window { stays_in result ≡ true → IsThreadWindow self.new t window }
+        ensures window { keeps_window result ≡ true → IsThreadWindow self.new t window }
     {
         let how = self.thread_goes_quietly(t, window);
         if is_done(how) {
@@ -137,7 +137,7 @@ impl<M: Memory + Drop> Parts<M> {
     #[inline(always)]
     pub(crate) fn window_after(&self, t: u32, how: Quietly, window: Window) -> Window
         requires runs { self.now.state.running ≡ Some t }
-        requires window { stays_in how ≡ true → IsThreadWindow self.now t window }
+        requires window { keeps_window how ≡ true → IsThreadWindow self.now t window }
         ensures { IsThreadWindow self.now t result }
     {
         match how {
@@ -146,9 +146,9 @@ impl<M: Memory + Drop> Parts<M> {
         }
     }
 
-    /// Such rounds as long as they go so, at most `most`: how many. A quiet step leaves the thread running, no tick
-    /// pending and no sweep with work, so these are looked at once, and where its code lies is asked once, and again
-    /// where a jump by a register leads elsewhere.
+    /// Rounds as `round_quietly` makes them, as long as they go so, at most `most`: how many. A quiet step leaves the
+    /// thread running, no tick pending and no sweep with work, so these are looked at once, and where its code lies is
+    /// asked once, and again where a jump by a register leads elsewhere.
     #[inline(always)]
     fn run_thread_quietly(&mut self, t: u32, most: u32) -> u32
         requires guarded { Guarded self.old }
@@ -215,8 +215,8 @@ impl<M: Memory + Drop> Parts<M> {
         0
     }
 
-    /// Such rounds where no sweep has work, at most `most`, of a thread as long as they go quietly, or of a dormant
-    /// machine: how many.
+    /// Rounds where no sweep has work, at most `most`, of a thread as long as they go quietly, or of a dormant machine:
+    /// how many.
     pub(crate) fn run_quietly(&mut self, most: u32) -> u32
         requires guarded { Guarded self.old }
         requires steps { self.old.state.counts.steps + most ≤ MOST_STEPS }

@@ -1,6 +1,6 @@
 //! Rounds, each a slice of a sweep and a step, one after another up to one that tells something.
 
-ghost use Rattle.std.specs.Prelude.{◌≡◌, ◌+◌, ◌≤◌, ◌<◌, ◌||◌, is_some, None, Some, true, false};
+ghost use Rattle.std.specs.Prelude.{◌≡◌, ◌+◌, ◌≤◌, ◌<◌, ◌&&◌, ◌||◌, nat_lt, is_some, Some, true, false};
 ghost use Rattle.def_profile.specs.declared.limits.TheConstants.{MOST_STEPS};
 ghost use Rattle.def_events.specs.Guarded.{Guarded};
 ghost use Rattle.def_step.specs.Events.{end_of};
@@ -20,7 +20,7 @@ pub struct Rounds {
 }
 
 /// What an event tells that tells nothing.
-pub(crate) fn nothing() -> Happened
+fn silence() -> Happened
     ensures { result ≡ silence }
 {
     Happened {
@@ -36,7 +36,7 @@ fn silent(count: u32) -> Rounds
 {
     Rounds {
         count,
-        told: nothing(),
+        told: silence(),
     }
 }
 
@@ -58,15 +58,14 @@ impl<M: Memory + Drop> Parts<M> {
     {
         self.sweep();
         if self.step_quietly() {
-            return nothing();
+            return silence();
         }
         self.step()
     }
 
-    /// Whether the machine has come to its end after so many rounds, of which there are some.
+    /// Whether the machine has come to its end, after so many rounds, of which there are some.
     fn is_over(&self, made: u32) -> bool
-        ensures some { result ≡ true → 0 < made }
-        ensures going { result ≡ false → 0 < made → end_of self.now.state ≡ None }
+        ensures { result ≡ (nat_lt 0 made && is_some (end_of self.now.state)) }
     {
         made > 0 && self.ended().is_some()
     }
@@ -134,7 +133,7 @@ impl<M: Memory + Drop> Parts<M> {
         }
     }
 
-    /// Rounds up to one that tells something, that leaves the machine at its end, or that is the last that is asked for.
+    /// Rounds up to one that tells something, one that leaves the machine at its end, or the last that is asked for.
     pub(crate) fn run_on(&mut self, most: u32) -> Rounds
         requires guarded { Guarded self.old }
         requires some { 1 ≤ most }

@@ -32,7 +32,7 @@ pub record HasInputs (s : State) (givens : List Given) : Type 0 where
 abbrev pub ticks_if : Bool → List Event
 ticks_if due = if due then Tick ∷ [] else []
 
--- what comes before a step: bytes, and a tick where it is due
+-- what comes before a slice and a step: bytes, and a tick where it is due
 abbrev pub before_of : List Given → Bool → List Event
 before_of givens due = map input_of givens ++ ticks_if due
 
@@ -79,7 +79,7 @@ pub record WentOn (m n : MachineRow) (most done count : ℕ) (before after : Sin
   pub ran : RanOn m n count told
   pub written : Writes before after (trace_line (done + count) told)
 
--- rounds came, and the line of what the last told wasn't written
+-- rounds came, and the line of what the last told wasn't written whole
 pub record FailedOn (m n : MachineRow) (most done : ℕ) (before after : SinkView) : Type 0 where
   pub count : ℕ
   pub some : 1 ≤ count

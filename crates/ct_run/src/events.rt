@@ -100,8 +100,8 @@ pub(crate) fn write_before<M: Memory + Drop, S: Sink>(
     }
 }
 
-/// Rounds up to one that tells something, at most `most`, after so many that were made, with the lines of what the last
-/// told: how many.
+/// Rounds of which the last alone may tell something, at least one and at most `most`, after so many that were made,
+/// with the lines of what the last told: how many.
 pub(crate) fn write_on<M: Memory + Drop, S: Sink>(
     machine: &mut Machine<M>,
     most: u32,

@@ -31,7 +31,8 @@ fn rounds_left(left: u32, limit: u32, done: u32) -> u32
     if left < rest { left } else { rest }
 }
 
-/// How many rounds come, before the next tick and up to the limit, of which the first alone may have bytes before it.
+/// How many rounds may come, before the next tick and up to the limit, of which the first alone may have bytes before
+/// it.
 fn bare_rounds(script: &Script, left: u32, limit: u32, done: u32) -> u32
     requires some { 1 ≤ left }
     requires more { done < limit }

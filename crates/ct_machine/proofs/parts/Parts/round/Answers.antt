@@ -11,7 +11,7 @@ step_quietly-requires-clause-guarded g c = kept_by c.args.self.now c.sweep.new.s
 
 pub returns-then-step_quietly-clause-ran : goal.returns-then-step_quietly-clause-ran
 returns-then-step_quietly-clause-ran g c =
-    subst (λ (h : Happened). RanOn c.args.self.now c.step_quietly.new.self 1 h) (sym c.nothing.ensures)
+    subst (λ (h : Happened). RanOn c.args.self.now c.step_quietly.new.self 1 h) (sym c.silence.ensures)
     (round_ran c.args.self.now c.sweep.new.self c.step_quietly.new.self _ c.sweep.ensures.board c.sweep.ensures.state c.sweep.ensures.silent c.step_quietly.ensures.board (c.step_quietly.ensures.is c.if-step_quietly.true))
 
 pub returns-then-step_quietly-clause-guarded : goal.returns-then-step_quietly-clause-guarded
