@@ -25,7 +25,8 @@ fn write_event<M: Memory + Drop, S: Sink>(
         (λ _.
         Came machine.old machine.new number (event ∷ []) (S.shows sink.old) (S.shows sink.new))
         (λ _.
-        WriteFails (S.shows sink.old) (S.shows sink.new) (lines_of machine.old number (event ∷ []))) }
+        WriteFails (S.shows sink.old) (S.shows sink.new)
+        (lines_of machine.old number (event ∷ []))) }
 {
     let happened = machine.advance(event);
     write_happened(&happened, number, sink)
@@ -41,9 +42,11 @@ fn write_inputs<M: Memory + Drop, S: Sink>(
     requires { HasInputs machine.old.state givens.now }
     ensures { MatchResult result
         (λ _.
-        Came machine.old machine.new number (map input_of givens.now) (S.shows sink.old) (S.shows sink.new))
+        Came machine.old machine.new number (map input_of givens.now)
+        (S.shows sink.old) (S.shows sink.new))
         (λ _.
-        WriteFails (S.shows sink.old) (S.shows sink.new) (lines_of machine.old number (map input_of givens.now))) }
+        WriteFails (S.shows sink.old) (S.shows sink.new)
+        (lines_of machine.old number (map input_of givens.now))) }
 {
     for given in givens {
         let event = Event::Input {
@@ -70,7 +73,8 @@ fn write_tick<M: Memory + Drop, S: Sink>(
         (λ _.
         Came machine.old machine.new number (ticks_if due) (S.shows sink.old) (S.shows sink.new))
         (λ _.
-        WriteFails (S.shows sink.old) (S.shows sink.new) (lines_of machine.old number (ticks_if due))) }
+        WriteFails (S.shows sink.old) (S.shows sink.new)
+        (lines_of machine.old number (ticks_if due))) }
 {
     if due {
         return write_event(machine, Event::Tick, number, sink);
@@ -90,9 +94,11 @@ pub(crate) fn write_before<M: Memory + Drop, S: Sink>(
     requires inputs { HasInputs machine.old.state givens.now }
     ensures { MatchResult result
         (λ _.
-        Came machine.old machine.new number (before_of givens.now due) (S.shows sink.old) (S.shows sink.new))
+        Came machine.old machine.new number (before_of givens.now due)
+        (S.shows sink.old) (S.shows sink.new))
         (λ _.
-        WriteFails (S.shows sink.old) (S.shows sink.new) (lines_of machine.old number (before_of givens.now due))) }
+        WriteFails (S.shows sink.old) (S.shows sink.new)
+        (lines_of machine.old number (before_of givens.now due))) }
 {
     match write_inputs(machine, givens, number, sink) {
         Ok(()) => write_tick(machine, due, number, sink),

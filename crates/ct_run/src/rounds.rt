@@ -54,9 +54,11 @@ pub(crate) fn write_rounds<M: Memory + Drop, S: Sink>(
     requires script { IsPlayable script.now machine.old.state }
     ensures { MatchResult result
         (λ _.
-        IsOver machine.old machine.new script.now quantum limit (S.shows sink.old) (S.shows sink.new))
+        IsOver machine.old machine.new script.now quantum limit
+        (S.shows sink.old) (S.shows sink.new))
         (λ _.
-        WriteFails (S.shows sink.old) (S.shows sink.new) (run_lines machine.old script.now quantum limit)) }
+        WriteFails (S.shows sink.old) (S.shows sink.new)
+        (run_lines machine.old script.now quantum limit)) }
 {
     let mut left = quantum;
     let mut done = 0;

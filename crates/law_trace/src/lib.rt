@@ -32,10 +32,13 @@ pub fn lines_are_written()
     ensures off { off_line 3 (record { thread = 0; actor = 0; export = 7 })
         ≡ codes "3 off t0 c0 e7" ++ 10 ∷ [] }
     ensures limit { summary_line (quiet Limit 3)
-        ≡ codes "end limit steps 3 ticks 0 calls 0 devices 0 allocations 0 frees 0 traps 0" ++ 10 ∷ [] }
+        ≡ codes "end limit steps 3 ticks 0 calls 0 devices 0 allocations 0 frees 0 traps 0"
+        ++ 10 ∷ [] }
     ensures finished { summary_line
         (record (quiet Finished 56) { ticks = 2; calls = 2; devices = 2; allocations = 2 })
-        ≡ codes "end finished steps 56 ticks 2 calls 2 devices 2 allocations 2 frees 0 traps 0" ++ 10 ∷ [] }
+        ≡ codes "end finished steps 56 ticks 2 calls 2 devices 2 allocations 2 frees 0 traps 0"
+        ++ 10 ∷ [] }
     ensures idle { summary_line (quiet Idle 6)
-        ≡ codes "end idle steps 6 ticks 0 calls 0 devices 0 allocations 0 frees 0 traps 0" ++ 10 ∷ [] }
+        ≡ codes "end idle steps 6 ticks 0 calls 0 devices 0 allocations 0 frees 0 traps 0"
+        ++ 10 ∷ [] }
 {}
