@@ -8,7 +8,7 @@ use Rattle.def_memory.specs.Granules.{plain, cap_in, holding, holding_all}
 use Rattle.def_memory.specs.Accesses.{loaded_cap}
 use Rattle.def_machine.specs.State.{Thread, Frame, outermost}
 use Rattle.def_machine.specs.Frames.{pushed_frame}
-use Rattle.def_areas.specs.Areas.{frame_place, frame_at, frames_in, frame_words, low_word, caller_actor, caller_top, caller_handling}
+use Rattle.def_areas.specs.Areas.{frame_place, frame_at, frames_in, frame_words, low_half, caller_actor, caller_top, caller_handling}
 use Rattle.def_areas.specs.Touches.{Touches}
 use Rattle.law_areas.proofs.Writes.{put_same, put_other}
 use Rattle.law_areas.proofs.Frames.{frames_same, frames_next, frames_none, frame_written}
@@ -35,7 +35,7 @@ first_frames gs a actor top export small inside clear =
     let e3 : cap_in hs (k + 3) ≡ plain 0 = other (k + 3) (omega arith) (omega arith) in
     let e4 : cap_in hs (k + 4) ≡ plain 0 = other (k + 4) (omega arith) (omega arith) in
     let e5 : cap_in hs (k + 5) ≡ plain export = put_same gs (k + 5) (plain export) (omega (arith, inside)) in
-    let w : low_word (cap_in hs (k + 5)) ≡ export = ap low_word e5 ∙ (let is : export % 2 ^ 32 ≡ export = omega (arith, small) in is) in
+    let w : low_half (cap_in hs (k + 5)) ≡ export = ap low_half e5 ∙ (let is : export % 2 ^ 32 ≡ export = omega (arith, small) in is) in
     let f : frame_at hs k actor top false ≡ outermost actor export top = rw (e0, e1, e2, e3, e4, w) refl in
     frames_next hs a actor top false 0
     ∙ ap (λ fs. frame_at hs k actor top false ∷ fs) (frames_none hs a (caller_actor hs k) (caller_top hs k) (caller_handling hs k))

@@ -3,7 +3,7 @@
 ghost use Rattle.std.specs.Prelude.{◌≡◌, ◌+◌, ◌-◌, ◌*◌, ◌/◌, ◌%◌, ◌^◌, ◌≤◌, ◌<◌, true, length, drop};
 ghost use Rattle.def_profile.specs.declared.layout.TheConstants.{FRAME_SIZE};
 ghost use Rattle.def_memory.specs.Granules.{plain, holding_all};
-ghost use Rattle.def_areas.specs.Areas.{frame_place, frame_words, low_word, high_word, caller_actor, caller_top, caller_handling, mark_word};
+ghost use Rattle.def_areas.specs.Areas.{frame_place, frame_words, low_half, high_half, caller_actor, caller_top, caller_handling, mark_word};
 ghost use Rattle.def_areas.specs.Touches.{Touches};
 ghost use Rattle.ct_areas.specs.Threads.{HasArea, area_begin, area_end, frames_most, thread_of};
 ghost use Rattle.ct_areas.specs.Parts.{saved_of, with_frame, deeper, pushed, inner_frame, inner_place, outer_frames, saved_in, without_frame, frame_cleared, shallower};

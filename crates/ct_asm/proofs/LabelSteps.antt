@@ -10,7 +10,7 @@ use Rattle.def_source.specs.declared.parts.Part.TheVariants as part
 use Rattle.def_source.specs.Source.{Name, Statements, or_else}
 use Rattle.def_object.specs.declared.Label.{Label}
 use Rattle.def_object.specs.declared.Place.{Place}
-use Rattle.def_object.specs.Object.{Labels, advanced, offset, label_from, is_label, second_fault, start}
+use Rattle.def_object.specs.Object.{Labels, place_after, offset, label_from, is_label, second_fault, start}
 use Rattle.ct_asm.specs.Labels.{label_named, noted, is_new, IsFirst, AreFirst}
 
 -- a row at the end is found where no row before it has the name
@@ -49,11 +49,11 @@ one_statement q rows p k (part.Label a) later = label_step q a (record { section
 one_statement q rows p k x later = refl
 
 -- the labels so far and those to come, one statement further
-pub label_further : (q : Name) (rows rows' : List (Name × Label)) (p p' : Place) (k : ℕ) (x : Statement Name) (xs all : Statements) (whole : Option Label) → all ≡ x ∷ xs → rows' ≡ noted rows p k x.part → p' ≡ advanced p x.part → or_else (label_named q rows) (label_from q p k all) ≡ whole → or_else (label_named q rows') (label_from q p' (k + 1) xs) ≡ whole
+pub label_further : (q : Name) (rows rows' : List (Name × Label)) (p p' : Place) (k : ℕ) (x : Statement Name) (xs all : Statements) (whole : Option Label) → all ≡ x ∷ xs → rows' ≡ noted rows p k x.part → p' ≡ place_after p x.part → or_else (label_named q rows) (label_from q p k all) ≡ whole → or_else (label_named q rows') (label_from q p' (k + 1) xs) ≡ whole
 label_further q rows rows' p p' k x xs all whole cut grown next so_far =
     ap (λ r. or_else (label_named q r) (label_from q p' (k + 1) xs)) grown
     ∙ ap (λ o. or_else (label_named q (noted rows p k x.part)) (label_from q o (k + 1) xs)) next
-    ∙ one_statement q rows p k x.part (label_from q (advanced p x.part) (k + 1) xs)
+    ∙ one_statement q rows p k x.part (label_from q (place_after p x.part) (k + 1) xs)
     ∙ sym (ap (λ ss. or_else (label_named q rows) (label_from q p k ss)) cut) ∙ so_far
 
 -- a label whose name isn't there yet is the first of its name
@@ -68,7 +68,7 @@ first_here rows p k x xs all labels cut new whole = by x.part refl new
     by : (y : Part Name) → x.part ≡ y → is_new rows y ≡ true → IsFirst labels k y
     by (part.Label a) is none =
         let label : Label = record { section = p.section; offset = offset p; index = k } in
-        let later = label_from a (advanced p x.part) (k + 1) xs in
+        let later = label_from a (place_after p x.part) (k + 1) xs in
         let here : labels a ≡ Some label =
         sym (whole a) ∙ ap (λ o. or_else o (label_from a p k all)) (absent (label_named a rows) none) ∙ ap (label_from a p k) cut
         ∙ ap (λ y. cond (is_label a y) (Some label) later) is ∙ ap (λ b. cond b (Some label) later) ((bytes_eq-Decides a a).1 refl) in

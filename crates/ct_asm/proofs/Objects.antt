@@ -7,7 +7,7 @@ use Rattle.def_source.specs.declared.parts.Section.TheVariants as section
 use Rattle.def_source.specs.Source.{Name, Statements, is_text}
 use Rattle.def_object.specs.declared.Label.{Label}
 use Rattle.def_object.specs.declared.Place.{Place}
-use Rattle.def_object.specs.Object.{Labels, label_from, label_in, is_label, start, fault_from, fault_in, text_of, initial_of, bytes_from, advanced, grown, size_at, size_fault, offset, limit}
+use Rattle.def_object.specs.Object.{Labels, label_from, label_in, is_label, start, fault_from, fault_in, text_of, initial_of, bytes_from, place_after, grown, size_at, size_fault, offset, limit}
 use Rattle.ct_asm.specs.Labels.{label_named, WithinLimit}
 use Rattle.ct_asm.proofs.Walks.{first_faultless, rest_faultless}
 
@@ -50,7 +50,7 @@ grown_within p n h more = by_test (is_text p.section) more
     by_test true more = (more, h.1)
     by_test false more = (h.0, more)
 
-advanced_within : (p : Place) (q : Part Name) → Within p → size_fault (offset p) q ≡ None → Within (advanced p q)
+advanced_within : (p : Place) (q : Part Name) → Within p → size_fault (offset p) q ≡ None → Within (place_after p q)
 advanced_within p part.Text h e = h
 advanced_within p part.Data h e = h
 advanced_within p q h e = grown_within p (size_at q (offset p)) h (small (offset p) (size_at q (offset p)) e)
@@ -59,10 +59,10 @@ label_within : (labels : Labels) (name : Name) (p : Place) (k : ℕ) (ss : State
 label_within labels name p k [] h e = tt
 label_within labels name p k (s ∷ ss) h e =
     let here = first_faultless labels p k s ss (s ∷ ss) refl e in
-    let later = rest_faultless labels p (advanced p s.part) k s ss (s ∷ ss) refl refl e in
-    by_test (is_label name s.part) (label_within labels name (advanced p s.part) (k + 1) ss (advanced_within p s.part h here.1) later)
+    let later = rest_faultless labels p (place_after p s.part) k s ss (s ∷ ss) refl refl e in
+    by_test (is_label name s.part) (label_within labels name (place_after p s.part) (k + 1) ss (advanced_within p s.part h here.1) later)
   where
-    by_test : (b : Bool) → WithinLimit (label_from name (advanced p s.part) (k + 1) ss) → WithinLimit (cond b (Some (record { section = p.section; offset = offset p; index = k })) (label_from name (advanced p s.part) (k + 1) ss))
+    by_test : (b : Bool) → WithinLimit (label_from name (place_after p s.part) (k + 1) ss) → WithinLimit (cond b (Some (record { section = p.section; offset = offset p; index = k })) (label_from name (place_after p s.part) (k + 1) ss))
     by_test true more = offset_within p h
     by_test false more = more
 

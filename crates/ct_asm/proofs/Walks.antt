@@ -5,10 +5,10 @@ use Rattle.def_source.specs.declared.parts.Statement.{Statement}
 use Rattle.def_source.specs.declared.parts.Part.{Part}
 use Rattle.def_source.specs.declared.parts.Part.TheVariants as part
 use Rattle.def_source.specs.declared.parts.Section.{Section}
-use Rattle.def_source.specs.Source.{Name, Statements, lawful_from, is_lawful, in_section, numbers_fit, registers_exist, section_after, is_text, or_else}
+use Rattle.def_source.specs.Source.{Name, Statements, lawful_from, is_lawful_statement, in_section, numbers_fit, registers_exist, section_after, is_text, or_else}
 use Rattle.def_object.specs.declared.Place.{Place}
 use Rattle.def_object.specs.declared.Fault.{Fault}
-use Rattle.def_object.specs.Object.{Labels, advanced, grown, size_at, offset, is_least, lesser, on_line, statement_fault, reference_fault, size_fault, fault_from, section_bytes, bytes_from}
+use Rattle.def_object.specs.Object.{Labels, place_after, grown, size_at, offset, is_least, lesser, on_line, statement_fault, reference_fault, size_fault, fault_from, section_bytes, bytes_from}
 use Rattle.ct_source.specs.declared.compact.CompactStatement.{CompactStatement}
 use Rattle.ct_source.specs.Compact.{compact_part}
 use Rattle.ct_source.specs.Views.{statement_view, statements_view}
@@ -18,7 +18,7 @@ use Rattle.ct_asm.specs.Emitting.{IsFound}
 pub from_here : (ss : List CompactStatement) (k : ℕ) (d : CompactStatement) → k < length ss → statements_view (drop k ss) ≡ statement_view (get_or ss k d) ∷ statements_view (drop (k + 1) ss)
 from_here ss k d h = rw (add-one, drop-cons ss k d) refl
 
-parts_of : (s : Section) (p : Part Name) → is_lawful s p ≡ true → (in_section s p ≡ true) × (numbers_fit p ≡ true) × (registers_exist p ≡ true)
+parts_of : (s : Section) (p : Part Name) → is_lawful_statement s p ≡ true → (in_section s p ≡ true) × (numbers_fit p ≡ true) × (registers_exist p ≡ true)
 parts_of s p e =
     let one = and_parts (in_section s p && numbers_fit p) (registers_exist p) e in
     let two = and_parts (in_section s p) (numbers_fit p) one.0 in
@@ -26,7 +26,7 @@ parts_of s p e =
 
 -- a lawful statement at the front
 pub first_lawful : (s : Section) (x : Statement Name) (xs all : Statements) → all ≡ x ∷ xs → lawful_from s all ≡ true → (in_section s x.part ≡ true) × (numbers_fit x.part ≡ true) × (registers_exist x.part ≡ true)
-first_lawful s x xs all cut e = parts_of s x.part (and_parts (is_lawful s x.part) (lawful_from (section_after s (Some x.part)) xs) (sym (ap (lawful_from s) cut) ∙ e)).0
+first_lawful s x xs all cut e = parts_of s x.part (and_parts (is_lawful_statement s x.part) (lawful_from (section_after s (Some x.part)) xs) (sym (ap (lawful_from s) cut) ∙ e)).0
 
 -- of lawful statements that are left, the numbers of the next one fit
 pub next_fits : (ss : List CompactStatement) (k : ℕ) (d : CompactStatement) (s : Section) → k < length ss → lawful_from s (statements_view (drop k ss)) ≡ true → numbers_fit (compact_part (get_or ss k d).part) ≡ true
@@ -39,15 +39,15 @@ grown_section p n = by_test (is_text p.section)
     by_test true = refl
     by_test false = refl
 
-pub advanced_section : (p : Place) (q : Part Name) → (advanced p q).section ≡ section_after p.section (Some q)
+pub advanced_section : (p : Place) (q : Part Name) → (place_after p q).section ≡ section_after p.section (Some q)
 advanced_section p part.Text = refl
 advanced_section p part.Data = refl
 advanced_section p q = grown_section p (size_at q (offset p))
 
 -- the statements after a lawful one are lawful in the section after it
-pub rest_lawful : (p p' : Place) (x : Statement Name) (xs all : Statements) → all ≡ x ∷ xs → p' ≡ advanced p x.part → lawful_from p.section all ≡ true → lawful_from p'.section xs ≡ true
+pub rest_lawful : (p p' : Place) (x : Statement Name) (xs all : Statements) → all ≡ x ∷ xs → p' ≡ place_after p x.part → lawful_from p.section all ≡ true → lawful_from p'.section xs ≡ true
 rest_lawful p p' x xs all cut next e =
-    let later = (and_parts (is_lawful p.section x.part) (lawful_from (section_after p.section (Some x.part)) xs) (sym (ap (lawful_from p.section) cut) ∙ e)).1 in
+    let later = (and_parts (is_lawful_statement p.section x.part) (lawful_from (section_after p.section (Some x.part)) xs) (sym (ap (lawful_from p.section) cut) ∙ e)).1 in
     ap (λ q. lawful_from q.section xs) next ∙ ap (λ s. lawful_from s xs) (advanced_section p x.part) ∙ later
 
 least_first : (a b c : Fault) → is_least a b ≡ true → is_least b c ≡ true → is_least a c ≡ true
@@ -73,19 +73,19 @@ lesser_assoc (Some a) (Some b) (Some c) = by_tests (is_least a b) (is_least b c)
     by_tests false false e f = ap (λ x. cond x (Some b) (Some c)) f ∙ sym (ap (λ x. cond x (Some a) (Some c)) (least_last a b c e f))
 
 -- the least fault so far, one statement further
-pub fault_step : (labels : Labels) (least least' fault : Option Fault) (number : Option ℕ) (p p' : Place) (k : ℕ) (x : Statement Name) (xs all : Statements) (whole : Option Fault) → all ≡ x ∷ xs → fault ≡ on_line x.line number → number ≡ statement_fault labels p k x.part → least' ≡ lesser least fault → p' ≡ advanced p x.part → lesser least (fault_from labels p k all) ≡ whole → lesser least' (fault_from labels p' (k + 1) xs) ≡ whole
+pub fault_step : (labels : Labels) (least least' fault : Option Fault) (number : Option ℕ) (p p' : Place) (k : ℕ) (x : Statement Name) (xs all : Statements) (whole : Option Fault) → all ≡ x ∷ xs → fault ≡ on_line x.line number → number ≡ statement_fault labels p k x.part → least' ≡ lesser least fault → p' ≡ place_after p x.part → lesser least (fault_from labels p k all) ≡ whole → lesser least' (fault_from labels p' (k + 1) xs) ≡ whole
 fault_step labels least least' fault number p p' k x xs all whole cut found numbered less next so_far =
     ap (λ l. lesser l (fault_from labels p' (k + 1) xs)) (less ∙ ap (lesser least) (found ∙ ap (on_line x.line) numbered))
     ∙ ap (λ q. lesser (lesser least (on_line x.line (statement_fault labels p k x.part))) (fault_from labels q (k + 1) xs)) next
-    ∙ lesser_assoc least (on_line x.line (statement_fault labels p k x.part)) (fault_from labels (advanced p x.part) (k + 1) xs)
+    ∙ lesser_assoc least (on_line x.line (statement_fault labels p k x.part)) (fault_from labels (place_after p x.part) (k + 1) xs)
     ∙ sym (ap (λ ss. lesser least (fault_from labels p k ss)) cut) ∙ so_far
 
 -- the bytes so far, one statement further
-pub bytes_step : (wanted : Section) (labels : Labels) (slots : List Name) (front front' : List ℕ) (p p' : Place) (x : Statement Name) (xs all : Statements) (whole : List ℕ) → all ≡ x ∷ xs → front' ≡ front ++ section_bytes wanted labels slots p x.part → p' ≡ advanced p x.part → front ++ bytes_from wanted labels slots p all ≡ whole → front' ++ bytes_from wanted labels slots p' xs ≡ whole
+pub bytes_step : (wanted : Section) (labels : Labels) (slots : List Name) (front front' : List ℕ) (p p' : Place) (x : Statement Name) (xs all : Statements) (whole : List ℕ) → all ≡ x ∷ xs → front' ≡ front ++ section_bytes wanted labels slots p x.part → p' ≡ place_after p x.part → front ++ bytes_from wanted labels slots p all ≡ whole → front' ++ bytes_from wanted labels slots p' xs ≡ whole
 bytes_step wanted labels slots front front' p p' x xs all whole cut grown next so_far =
     ap (λ f. f ++ bytes_from wanted labels slots p' xs) grown
     ∙ ap (λ q. (front ++ section_bytes wanted labels slots p x.part) ++ bytes_from wanted labels slots q xs) next
-    ∙ append_assoc front (section_bytes wanted labels slots p x.part) (bytes_from wanted labels slots (advanced p x.part) xs)
+    ∙ append_assoc front (section_bytes wanted labels slots p x.part) (bytes_from wanted labels slots (place_after p x.part) xs)
     ∙ sym (ap (λ ss. front ++ bytes_from wanted labels slots p ss) cut) ∙ so_far
 
 pub neither : (a b : Option Fault) → lesser a b ≡ None → (a ≡ None) × (b ≡ None)
@@ -108,12 +108,12 @@ either_none (Some a) b e = cc e
 -- statements without a fault: the first has none, and neither have the others
 pub first_faultless : (labels : Labels) (p : Place) (k : ℕ) (x : Statement Name) (xs all : Statements) → all ≡ x ∷ xs → fault_from labels p k all ≡ None → (reference_fault labels k (offset p) x.part ≡ None) × (size_fault (offset p) x.part ≡ None)
 first_faultless labels p k x xs all cut e =
-    let two = neither (on_line x.line (statement_fault labels p k x.part)) (fault_from labels (advanced p x.part) (k + 1) xs) (sym (ap (fault_from labels p k) cut) ∙ e) in
+    let two = neither (on_line x.line (statement_fault labels p k x.part)) (fault_from labels (place_after p x.part) (k + 1) xs) (sym (ap (fault_from labels p k) cut) ∙ e) in
     either_none (reference_fault labels k (offset p) x.part) (size_fault (offset p) x.part) (no_number x.line (statement_fault labels p k x.part) two.0)
 
-pub rest_faultless : (labels : Labels) (p p' : Place) (k : ℕ) (x : Statement Name) (xs all : Statements) → all ≡ x ∷ xs → p' ≡ advanced p x.part → fault_from labels p k all ≡ None → fault_from labels p' (k + 1) xs ≡ None
+pub rest_faultless : (labels : Labels) (p p' : Place) (k : ℕ) (x : Statement Name) (xs all : Statements) → all ≡ x ∷ xs → p' ≡ place_after p x.part → fault_from labels p k all ≡ None → fault_from labels p' (k + 1) xs ≡ None
 rest_faultless labels p p' k x xs all cut next e =
-    ap (λ q. fault_from labels q (k + 1) xs) next ∙ (neither (on_line x.line (statement_fault labels p k x.part)) (fault_from labels (advanced p x.part) (k + 1) xs) (sym (ap (fault_from labels p k) cut) ∙ e)).1
+    ap (λ q. fault_from labels q (k + 1) xs) next ∙ (neither (on_line x.line (statement_fault labels p k x.part)) (fault_from labels (place_after p x.part) (k + 1) xs) (sym (ap (fault_from labels p k) cut) ∙ e)).1
 
 -- what a statement without a fault refers to is found, whatever its number
 pub found_here : (labels : Labels) (k at : ℕ) (q : Part Name) → reference_fault labels k at q ≡ None → IsFound labels at q

@@ -171,7 +171,7 @@ fn add_to_address(rd: u32, immediate: u32) -> Instr
 
 /// The number of a name's slot.
 fn slot_number(slots: &Names, name: &[u8]) -> u128
-    ensures value { result ≡ object.slot_number (object.slot_of slots.now name.now) }
+    ensures value { result ≡ object.slot_or_zero (object.slot_of slots.now name.now) }
     ensures small { result < 2 ^ 64 }
 {
     match slots.slot(name) {

@@ -110,7 +110,7 @@ pub(crate) fn advanced(place: Place, part: CompactPart<'_>) -> Place
     requires fit { source.numbers_fit (compact_part part) ≡ true }
     requires text { place.text < 2 ^ 100 }
     requires initial { place.initial < 2 ^ 100 }
-    ensures value { result ≡ object.advanced place (compact_part part.entry) }
+    ensures value { result ≡ object.place_after place (compact_part part.entry) }
     ensures text { result.text ≤ place.text + 2 ^ 20 }
     ensures initial { result.initial ≤ place.initial + 2 ^ 20 }
 {

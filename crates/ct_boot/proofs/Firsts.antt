@@ -12,7 +12,7 @@ use Rattle.def_words.specs.Derive.{executable_root}
 use Rattle.def_machine.specs.State.{interrupts_on}
 use Rattle.def_image.specs.Parts.{GateRow, CodeRow, CompartmentRow, ThreadRow, PartsRow}
 use Rattle.def_image.specs.Members.{text_base, code_number, globals_number, stack_number}
-use Rattle.def_boot.specs.Boot.{boot_state, first_thread, first_threads, first_pcc, first_posture, entered, entry_number, offset_of, gate_is_disabled}
+use Rattle.def_boot.specs.Boot.{boot_state, first_thread, first_threads, first_pcc, first_posture, entered_export, entry_number, offset_of, gate_is_disabled}
 use Rattle.def_boot.specs.Contents.{boot_granules}
 use Rattle.def_boot.specs.Entries.{code_row}
 use Rattle.def_boot.specs.Made.{entry_cap_as, boot_cap_of}
@@ -92,7 +92,7 @@ kept_is p n t pcc stack globals posture actor export a b c d e f =
     ∙ ap (λ z. first_start (record { pcc = first_pcc p t; stack = boot_cap_of p (stack_number p n); globals = boot_cap_of p (globals_number p t.compartment); posture = first_posture p t; actor = z; export = export })) e
     ∙ ap (λ z. first_start (record { pcc = first_pcc p t; stack = boot_cap_of p (stack_number p n); globals = boot_cap_of p (globals_number p t.compartment); posture = first_posture p t; actor = t.compartment; export = z })) f
 
-pub enters : (p : PartsRow) (t : ThreadRow) (c : CompartmentRow) (x : GateRow) → slice_get p.compartments t.compartment ≡ Some c → slice_get c.code.exports t.export ≡ Some x → entered p t ≡ Some x
+pub enters : (p : PartsRow) (t : ThreadRow) (c : CompartmentRow) (x : GateRow) → slice_get p.compartments t.compartment ≡ Some c → slice_get c.code.exports t.export ≡ Some x → entered_export p t ≡ Some x
 enters p t c x there export = ap (λ (d : CompartmentRow). slice_get d.code.exports t.export) (compartment_is p t.compartment c there) ∙ export
 
 pub pcc_is : (p : PartsRow) (t : ThreadRow) (c : CompartmentRow) (x : GateRow) (n : ℕ) (d : CodeRow) → slice_get p.compartments t.compartment ≡ Some c → slice_get c.code.exports t.export ≡ Some x → n ≡ code_number p t.compartment → d ≡ c.code
@@ -100,7 +100,7 @@ pub pcc_is : (p : PartsRow) (t : ThreadRow) (c : CompartmentRow) (x : GateRow) (
 pcc_is p t c x n d there export number same =
     ap (λ m. with_address m (text_base d + x.row.offset)) (code_made_is p t.compartment c n d there number same)
     ∙ ap (λ (e : CodeRow). with_address (boot_cap_of p (code_number p t.compartment)) (text_base e + x.row.offset)) same
-    ∙ sym (ap (λ (e : CompartmentRow). with_address (boot_cap_of p (code_number p t.compartment)) (text_base e.code + offset_of (entered p t))) (compartment_is p t.compartment c there)
+    ∙ sym (ap (λ (e : CompartmentRow). with_address (boot_cap_of p (code_number p t.compartment)) (text_base e.code + offset_of (entered_export p t))) (compartment_is p t.compartment c there)
     ∙ ap (λ o. with_address (boot_cap_of p (code_number p t.compartment)) (text_base c.code + offset_of o)) (enters p t c x there export))
 
 pub entry_is : (p : PartsRow) (t : ThreadRow) (c : CompartmentRow) (n : ℕ) (d : CodeRow) → slice_get p.compartments t.compartment ≡ Some c → n ≡ code_number p t.compartment → d ≡ c.code → n + 2 + length d.slots + t.export ≡ entry_number p t

@@ -1,7 +1,7 @@
 -- The set that bits spell goes by the lowest six of them.
 use Rattle.std.proofs.Common.{ℕ, zero, suc, ◌≡◌, ◌+◌, ◌*◌, ◌/◌, ◌%◌, ◌^◌, ◌<◌, ◌≤◌, ◌==◌, ◌&&◌, ◌||◌, Bool, cond, List, [], ◌∷◌, length, refl, ap, ◌∙◌, arith}
 use Rattle.law_lists.proofs.Tests.{chosen}
-use Rattle.def_words.specs.Permissions.{bit, global, among, gathered, set_where, Form, forms, is_spelled_by, first_spelling, is_flagged, is_told, unpacked}
+use Rattle.def_words.specs.Permissions.{bit, global, is_among, gathered, set_where, Form, forms, is_spelled_by, first_spelling, is_flagged, is_told, unpacked}
 
 -- the bits of the lowest six
 bit_low : (bits k : ℕ) → k < 6 → bit (bits % 64) k ≡ bit bits k
@@ -24,8 +24,8 @@ flagged_low bits p (q ∷ qs) few =
 
 told_low : (bits : ℕ) (f : Form) → length f.spelled ≤ 6 → (p : ℕ) → is_told (bits % 64) f p ≡ is_told bits f p
 told_low bits f few p =
-    ap (λ b. ((p == global) && b) || among p f.needed || is_flagged (bits % 64) p f.spelled) (bit_low bits 5 (omega arith))
-    ∙ ap (λ b. ((p == global) && bit bits 5) || among p f.needed || b) (flagged_low bits p f.spelled few)
+    ap (λ b. ((p == global) && b) || is_among p f.needed || is_flagged (bits % 64) p f.spelled) (bit_low bits 5 (omega arith))
+    ∙ ap (λ b. ((p == global) && bit bits 5) || is_among p f.needed || b) (flagged_low bits p f.spelled few)
 
 spelled_low : (bits : ℕ) (fs : List Form) → first_spelling (bits % 64) fs ≡ first_spelling bits fs
 spelled_low bits [] = refl

@@ -8,7 +8,7 @@ use Rattle.def_reach.specs.Roots.{Root, root_of}
 use Rattle.def_machine.specs.Image as image
 use Rattle.def_machine.specs.Image.{stack_base, stack_top, trusted_end}
 use Rattle.def_image.specs.Parts.{ThreadRow, PartsRow}
-use Rattle.def_image.specs.Regions.{Holder, StackOf, RegionRow, region, trusted_region, trusted_size, trusted_length, area_size, regions_of}
+use Rattle.def_image.specs.Regions.{Holder, StackOf, RegionRow, region_row, trusted_region, trusted_size, trusted_length, area_size, regions_of}
 use Rattle.def_image.specs.Regions as regions
 use Rattle.def_image.specs.Laid.{IsRegion}
 use Rattle.def_image.specs.Sound.{Sound}
@@ -115,11 +115,11 @@ module _ (p : PartsRow) (s : Sound p) where
     not_both : (at : ℕ) → x.stack ≤ at → at < x.stack + x.stack_length → p.trusted ≤ at → at < p.trusted + trusted_length p → ⊥
     not_both at low high from to =
         let among = stack_there p t x there in
-        let row = region (StackOf t) among.place x.stack x.stack_length in
-        let index : among.index ≡ 0 = s.laid.one among.index 0 at (region (StackOf t) among.place x.stack x.stack_length) (trusted_region p) among.is first_region (low, high) (from, to) in
-        let both : Some (region (StackOf t) among.place x.stack x.stack_length) ≡ Some (trusted_region p) =
+        let row = region_row (StackOf t) among.place x.stack x.stack_length in
+        let index : among.index ≡ 0 = s.laid.one among.index 0 at (region_row (StackOf t) among.place x.stack x.stack_length) (trusted_region p) among.is first_region (low, high) (from, to) in
+        let both : Some (region_row (StackOf t) among.place x.stack x.stack_length) ≡ Some (trusted_region p) =
         sym among.is ∙ ap (λ k. slice_get (regions_of p) k) index ∙ first_region in
-        let same : region (StackOf t) among.place x.stack x.stack_length ≡ trusted_region p = cc in
+        let same : region_row (StackOf t) among.place x.stack x.stack_length ≡ trusted_region p = cc in
         let other : is_trusted_holder (StackOf t) ≡ is_trusted_holder regions.TrustedPart = ap (λ (r : RegionRow). is_trusted_holder r.holder) same in
         no_way other
 

@@ -5,7 +5,7 @@ use Rattle.std.proofs.lemmas.Option.{slice_get_within, slice_get-get_or}
 use Rattle.def_memory.specs.declared.Granule.{Granule}
 use Rattle.def_image.specs.Parts.{CompartmentRow, PartsRow}
 use Rattle.def_boot.specs.Booting.{Booting, Stage, IsFrom}
-use Rattle.def_boot.specs.Written.{InCode, InTable, InInitial, InCompartment, InSealed, OfFirst, OfAny}
+use Rattle.def_boot.specs.Written.{InCode, InTable, InInitial, InCompartment, InSealed, InFirst, OfAny}
 use Rattle.def_boot.specs.Contents.{boot_granules}
 use Rattle.law_boot.proofs.Stages.{stage_none, stage_then, stage_as, stage_granule, stage_one, whole}
 
@@ -32,8 +32,8 @@ own_parts p a b c d own code table initial =
     (λ x even h. h)
 
 -- all members
-pub all_first : {A : Type 0} (p : PartsRow) (a b : List Granule) (In : A → ℕ → Type 0) (xs : List A) (n m : ℕ) → m ≤ n → Stage p a b (OfFirst In xs n) → Stage p a b (OfFirst In xs m)
-all_first p a b In xs n m order h = stage_as p a b (OfFirst In xs n) (OfFirst In xs m) h (λ x f. let lt = f.1 in (f.0, omega (arith, lt, order), f.2, f.3, f.4))
+pub all_first : {A : Type 0} (p : PartsRow) (a b : List Granule) (In : A → ℕ → Type 0) (xs : List A) (n m : ℕ) → m ≤ n → Stage p a b (InFirst In xs n) → Stage p a b (InFirst In xs m)
+all_first p a b In xs n m order h = stage_as p a b (InFirst In xs n) (InFirst In xs m) h (λ x f. let lt = f.1 in (f.0, omega (arith, lt, order), f.2, f.3, f.4))
 
 -- the same range by other names
 pub range_at : (p : PartsRow) (a b : List Granule) (low high from to : ℕ) → Stage p a b (IsFrom low high) → from ≡ low → to ≡ high → Stage p a b (IsFrom from to)
@@ -48,11 +48,11 @@ got_of xs ys k x same lt read = slice_get-get_or ys k x lt ∙ ap (λ z. Some z)
 
 -- ---- all of RAM
 
-of_first : {A : Type 0} (In : A → ℕ → Type 0) (xs : List A) (x : ℕ) → OfAny In xs x → OfFirst In xs (length xs) x
+of_first : {A : Type 0} (In : A → ℕ → Type 0) (xs : List A) (x : ℕ) → OfAny In xs x → InFirst In xs (length xs) x
 of_first In xs x (i, y, is, h) = (i, slice_get_within xs i y is, y, is, h)
 
-pub filled : (p : PartsRow) (a b c d e : List Granule) → Stage p a b (OfFirst InCompartment p.compartments (length p.compartments)) → Stage p b c (OfFirst InCode p.libraries (length p.libraries))
-    → Stage p c d (OfFirst InSealed p.sealed (length p.sealed)) → Stage p d e (λ x. x ≡ p.trusted) → p.trusted % 8 ≡ 0 → e ≡ boot_granules p
+pub filled : (p : PartsRow) (a b c d e : List Granule) → Stage p a b (InFirst InCompartment p.compartments (length p.compartments)) → Stage p b c (InFirst InCode p.libraries (length p.libraries))
+    → Stage p c d (InFirst InSealed p.sealed (length p.sealed)) → Stage p d e (λ x. x ≡ p.trusted) → p.trusted % 8 ≡ 0 → e ≡ boot_granules p
 filled p a b c d e owners libraries sealed sentry even =
     whole p e sentry.booting (λ k w. elim w [
       | inl own ↦ sentry.keeps k (sealed.keeps k (libraries.keeps k (owners.done k (of_first InCompartment p.compartments (p.ram + 8 * k) own))))

@@ -6,7 +6,7 @@ ghost use Rattle.def_image.specs.Parts.{GateRow};
 ghost use Rattle.def_image.specs.Spelling.{export_field};
 ghost use Rattle.def_image.specs.Sound.{Sound};
 ghost use Rattle.def_boot.specs.Booting.{Booting, IsFrom, PutsBytes, Stage};
-ghost use Rattle.def_boot.specs.Written.{InCode, InCompartment, InInitial, InSealed, InTable, OfFirst};
+ghost use Rattle.def_boot.specs.Written.{InCode, InCompartment, InInitial, InSealed, InTable, InFirst};
 ghost use Rattle.ct_boot.specs.Slots.{SlotPut, SlotsPut};
 
 use crate::making::{own_code, own_globals};
@@ -134,7 +134,7 @@ pub(crate) fn put_compartments<M: Memory>(parts: &Parts, mem: &mut M)
     requires sound { Sound parts.now }
     requires booting { Booting parts.now (M.granules mem.old) }
     ensures { Stage parts.now (M.granules mem.old) (M.granules mem.new)
-        (OfFirst InCompartment parts.now.compartments (length parts.now.compartments)) }
+        (InFirst InCompartment parts.now.compartments (length parts.now.compartments)) }
 {
     for of in 0..parts.compartments.len() {
         put_compartment(parts, mem, of, &parts.compartments[of]);
@@ -157,7 +157,7 @@ pub(crate) fn put_libraries<M: Memory>(parts: &Parts, mem: &mut M)
     requires sound { Sound parts.now }
     requires booting { Booting parts.now (M.granules mem.old) }
     ensures { Stage parts.now (M.granules mem.old) (M.granules mem.new)
-        (OfFirst InCode parts.now.libraries (length parts.now.libraries)) }
+        (InFirst InCode parts.now.libraries (length parts.now.libraries)) }
 {
     for of in 0..parts.libraries.len() {
         put_library(parts, mem, of, &parts.libraries[of]);
@@ -179,7 +179,7 @@ pub(crate) fn put_sealed_objects<M: Memory>(parts: &Parts, mem: &mut M)
     requires sound { Sound parts.now }
     requires booting { Booting parts.now (M.granules mem.old) }
     ensures { Stage parts.now (M.granules mem.old) (M.granules mem.new)
-        (OfFirst InSealed parts.now.sealed (length parts.now.sealed)) }
+        (InFirst InSealed parts.now.sealed (length parts.now.sealed)) }
 {
     for of in 0..parts.sealed.len() {
         put_sealed(parts, mem, of, &parts.sealed[of]);

@@ -2,7 +2,7 @@
 
 ghost use Rattle.std.specs.Prelude.{◌≡◌, ◌<◌, ◌≤◌, ◌+◌, ◌*◌, ◌^◌, length};
 ghost use Rattle.def_boot.specs.Contents as spec;
-ghost use Rattle.def_boot.specs.Contents.{byte_of};
+ghost use Rattle.def_boot.specs.Contents.{byte_or_zero};
 ghost use Rattle.def_image.specs.Sound.{Sound};
 ghost use Rattle.def_boot.specs.Booting.{Booting, IsFrom, BootPuts, PutsBytes, Stage};
 
@@ -22,7 +22,7 @@ pub(crate) fn put<M: Memory>(parts: &Parts, mem: &mut M, at: u32, cap: Live)
 
 /// The byte at an offset, 0 past the end.
 fn byte(bytes: &[u8], at: usize) -> u64
-    ensures value { result ≡ byte_of bytes.now at }
+    ensures value { result ≡ byte_or_zero bytes.now at }
     ensures small { result < 256 }
 {
     match bytes.get(at) {
@@ -35,8 +35,8 @@ fn byte(bytes: &[u8], at: usize) -> u64
 fn half_word(bytes: &[u8], at: usize) -> u64
     requires { at < 2 ^ 40 }
     ensures value { result
-        ≡ byte_of bytes.now at + byte_of bytes.now (at + 1) * 2 ^ 8
-        + byte_of bytes.now (at + 2) * 2 ^ 16 + byte_of bytes.now (at + 3) * 2 ^ 24 }
+        ≡ byte_or_zero bytes.now at + byte_or_zero bytes.now (at + 1) * 2 ^ 8
+        + byte_or_zero bytes.now (at + 2) * 2 ^ 16 + byte_or_zero bytes.now (at + 3) * 2 ^ 24 }
     ensures small { result < 2 ^ 32 }
 {
     let low = byte(bytes, at) + byte(bytes, at + 1) * (1 << 8);

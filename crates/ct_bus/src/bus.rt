@@ -1,7 +1,7 @@
 //! All devices, each at its base.
 
 ghost use Rattle.std.specs.Prelude.{◌≡◌, ◌<◌, ◌≤◌, ◌*◌, ◌⊎◌, ◌^◌, length, map, IfOk, IfSome, true, is_some};
-ghost use Rattle.def_step.specs.Devices.{IsWidth, is_of, base_of, found, bank_value, bank_read, bank_written, bank_input};
+ghost use Rattle.def_step.specs.Devices.{IsWidth, is_of, registers_base, found, bank_value, bank_read, bank_written, bank_input};
 ghost use Rattle.def_machine.specs.State.{fresh_device};
 
 use crate::unit::Unit;
@@ -39,7 +39,7 @@ fn has(base: u32, address: u32) -> bool
 fn find(bases: &[u32], address: u32) -> Option<usize>
     ensures found { result ≡ found bases.now address }
     ensures inside { IfSome result
-        (λ n. (n < length bases.now) × (is_of (base_of bases.now n) address ≡ true)) }
+        (λ n. (n < length bases.now) × (is_of (registers_base bases.now n) address ≡ true)) }
 {
     for (index, base) in bases.iter().enumerate() {
         if has(*base, address) {

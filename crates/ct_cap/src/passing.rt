@@ -2,7 +2,7 @@
 
 ghost use Rattle.std.specs.Prelude.{[], ◌∷◌, ◌++◌, ◌≡◌, bit_and, if◌then◌else◌, ℕ};
 ghost use Rattle.def_words.specs.Derive.{derive};
-ghost use Rattle.def_words.specs.Jumped.{linked, opened};
+ghost use Rattle.def_words.specs.Jumped.{return_link, opened};
 ghost use Rattle.def_words.specs.Loaded.{attenuated};
 ghost use Rattle.def_words.specs.Permissions.{global, load_global, load_mutable, removed, store_data};
 
@@ -59,7 +59,7 @@ fn passed(unsealed: bool, mutable: bool, globals: bool) -> u32
     }
 }
 
-/// A jump's target as the program counter capability: unsealed, with its root and no source.
+/// What a jump's target becomes as the program counter capability: unsealed, with its root and no source.
 pub fn open(l: Live) -> Live
     ensures { result ≡ opened l }
 {
@@ -74,7 +74,7 @@ pub fn open(l: Live) -> Live
 /// A jump's link: the program counter capability after the instruction as a return sentry, of type 4
 /// with the posture's source where interrupts were off, else of type 5.
 pub fn link(pcc: Live, before: Posture) -> Live
-    ensures { result ≡ linked pcc before }
+    ensures { result ≡ return_link pcc before }
 {
     let mut next = pcc;
     raise(&mut next, 4);

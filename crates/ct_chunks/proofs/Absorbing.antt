@@ -9,9 +9,9 @@ use Rattle.def_memory.specs.Accesses.{stored_cap}
 use Rattle.def_chunks.specs.declared.heads.TheConstants.{NO_CHUNK}
 use Rattle.def_chunks.specs.declared.rows.Range.{Range}
 use Rattle.def_chunks.specs.declared.rows.Head.{Head}
-use Rattle.def_chunks.specs.Chunks.{Chunk, total, first_free, head_of, head_at, head_in, Lays, Starts, IsChunk, AreChunks, NoneTouch}
+use Rattle.def_chunks.specs.Chunks.{Chunk, total_size, first_free, head_of, head_at, head_in, Lays, Starts, IsChunk, AreChunks, NoneTouch}
 use Rattle.def_chunks.specs.Tiles.{chunks, TiledBy, Tiled, TilesSettled}
-use Rattle.def_chunks.specs.Changes.{free_chunk, leaves, gap, joined, released, linked, KeepsRest, OnlyHeads}
+use Rattle.def_chunks.specs.Changes.{free_chunk, leaves, gap, joined, released, with_link, KeepsRest, OnlyHeads}
 use Rattle.def_chunks.specs.Gaps.{NoFree, LastFree}
 use Rattle.law_chunks.proofs.Lays.{lays_same, lays_both, lays_join, free_both, none_first, unlinked, relinked, total_both, first_stays, are_split, are_join, total_even, starts_low, starts_high, starts_even}
 use Rattle.law_chunks.proofs.Reading.{chunks_are, head_tells}
@@ -31,20 +31,20 @@ pub record Joining (r : Range) (gs : List Granule) (q : Range) (hs : List Granul
   pub above : List Chunk
   pub rest : List Chunk
   pub whole : chunks r gs ≡ above ++ rest
-  pub left_is : left ≡ total rest
+  pub left_is : left ≡ total_size rest
   pub front : List Chunk
   pub pending : ℕ
   pub xs : List Chunk
   pub xs_is : xs ≡ front ++ gap pending
   pub target : front ++ joined pending rest ≡ released (chunks r gs)
-  pub size : total xs ≡ total above
+  pub size : total_size xs ≡ total_size above
   pub are : AreChunks xs
   pub lays : Lays hs r.ram r.base r.base xs NO_CHUNK
-  pub rest_lays : Lays hs r.ram r.base (r.base + total xs) rest NO_CHUNK
+  pub rest_lays : Lays hs r.ram r.base (r.base + total_size xs) rest NO_CHUNK
   pub first : q.first ≡ first_free r.base r.base xs NO_CHUNK
   pub range : q ≡ record r { first = q.first }
   pub last_free : LastFree xs last.offset last.size
-  pub touch : ((pending ≡ 0) × ((last.offset ≡ NO_CHUNK) ⊎ (last.offset + last.size < total xs))) ⊎ ((last.offset ≡ total front) × (last.size ≡ pending) × (8 ≤ pending))
+  pub touch : ((pending ≡ 0) × ((last.offset ≡ NO_CHUNK) ⊎ (last.offset + last.size < total_size xs))) ⊎ ((last.offset ≡ total_size front) × (last.size ≡ pending) × (8 ≤ pending))
   pub start : (last.offset ≡ NO_CHUNK → ⊥) → Starts (r.base + last.offset) r.base (chunks r gs)
   pub keeps : KeepsRest r (chunks r gs) gs hs
   pub heads : OnlyHeads r (released (chunks r gs)) gs hs
@@ -95,7 +95,7 @@ gap_begins p n at cs head = elim (eq_tells n 0) [
 xs_left : (r : Range) (gs : List Granule) (q : Range) (hs : List Granule) (last : Last) (left p : ℕ) → (w : Joining r gs q hs last left) → Starts p r.base w.xs → Starts p r.base (released (chunks r gs))
 xs_left r gs q hs last left p w head = subst (Starts p r.base) w.target (elim (starts_split p r.base w.front (gap w.pending) (subst (Starts p r.base) w.xs_is head)) [
   | inl a ↦ starts_first p r.base w.front (joined w.pending w.rest) a
-  | inr b ↦ starts_second p r.base w.front (joined w.pending w.rest) (gap_begins p w.pending (r.base + total w.front) w.rest b)
+  | inr b ↦ starts_second p r.base w.front (joined w.pending w.rest) (gap_begins p w.pending (r.base + total_size w.front) w.rest b)
 ])
 
 -- ---- where the next chunk stands
@@ -106,24 +106,24 @@ pub record Next (r : Range) (gs : List Granule) (q : Range) (hs : List Granule) 
   pub rest_is : w.rest ≡ chunk ∷ others
   pub shape : IsChunk chunk
   pub others_are : AreChunks others
-  pub place : r.base + total w.xs ≡ r.base + (r.length - left)
-  pub sum : total w.xs + (chunk.size + total others) ≡ r.length
-  pub sum_left : left ≡ chunk.size + total others
-  pub lays : Lays hs r.ram r.base (r.base + total w.xs) (chunk ∷ others) NO_CHUNK
-  pub starts : Starts (r.base + total w.xs) r.base (chunks r gs)
+  pub place : r.base + total_size w.xs ≡ r.base + (r.length - left)
+  pub sum : total_size w.xs + (chunk.size + total_size others) ≡ r.length
+  pub sum_left : left ≡ chunk.size + total_size others
+  pub lays : Lays hs r.ram r.base (r.base + total_size w.xs) (chunk ∷ others) NO_CHUNK
+  pub starts : Starts (r.base + total_size w.xs) r.base (chunks r gs)
 
 pub next : (r : Range) (gs : List Granule) (q : Range) (hs : List Granule) (last : Last) (left : ℕ) → Tiled r gs → (w : Joining r gs q hs last left) → (left ≡ 0 → ⊥) → Next r gs q hs last left w
 next r gs q hs last left h w some = first w.rest refl
   where
     first : (rest : List Chunk) → w.rest ≡ rest → Next r gs q hs last left w
-    first [] is = absurd (some (w.left_is ∙ ap total is))
+    first [] is = absurd (some (w.left_is ∙ ap total_size is))
     first (c ∷ cs) is =
         let whole : chunks r gs ≡ w.above ++ c ∷ cs = w.whole ∙ ap (λ (l : List Chunk). w.above ++ l) is in
         let kinds = are_split w.above (c ∷ cs) (subst AreChunks whole h.are) in
         let both = total_both w.above (c ∷ cs) in
-        let sum = sym (ap total whole) ∙ h.size in
+        let sum = sym (ap total_size whole) ∙ h.size in
         let size = w.size in
-        let left_is : left ≡ c.size + total cs = w.left_is ∙ ap total is in
+        let left_is : left ≡ c.size + total_size cs = w.left_is ∙ ap total_size is in
         record {
           chunk = c;
           others = cs;
@@ -133,15 +133,15 @@ next r gs q hs last left h w some = first w.rest refl
           place = omega (arith, both, sum, size, left_is);
           sum = omega (arith, both, sum, size);
           sum_left = left_is;
-          lays = subst (λ (l : List Chunk). Lays hs r.ram r.base (r.base + total w.xs) l NO_CHUNK) is w.rest_lays;
-          starts = subst (Starts (r.base + total w.xs) r.base) (sym whole) (rw size (starts_second (r.base + total w.above) r.base w.above (c ∷ cs) (inl refl)));
+          lays = subst (λ (l : List Chunk). Lays hs r.ram r.base (r.base + total_size w.xs) l NO_CHUNK) is w.rest_lays;
+          starts = subst (Starts (r.base + total_size w.xs) r.base) (sym whole) (rw size (starts_second (r.base + total_size w.above) r.base w.above (c ∷ cs) (inl refl)));
         }
 
 -- where the last free one is
 record Behind (r : Range) (xs : List Chunk) (last : Last) : Type 0 where
   pub even : (r.base + last.offset - r.ram) % 8 ≡ 0
   pub some : 8 ≤ last.size
-  pub fits : last.offset + last.size ≤ total xs
+  pub fits : last.offset + last.size ≤ total_size xs
 
 behind : (r : Range) (gs : List Granule) (xs : List Chunk) (last : Last) → Tiled r gs → AreChunks xs → LastFree xs last.offset last.size → (last.offset ≡ NO_CHUNK → ⊥) → Behind r xs last
 behind r gs xs last h are l some = elim l [
@@ -155,7 +155,7 @@ behind r gs xs last h are l some = elim l [
       let above = h.above in
       let link = f.link in
       let size = f.size_is in
-      let lw = ap total f.whole ∙ total_both f.above (f.chunk ∷ f.used) in
+      let lw = ap total_size f.whole ∙ total_both f.above (f.chunk ∷ f.used) in
       record { even = omega (arith, link, even, e0, e1, above); some = omega (arith, size, wide); fits = omega (arith, link, size, lw) }
 ]
 
@@ -185,8 +185,8 @@ reach r gs q hs last left h w some =
     let inside = h.inside in
     let sizes = w.keeps.size in
     let left_is = n.sum_left in
-    let told = head_tells c (first_free r.base (r.base + total w.xs + c.size) n.others NO_CHUNK) n.shape (omega (arith, sum, short, e2)) in
-    let head : head_at hs r.ram (r.base + (r.length - left)) ≡ head_of c (first_free r.base (r.base + total w.xs + c.size) n.others NO_CHUNK) = rw (← place) n.lays.0 in
+    let told = head_tells c (first_free r.base (r.base + total_size w.xs + c.size) n.others NO_CHUNK) n.shape (omega (arith, sum, short, e2)) in
+    let head : head_at hs r.ram (r.base + (r.length - left)) ≡ head_of c (first_free r.base (r.base + total_size w.xs + c.size) n.others NO_CHUNK) = rw (← place) n.lays.0 in
     let size_r : (head_in (head_at hs r.ram (r.base + (r.length - left)))).size ≡ c.size = ap (λ (x : Cap). (head_in x).size) head ∙ told.size in
     let made : Reach r (length hs) left last (head_in (head_at hs r.ram (r.base + (r.length - left)))).size = record {
       most = omega (arith, left_is, sum);
@@ -228,12 +228,12 @@ stays r gs q hs last left h w n staying =
     let c : Chunk = n.chunk in
     let used = stays_used c staying in
     let left_is = n.sum_left in
-    let more : total (w.xs ++ c ∷ []) ≡ total w.xs + c.size = total_both w.xs (c ∷ []) ∙ omega arith in
-    let above_more : total (w.above ++ c ∷ []) ≡ total w.above + c.size = total_both w.above (c ∷ []) ∙ omega arith in
+    let more : total_size (w.xs ++ c ∷ []) ≡ total_size w.xs + c.size = total_both w.xs (c ∷ []) ∙ omega arith in
+    let above_more : total_size (w.above ++ c ∷ []) ≡ total_size w.above + c.size = total_both w.above (c ∷ []) ∙ omega arith in
     let size = w.size in
-    let there : r.base + total w.xs + c.size ≡ r.base + total (w.xs ++ c ∷ []) = omega (arith, more) in
-    let alone : first_free r.base (r.base + total w.xs) (c ∷ []) NO_CHUNK ≡ NO_CHUNK = rw used refl in
-    let one : Lays hs r.ram r.base (r.base + total w.xs) (c ∷ []) NO_CHUNK = unlinked hs r.ram r.base (r.base + total w.xs) (c ∷ []) (first_free r.base (r.base + total w.xs + c.size) n.others NO_CHUNK) NO_CHUNK (used, tt) (n.lays.0, tt) in
+    let there : r.base + total_size w.xs + c.size ≡ r.base + total_size (w.xs ++ c ∷ []) = omega (arith, more) in
+    let alone : first_free r.base (r.base + total_size w.xs) (c ∷ []) NO_CHUNK ≡ NO_CHUNK = rw used refl in
+    let one : Lays hs r.ram r.base (r.base + total_size w.xs) (c ∷ []) NO_CHUNK = unlinked hs r.ram r.base (r.base + total_size w.xs) (c ∷ []) (first_free r.base (r.base + total_size w.xs + c.size) n.others NO_CHUNK) NO_CHUNK (used, tt) (n.lays.0, tt) in
     let wide = n.shape.used used in
     let old_target : w.front ++ joined w.pending (c ∷ n.others) ≡ released (chunks r gs) = ap (λ (l : List Chunk). w.front ++ joined w.pending l) (sym n.rest_is) ∙ w.target in
     let open_ : joined w.pending (c ∷ n.others) ≡ gap w.pending ++ c ∷ joined 0 n.others = rw staying refl in
@@ -274,7 +274,7 @@ others_same r gs hs ks place c h over even is p low eight other =
     ap (λ l. head_at l r.ram p) is ∙ head_other hs r.ram p place c (omega (arith, low, above)) over (omega (arith, eight, e0, low, above)) even other
 
 -- a chunk that joins the last free one
-grows : (r : Range) (gs : List Granule) (q : Range) (hs ks : List Granule) (last : Last) (left : ℕ) → Tiled r gs → (w : Joining r gs q hs last left) → (n : Next r gs q hs last left w) → leaves n.chunk ≡ true → last.offset ≡ total w.front → last.size ≡ w.pending → 8 ≤ w.pending
+grows : (r : Range) (gs : List Granule) (q : Range) (hs ks : List Granule) (last : Last) (left : ℕ) → Tiled r gs → (w : Joining r gs q hs last left) → (n : Next r gs q hs last left w) → leaves n.chunk ≡ true → last.offset ≡ total_size w.front → last.size ≡ w.pending → 8 ≤ w.pending
     → ks ≡ stored_cap hs (r.base + last.offset - r.ram) (plain (last.size + n.chunk.size + NO_CHUNK * 2 ^ 32)) → Joining r gs q ks (record { offset = last.offset; size = last.size + n.chunk.size }) (left - n.chunk.size)
 grows r gs q hs ks last left h w n going offset_is size_is some is =
     let c : Chunk = n.chunk in
@@ -283,11 +283,11 @@ grows r gs q hs ks last left h w n going offset_is size_is some is =
     let new_gap : gap (w.pending + c.size) ≡ free_chunk (w.pending + c.size) ∷ [] = gap_some (w.pending + c.size) (λ e. omega (arith, e, some)) in
     let xs_is : w.xs ≡ w.front ++ free_chunk w.pending ∷ [] = w.xs_is ∙ ap (λ (l : List Chunk). w.front ++ l) old_gap in
     let kinds = are_split w.front (free_chunk w.pending ∷ []) (subst AreChunks xs_is w.are) in
-    let old_total : total w.xs ≡ total w.front + w.pending = ap total xs_is ∙ total_both w.front (free_chunk w.pending ∷ []) ∙ omega arith in
+    let old_total : total_size w.xs ≡ total_size w.front + w.pending = ap total_size xs_is ∙ total_both w.front (free_chunk w.pending ∷ []) ∙ omega arith in
     let zs : List Chunk = w.front ++ free_chunk (w.pending + c.size) ∷ [] in
-    let new_total : total zs ≡ total w.front + (w.pending + c.size) = total_both w.front (free_chunk (w.pending + c.size) ∷ []) ∙ omega arith in
+    let new_total : total_size zs ≡ total_size w.front + (w.pending + c.size) = total_both w.front (free_chunk (w.pending + c.size) ∷ []) ∙ omega arith in
     let size = w.size in
-    let above_more : total (w.above ++ c ∷ []) ≡ total w.above + c.size = total_both w.above (c ∷ []) ∙ omega arith in
+    let above_more : total_size (w.above ++ c ∷ []) ≡ total_size w.above + c.size = total_both w.above (c ∷ []) ∙ omega arith in
     let sum = n.sum in
     let short = h.short in
     let wide = n.shape.some in
@@ -302,19 +302,19 @@ grows r gs q hs ks last left h w n going offset_is size_is some is =
     let same = others_same r gs hs ks place word h (omega (arith, ram_low)) b.even is in
     let wrote : head_at ks r.ram place ≡ word = ap (λ l. head_at l r.ram place) is ∙ head_same hs r.ram place word (omega (arith, ram_low)) b.even (omega (arith, inside, sizes, sum, old_total, offset_is, some)) in
     let parts = lays_both hs r.ram r.base r.base w.front (free_chunk w.pending ∷ []) NO_CHUNK (subst (λ (l : List Chunk). Lays hs r.ram r.base r.base l NO_CHUNK) xs_is w.lays) in
-    let front_lays : Lays ks r.ram r.base r.base w.front (first_free r.base (r.base + total w.front) (free_chunk (w.pending + c.size) ∷ []) NO_CHUNK) =
-    lays_same hs ks r.ram r.base r.base w.front (first_free r.base (r.base + total w.front) (free_chunk (w.pending + c.size) ∷ []) NO_CHUNK)
+    let front_lays : Lays ks r.ram r.base r.base w.front (first_free r.base (r.base + total_size w.front) (free_chunk (w.pending + c.size) ∷ []) NO_CHUNK) =
+    lays_same hs ks r.ram r.base r.base w.front (first_free r.base (r.base + total_size w.front) (free_chunk (w.pending + c.size) ∷ []) NO_CHUNK)
     (λ p s. let hi = starts_high p r.base w.front kinds.0 s in same p (starts_low p r.base w.front s) (starts_even p r.base w.front kinds.0 (omega (arith, base_even)) s) (λ e. omega (arith, e, hi, offset_is)))
     parts.0 in
     let whole_c = n.shape.whole in
     let pending_whole = kinds.1.0.whole in
     let xs_even = total_even w.xs w.are in
-    let there : r.base + total w.xs + c.size ≡ r.base + total zs = omega (arith, old_total, new_total) in
-    let rest_lays : Lays ks r.ram r.base (r.base + total w.xs + c.size) n.others NO_CHUNK = lays_same hs ks r.ram r.base (r.base + total w.xs + c.size) n.others NO_CHUNK
-    (λ p s. let lo = starts_low p (r.base + total w.xs + c.size) n.others s in same p (omega (arith, lo)) (starts_even p (r.base + total w.xs + c.size) n.others n.others_are (omega (arith, base_even, xs_even, whole_c)) s) (λ e. omega (arith, e, lo, old_total, offset_is, some)))
+    let there : r.base + total_size w.xs + c.size ≡ r.base + total_size zs = omega (arith, old_total, new_total) in
+    let rest_lays : Lays ks r.ram r.base (r.base + total_size w.xs + c.size) n.others NO_CHUNK = lays_same hs ks r.ram r.base (r.base + total_size w.xs + c.size) n.others NO_CHUNK
+    (λ p s. let lo = starts_low p (r.base + total_size w.xs + c.size) n.others s in same p (omega (arith, lo)) (starts_even p (r.base + total_size w.xs + c.size) n.others n.others_are (omega (arith, base_even, xs_even, whole_c)) s) (λ e. omega (arith, e, lo, old_total, offset_is, some)))
     n.lays.1 in
     let sum_word : last.size + c.size + NO_CHUNK * 2 ^ 32 ≡ w.pending + c.size + 0 + NO_CHUNK * 2 ^ 32 = omega (arith, size_is) in
-    let head : head_at ks r.ram (r.base + total w.front) ≡ plain (w.pending + c.size + 0 + NO_CHUNK * 2 ^ 32) = ap (λ m. head_at ks r.ram (r.base + m)) (sym offset_is) ∙ wrote ∙ ap plain sum_word in
+    let head : head_at ks r.ram (r.base + total_size w.front) ≡ plain (w.pending + c.size + 0 + NO_CHUNK * 2 ^ 32) = ap (λ m. head_at ks r.ram (r.base + m)) (sym offset_is) ∙ wrote ∙ ap plain sum_word in
     let old_target : w.front ++ joined w.pending (c ∷ n.others) ≡ released (chunks r gs) = ap (λ (l : List Chunk). w.front ++ joined w.pending l) (sym n.rest_is) ∙ w.target in
     let open_ : joined w.pending (c ∷ n.others) ≡ joined (w.pending + c.size) n.others = rw going refl in
     record {
@@ -362,20 +362,20 @@ record Written (r : Range) (ks : List Granule) (xs : List Chunk) (at size : ℕ)
 
 -- a chunk that is the last free one from then on
 begins : (r : Range) (gs : List Granule) (q p_ : Range) (hs ks : List Granule) (last : Last) (left : ℕ) → Tiled r gs → (w : Joining r gs q hs last left) → (n : Next r gs q hs last left w) → leaves n.chunk ≡ true → w.pending ≡ 0
-    → ks ≡ linked (stored_cap hs (r.base + total w.xs - r.ram) (plain (n.chunk.size + NO_CHUNK * 2 ^ 32))) r.ram r.base last.offset last.size (total w.xs)
-    → p_ ≡ record r { first = cond (nat_eq last.offset NO_CHUNK) (total w.xs) q.first }
-    → Joining r gs p_ ks (record { offset = total w.xs; size = n.chunk.size }) (left - n.chunk.size)
+    → ks ≡ with_link (stored_cap hs (r.base + total_size w.xs - r.ram) (plain (n.chunk.size + NO_CHUNK * 2 ^ 32))) r.ram r.base last.offset last.size (total_size w.xs)
+    → p_ ≡ record r { first = cond (nat_eq last.offset NO_CHUNK) (total_size w.xs) q.first }
+    → Joining r gs p_ ks (record { offset = total_size w.xs; size = n.chunk.size }) (left - n.chunk.size)
 begins r gs q p_ hs ks last left h w n going zero_ is range_is =
     let c : Chunk = n.chunk in
-    let at : ℕ = r.base + total w.xs in
+    let at : ℕ = r.base + total_size w.xs in
     let left_is = n.sum_left in
     let wide = n.shape.some in
     let c_whole = n.shape.whole in
     let new_gap : gap c.size ≡ free_chunk c.size ∷ [] = gap_some c.size (λ e. omega (arith, e, wide)) in
     let zs : List Chunk = w.xs ++ free_chunk c.size ∷ [] in
-    let new_total : total zs ≡ total w.xs + c.size = total_both w.xs (free_chunk c.size ∷ []) ∙ omega arith in
+    let new_total : total_size zs ≡ total_size w.xs + c.size = total_both w.xs (free_chunk c.size ∷ []) ∙ omega arith in
     let size = w.size in
-    let above_more : total (w.above ++ c ∷ []) ≡ total w.above + c.size = total_both w.above (c ∷ []) ∙ omega arith in
+    let above_more : total_size (w.above ++ c ∷ []) ≡ total_size w.above + c.size = total_both w.above (c ∷ []) ∙ omega arith in
     let sum = n.sum in
     let short = h.short in
     let ram_low = h.above in
@@ -385,14 +385,14 @@ begins r gs q p_ hs ks last left h w n going zero_ is range_is =
     let sizes = w.keeps.size in
     let xs_even = total_even w.xs w.are in
     let word : Cap = plain (c.size + NO_CHUNK * 2 ^ 32) in
-    let link_word : Cap = plain (last.size + total w.xs * 2 ^ 32) in
+    let link_word : Cap = plain (last.size + total_size w.xs * 2 ^ 32) in
     let ms : List Granule = stored_cap hs (at - r.ram) word in
     let at_even : (at - r.ram) % 8 ≡ 0 = omega (arith, xs_even, base_even, e0, ram_low) in
     let same = others_same r gs hs ms at word h (omega (arith, ram_low)) at_even refl in
     let wrote : head_at ms r.ram at ≡ word = head_same hs r.ram at word (omega (arith, ram_low)) at_even (omega (arith, inside, sizes, sum, wide)) in
     let keeps_one : KeepsRest r (chunks r gs) gs ms = keeps_then r (chunks r gs) (chunks r gs) gs hs ms (λ p spared. spared) w.keeps (keeps_store r (chunks r gs) hs ms at word refl (omega (arith, ram_low)) at_even (head_loose r gs (chunks r gs) at h n.starts) refl) in
-    let there : at + c.size ≡ r.base + total zs = omega (arith, new_total) in
-    let mine : first_free r.base at (free_chunk c.size ∷ []) NO_CHUNK ≡ total w.xs = omega arith in
+    let there : at + c.size ≡ r.base + total_size zs = omega (arith, new_total) in
+    let mine : first_free r.base at (free_chunk c.size ∷ []) NO_CHUNK ≡ total_size w.xs = omega arith in
     let old_target : w.front ++ joined w.pending (c ∷ n.others) ≡ released (chunks r gs) = ap (λ (l : List Chunk). w.front ++ joined w.pending l) (sym n.rest_is) ∙ w.target in
     let open_ : joined w.pending (c ∷ n.others) ≡ joined c.size n.others = rw going (ap (λ m. joined m n.others) (omega (arith, zero_))) in
     let front_is : w.xs ≡ w.front = w.xs_is ∙ ap (λ m. w.front ++ gap m) zero_ ∙ append-nil w.front in
@@ -400,19 +400,19 @@ begins r gs q p_ hs ks last left h w n going zero_ is range_is =
     let target : w.xs ++ joined c.size n.others ≡ released (chunks r gs) = ap (λ (l : List Chunk). l ++ joined c.size n.others) front_is ∙ ap (λ (l : List Chunk). w.front ++ l) (sym open_) ∙ old_target in
     let at_left : Starts at r.base (released (chunks r gs)) = subst (Starts at r.base) target (starts_second at r.base w.xs (joined c.size n.others) (joined_begins c.size at n.others (λ e. omega (arith, e, wide)))) in
     let heads_one : OnlyHeads r (released (chunks r gs)) gs ms = heads_then r (released (chunks r gs)) (released (chunks r gs)) gs hs ms (λ p s. s) w.heads (heads_store r (released (chunks r gs)) hs ms at word (omega (arith, ram_low)) at_even at_left refl) in
-    let written : Written r ks w.xs at c.size last q.first p_.first (total w.xs) word n.others gs = elim (eq_tells last.offset NO_CHUNK) [
+    let written : Written r ks w.xs at c.size last q.first p_.first (total_size w.xs) word n.others gs = elim (eq_tells last.offset NO_CHUNK) [
       | inl e ↦
           let is_ms : ks ≡ ms = is ∙ rw e.0 refl in
-          let none : NoFree w.xs = elim w.last_free [ inl l ↦ l.1 | inr l ↦ absurd (let link = l.link in let lw = ap total l.whole ∙ total_both l.above (l.chunk ∷ l.used) in let is_none = e.1 in omega (arith, link, lw, is_none, sum, short)) ] in
+          let none : NoFree w.xs = elim w.last_free [ inl l ↦ l.1 | inr l ↦ absurd (let link = l.link in let lw = ap total_size l.whole ∙ total_both l.above (l.chunk ∷ l.used) in let is_none = e.1 in omega (arith, link, lw, is_none, sum, short)) ] in
           record {
-            lays = rw is_ms (lays_same hs ms r.ram r.base r.base w.xs (total w.xs)
+            lays = rw is_ms (lays_same hs ms r.ram r.base r.base w.xs (total_size w.xs)
                 (λ p s. let hi = starts_high p r.base w.xs w.are s in same p (starts_low p r.base w.xs s) (starts_even p r.base w.xs w.are (omega (arith, base_even)) s) (λ x. omega (arith, x, hi)))
-                (unlinked hs r.ram r.base r.base w.xs NO_CHUNK (total w.xs) none w.lays));
+                (unlinked hs r.ram r.base r.base w.xs NO_CHUNK (total_size w.xs) none w.lays));
             head = rw is_ms wrote;
             rest = rw is_ms (lays_same hs ms r.ram r.base (at + c.size) n.others NO_CHUNK
                 (λ p s. let lo = starts_low p (at + c.size) n.others s in same p (omega (arith, lo)) (starts_even p (at + c.size) n.others n.others_are (omega (arith, base_even, xs_even, c_whole)) s) (λ x. omega (arith, x, lo, wide)))
                 n.lays.1);
-            first = ap (λ (x : Range). x.first) range_is ∙ rw e.0 (sym (none_first r.base r.base w.xs (total w.xs) none));
+            first = ap (λ (x : Range). x.first) range_is ∙ rw e.0 (sym (none_first r.base r.base w.xs (total_size w.xs) none));
             keeps = rw is_ms keeps_one;
             heads = rw is_ms heads_one;
           }
@@ -429,27 +429,27 @@ begins r gs q p_ hs ks last left h w n going zero_ is range_is =
             | inl l ↦ absurd (e.1 l.0)
             | inr l ↦
                 let link = l.link in
-                let lw = ap total l.whole ∙ total_both l.above (l.chunk ∷ l.used) in
+                let lw = ap total_size l.whole ∙ total_both l.above (l.chunk ∷ l.used) in
                 let ks_ = are_split l.above (l.chunk ∷ l.used) (subst AreChunks l.whole w.are) in
                 let l_some = ks_.1.0.some in
                 let l_whole = ks_.1.0.whole in
                 let l_even = total_even l.above ks_.0 in
                 let l_state : l.chunk.state ≡ 0 = free_state l.chunk l.is in
                 let l_size = l.size_is in
-                let here_ : r.base + total l.above ≡ link_at = omega (arith, link) in
-                let l_head : head_at ks r.ram (r.base + total l.above) ≡ head_of l.chunk (total w.xs) = rw here_ (wrote_link ∙ rw (l_size, l.is, l_state) (ap plain (omega arith))) in
+                let here_ : r.base + total_size l.above ≡ link_at = omega (arith, link) in
+                let l_head : head_at ks r.ram (r.base + total_size l.above) ≡ head_of l.chunk (total_size w.xs) = rw here_ (wrote_link ∙ rw (l_size, l.is, l_state) (ap plain (omega arith))) in
                 let both : (p : ℕ) → r.base ≤ p → p % 8 ≡ 0 → (p ≡ at → ⊥) → (p ≡ link_at → ⊥) → head_at ks r.ram p ≡ head_at hs r.ram p = λ p lo ev a b. again p lo ev b ∙ same p lo ev a in
-                let lays_l : Lays ks r.ram r.base r.base (l.above ++ l.chunk ∷ l.used) (total w.xs) = relinked hs ks r.ram r.base r.base l.above l.chunk l.used NO_CHUNK (total w.xs) l.is l.others (subst (λ (k : List Chunk). Lays hs r.ram r.base r.base k NO_CHUNK) l.whole w.lays) l_head
+                let lays_l : Lays ks r.ram r.base r.base (l.above ++ l.chunk ∷ l.used) (total_size w.xs) = relinked hs ks r.ram r.base r.base l.above l.chunk l.used NO_CHUNK (total_size w.xs) l.is l.others (subst (λ (k : List Chunk). Lays hs r.ram r.base r.base k NO_CHUNK) l.whole w.lays) l_head
                 (λ p s. let hi = starts_high p r.base l.above ks_.0 s in both p (starts_low p r.base l.above s) (starts_even p r.base l.above ks_.0 (omega (arith, base_even)) s) (λ x. omega (arith, x, hi, lw)) (λ x. omega (arith, x, hi, link)))
-                (λ p s. let lo = starts_low p (r.base + total l.above + l.chunk.size) l.used s in let hi = starts_high p (r.base + total l.above + l.chunk.size) l.used ks_.1.1 s in
-                both p (omega (arith, lo)) (starts_even p (r.base + total l.above + l.chunk.size) l.used ks_.1.1 (omega (arith, base_even, l_even, l_whole)) s) (λ x. omega (arith, x, hi, lw)) (λ x. omega (arith, x, lo, link, l_some))) in
+                (λ p s. let lo = starts_low p (r.base + total_size l.above + l.chunk.size) l.used s in let hi = starts_high p (r.base + total_size l.above + l.chunk.size) l.used ks_.1.1 s in
+                both p (omega (arith, lo)) (starts_even p (r.base + total_size l.above + l.chunk.size) l.used ks_.1.1 (omega (arith, base_even, l_even, l_whole)) s) (λ x. omega (arith, x, hi, lw)) (λ x. omega (arith, x, lo, link, l_some))) in
                 record {
-                  lays = subst (λ (k : List Chunk). Lays ks r.ram r.base r.base k (total w.xs)) (sym l.whole) lays_l;
+                  lays = subst (λ (k : List Chunk). Lays ks r.ram r.base r.base k (total_size w.xs)) (sym l.whole) lays_l;
                   head = again at (omega arith) (omega (arith, base_even, xs_even)) (λ x. omega (arith, x, b_fits, b_some)) ∙ wrote;
                   rest = lays_same hs ks r.ram r.base (at + c.size) n.others NO_CHUNK
                       (λ p s. let lo = starts_low p (at + c.size) n.others s in both p (omega (arith, lo)) (starts_even p (at + c.size) n.others n.others_are (omega (arith, base_even, xs_even, c_whole)) s) (λ x. omega (arith, x, lo, wide)) (λ x. omega (arith, x, lo, b_fits, b_some)))
                       n.lays.1;
-                  first = ap (λ (x : Range). x.first) range_is ∙ rw e.0 (w.first ∙ ap (λ (k : List Chunk). first_free r.base r.base k NO_CHUNK) l.whole ∙ first_stays r.base r.base l.above l.chunk l.used NO_CHUNK (total w.xs) l.is ∙ ap (λ (k : List Chunk). first_free r.base r.base k (total w.xs)) (sym l.whole));
+                  first = ap (λ (x : Range). x.first) range_is ∙ rw e.0 (w.first ∙ ap (λ (k : List Chunk). first_free r.base r.base k NO_CHUNK) l.whole ∙ first_stays r.base r.base l.above l.chunk l.used NO_CHUNK (total_size w.xs) l.is ∙ ap (λ (k : List Chunk). first_free r.base r.base k (total_size w.xs)) (sym l.whole));
                   keeps = keeps_then r (chunks r gs) (chunks r gs) gs ms ks (λ p spared. spared) keeps_one (keeps_store r (chunks r gs) ms ks link_at link_word refl (omega (arith, ram_low)) b.even (head_loose r gs (chunks r gs) link_at h (w.start e.1)) is_ks);
                   heads = heads_then r (released (chunks r gs)) (released (chunks r gs)) gs ms ks (λ p s. s) heads_one
                       (heads_store r (released (chunks r gs)) ms ks link_at link_word (omega (arith, ram_low)) b.even (xs_left r gs q hs last left link_at w (subst (Starts link_at r.base) (sym l.whole) (starts_there link_at r.base l.above l.chunk l.used (omega (arith, link))))) is_ks);
@@ -482,7 +482,7 @@ begins r gs q p_ hs ks last left h w n going zero_ is range_is =
       rest_lays = rw (← there) written.rest;
       first = written.first ∙ ap (λ k. first_free r.base r.base w.xs k) (sym mine) ∙ sym (free_both r.base r.base w.xs (free_chunk c.size ∷ []) NO_CHUNK);
       range = range_is ∙ ap (λ k. let x : Range = record r { first = k } in x) (sym (ap (λ (x : Range). x.first) range_is));
-      last_free = last_free w.xs (free_chunk c.size) (total w.xs) c.size refl refl refl;
+      last_free = last_free w.xs (free_chunk c.size) (total_size w.xs) c.size refl refl refl;
       touch = inr (refl, refl, wide);
       start = λ some. n.starts;
       keeps = written.keeps;
@@ -512,10 +512,10 @@ step r gs q p_ hs ks last new left size h w some size_given v =
     let sum = n.sum in
     let short = h.short in
     let e2 = h.even.2 in
-    let at_is : q.base + (q.length - left) ≡ r.base + total w.xs = omega (arith, e_base, e_length, place) in
-    let told = head_tells c (first_free r.base (r.base + total w.xs + c.size) n.others NO_CHUNK) n.shape (omega (arith, sum, short, e2)) in
+    let at_is : q.base + (q.length - left) ≡ r.base + total_size w.xs = omega (arith, e_base, e_length, place) in
+    let told = head_tells c (first_free r.base (r.base + total_size w.xs + c.size) n.others NO_CHUNK) n.shape (omega (arith, sum, short, e2)) in
     let head : Head = head_in (head_at hs q.ram (q.base + (q.length - left))) in
-    let head_is : head_in (head_at hs q.ram (q.base + (q.length - left))) ≡ head_in (head_of c (first_free r.base (r.base + total w.xs + c.size) n.others NO_CHUNK)) = ap (λ a. head_in (head_at hs q.ram a)) at_is ∙ ap (λ a. head_in (head_at hs a (r.base + total w.xs))) e_ram ∙ ap head_in n.lays.0 in
+    let head_is : head_in (head_at hs q.ram (q.base + (q.length - left))) ≡ head_in (head_of c (first_free r.base (r.base + total_size w.xs + c.size) n.others NO_CHUNK)) = ap (λ a. head_in (head_at hs q.ram a)) at_is ∙ ap (λ a. head_in (head_at hs a (r.base + total_size w.xs))) e_ram ∙ ap head_in n.lays.0 in
     let head_size : (head_in (head_at hs q.ram (q.base + (q.length - left)))).size ≡ c.size = ap (λ (x : Head). x.size) head_is ∙ told.size in
     let head_state : (head_in (head_at hs q.ram (q.base + (q.length - left)))).state ≡ c.state = ap (λ (x : Head). x.state) head_is ∙ told.state in
     let goes_is : goes (head_in (head_at hs q.ram (q.base + (q.length - left)))) ≡ leaves c = ap (λ s. nat_eq s 0 || nat_eq s 3) head_state in
@@ -532,45 +532,45 @@ step r gs q p_ hs ks last new left size h w some size_given v =
           let all = goes_is ∙ going in
           let memory : ks ≡ absorbed hs q last (q.base + (q.length - left)) (head_in (head_at hs q.ram (q.base + (q.length - left)))).size = v.memory ∙ ap (λ b. cond b (absorbed hs q last (q.base + (q.length - left)) (head_in (head_at hs q.ram (q.base + (q.length - left)))).size) hs) all in
           let memory_c : ks ≡ absorbed hs q last (q.base + (q.length - left)) c.size = memory ∙ ap (λ m. absorbed hs q last (q.base + (q.length - left)) m) head_size in
-          let memory_r : ks ≡ absorbed hs (record r { first = q.first }) last (r.base + total w.xs) c.size = memory_c ∙ ap (λ a. absorbed hs q last a c.size) at_is ∙ ap (λ (x : Range). absorbed hs x last (r.base + total w.xs) c.size) w.range in
-          let last_c : new ≡ last_after (record r { first = q.first }) last (r.base + total w.xs) c.size =
+          let memory_r : ks ≡ absorbed hs (record r { first = q.first }) last (r.base + total_size w.xs) c.size = memory_c ∙ ap (λ a. absorbed hs q last a c.size) at_is ∙ ap (λ (x : Range). absorbed hs x last (r.base + total_size w.xs) c.size) w.range in
+          let last_c : new ≡ last_after (record r { first = q.first }) last (r.base + total_size w.xs) c.size =
           v.last_is ∙ ap (λ b. cond b (last_after q last (q.base + (q.length - left)) (head_in (head_at hs q.ram (q.base + (q.length - left)))).size) last) all
-          ∙ ap (λ m. last_after q last (q.base + (q.length - left)) m) head_size ∙ ap (λ a. last_after q last a c.size) at_is ∙ ap (λ (x : Range). last_after x last (r.base + total w.xs) c.size) w.range in
-          let range_c : p_ ≡ record r { first = first_after (record r { first = q.first }) last (r.base + total w.xs) } =
+          ∙ ap (λ m. last_after q last (q.base + (q.length - left)) m) head_size ∙ ap (λ a. last_after q last a c.size) at_is ∙ ap (λ (x : Range). last_after x last (r.base + total_size w.xs) c.size) w.range in
+          let range_c : p_ ≡ record r { first = first_after (record r { first = q.first }) last (r.base + total_size w.xs) } =
           v.range ∙ ap (λ b. cond b (record q { first = first_after q last (q.base + (q.length - left)) }) q) all
-          ∙ ap (λ a. let x : Range = record q { first = first_after q last a } in x) at_is ∙ ap (λ (y : Range). let x : Range = record y { first = first_after y last (r.base + total w.xs) } in x) w.range in
-          let offset : r.base + total w.xs - r.base ≡ total w.xs = omega arith in
+          ∙ ap (λ a. let x : Range = record q { first = first_after q last a } in x) at_is ∙ ap (λ (y : Range). let x : Range = record y { first = first_after y last (r.base + total_size w.xs) } in x) w.range in
+          let offset : r.base + total_size w.xs - r.base ≡ total_size w.xs = omega arith in
           elim w.touch [
             | inr t ↦
                 let offset_is = t.0 in
                 let last_size = t.1 in
                 let wide = t.2 in
-                let old_total : total w.xs ≡ total w.front + w.pending = ap total w.xs_is ∙ total_both w.front (gap w.pending) ∙ ap (λ m. total w.front + m) (gap_total w.pending) in
+                let old_total : total_size w.xs ≡ total_size w.front + w.pending = ap total_size w.xs_is ∙ total_both w.front (gap w.pending) ∙ ap (λ m. total_size w.front + m) (gap_total w.pending) in
                 let some_last : nat_eq last.offset NO_CHUNK ≡ false = elim (eq_tells last.offset NO_CHUNK) [ inl e ↦ absurd (let is = e.1 in omega (arith, is, offset_is, old_total, sum, short)) | inr e ↦ e.0 ] in
-                let ends : nat_eq (last.offset + last.size) (r.base + total w.xs - r.base) ≡ true = elim (eq_tells (last.offset + last.size) (r.base + total w.xs - r.base)) [ inl e ↦ e.0 | inr e ↦ absurd (e.1 (omega (arith, offset_is, last_size, old_total))) ] in
-                let touching : touches (record r { first = q.first }) last (r.base + total w.xs) ≡ true = rw (some_last, ends) refl in
+                let ends : nat_eq (last.offset + last.size) (r.base + total_size w.xs - r.base) ≡ true = elim (eq_tells (last.offset + last.size) (r.base + total_size w.xs - r.base)) [ inl e ↦ e.0 | inr e ↦ absurd (e.1 (omega (arith, offset_is, last_size, old_total))) ] in
+                let touching : touches (record r { first = q.first }) last (r.base + total_size w.xs) ≡ true = rw (some_last, ends) refl in
                 carried r gs q p_ ks ks (record { offset = last.offset; size = last.size + c.size }) new left size c.size
-                (range_c ∙ ap (λ b. let x : Range = record r { first = cond b q.first (cond (nat_eq last.offset NO_CHUNK) (r.base + total w.xs - r.base) q.first) } in x) touching ∙ sym w.range)
+                (range_c ∙ ap (λ b. let x : Range = record r { first = cond b q.first (cond (nat_eq last.offset NO_CHUNK) (r.base + total_size w.xs - r.base) q.first) } in x) touching ∙ sym w.range)
                 refl
-                (last_c ∙ ap (λ b. cond b (let x : Last = record { offset = last.offset; size = last.size + c.size } in x) (record { offset = r.base + total w.xs - r.base; size = c.size })) touching)
+                (last_c ∙ ap (λ b. cond b (let x : Last = record { offset = last.offset; size = last.size + c.size } in x) (record { offset = r.base + total_size w.xs - r.base; size = c.size })) touching)
                 size_is
                 (grows r gs q hs ks last left h w n going offset_is last_size wide
-                (memory_r ∙ ap (λ b. cond b (stored_cap hs (r.base + last.offset - r.ram) (plain (last.size + c.size + NO_CHUNK * 2 ^ 32))) (linked (stored_cap hs (r.base + total w.xs - r.ram) (plain (c.size + NO_CHUNK * 2 ^ 32))) r.ram r.base last.offset last.size (r.base + total w.xs - r.base))) touching))
+                (memory_r ∙ ap (λ b. cond b (stored_cap hs (r.base + last.offset - r.ram) (plain (last.size + c.size + NO_CHUNK * 2 ^ 32))) (with_link (stored_cap hs (r.base + total_size w.xs - r.ram) (plain (c.size + NO_CHUNK * 2 ^ 32))) r.ram r.base last.offset last.size (r.base + total_size w.xs - r.base))) touching))
             | inl t ↦
-                let touching : touches (record r { first = q.first }) last (r.base + total w.xs) ≡ false = elim t.1 [
+                let touching : touches (record r { first = q.first }) last (r.base + total_size w.xs) ≡ false = elim t.1 [
                   | inl none ↦ (let is : nat_eq last.offset NO_CHUNK ≡ true = elim (eq_tells last.offset NO_CHUNK) [ inl e ↦ e.0 | inr e ↦ absurd (e.1 none) ] in rw is refl)
                   | inr before ↦
-                      let ends : nat_eq (last.offset + last.size) (r.base + total w.xs - r.base) ≡ false = elim (eq_tells (last.offset + last.size) (r.base + total w.xs - r.base)) [ inl e ↦ absurd (let is = e.1 in omega (arith, is, before)) | inr e ↦ e.0 ] in
+                      let ends : nat_eq (last.offset + last.size) (r.base + total_size w.xs - r.base) ≡ false = elim (eq_tells (last.offset + last.size) (r.base + total_size w.xs - r.base)) [ inl e ↦ absurd (let is = e.1 in omega (arith, is, before)) | inr e ↦ e.0 ] in
                       elim (bool_tells (nat_eq last.offset NO_CHUNK)) [ inl e ↦ rw e refl | inr e ↦ rw (e, ends) refl ]
                 ] in
-                carried r gs p_ p_ ks ks (record { offset = total w.xs; size = c.size }) new left size c.size
+                carried r gs p_ p_ ks ks (record { offset = total_size w.xs; size = c.size }) new left size c.size
                 refl refl
-                (last_c ∙ ap (λ b. cond b (let x : Last = record { offset = last.offset; size = last.size + c.size } in x) (record { offset = r.base + total w.xs - r.base; size = c.size })) touching ∙ ap (λ o. let x : Last = record { offset = o; size = c.size } in x) offset)
+                (last_c ∙ ap (λ b. cond b (let x : Last = record { offset = last.offset; size = last.size + c.size } in x) (record { offset = r.base + total_size w.xs - r.base; size = c.size })) touching ∙ ap (λ o. let x : Last = record { offset = o; size = c.size } in x) offset)
                 size_is
                 (begins r gs q p_ hs ks last left h w n going t.0
-                (memory_r ∙ ap (λ b. cond b (stored_cap hs (r.base + last.offset - r.ram) (plain (last.size + c.size + NO_CHUNK * 2 ^ 32))) (linked (stored_cap hs (r.base + total w.xs - r.ram) (plain (c.size + NO_CHUNK * 2 ^ 32))) r.ram r.base last.offset last.size (r.base + total w.xs - r.base))) touching
-                ∙ ap (λ o. linked (stored_cap hs (r.base + total w.xs - r.ram) (plain (c.size + NO_CHUNK * 2 ^ 32))) r.ram r.base last.offset last.size o) offset)
-                (range_c ∙ ap (λ b. let x : Range = record r { first = cond b q.first (cond (nat_eq last.offset NO_CHUNK) (r.base + total w.xs - r.base) q.first) } in x) touching
+                (memory_r ∙ ap (λ b. cond b (stored_cap hs (r.base + last.offset - r.ram) (plain (last.size + c.size + NO_CHUNK * 2 ^ 32))) (with_link (stored_cap hs (r.base + total_size w.xs - r.ram) (plain (c.size + NO_CHUNK * 2 ^ 32))) r.ram r.base last.offset last.size (r.base + total_size w.xs - r.base))) touching
+                ∙ ap (λ o. with_link (stored_cap hs (r.base + total_size w.xs - r.ram) (plain (c.size + NO_CHUNK * 2 ^ 32))) r.ram r.base last.offset last.size o) offset)
+                (range_c ∙ ap (λ b. let x : Range = record r { first = cond b q.first (cond (nat_eq last.offset NO_CHUNK) (r.base + total_size w.xs - r.base) q.first) } in x) touching
                 ∙ ap (λ o. let x : Range = record r { first = cond (nat_eq last.offset NO_CHUNK) o q.first } in x) offset))
           ]
     ]
@@ -587,12 +587,12 @@ pub record AllJoined (r : Range) (gs : List Granule) (q : Range) (hs : List Gran
 pub ends : (r : Range) (gs : List Granule) (q : Range) (hs : List Granule) (last : Last) (left : ℕ) → Tiled r gs → (w : Joining r gs q hs last left) → left ≡ 0 → AllJoined r gs q hs
 ends r gs q hs last left h w none = all w.rest w.whole w.left_is w.target (are_split w.above w.rest (subst AreChunks w.whole h.are)).1
   where
-    all : (rest : List Chunk) → chunks r gs ≡ w.above ++ rest → left ≡ total rest → w.front ++ joined w.pending rest ≡ released (chunks r gs) → AreChunks rest → AllJoined r gs q hs
+    all : (rest : List Chunk) → chunks r gs ≡ w.above ++ rest → left ≡ total_size rest → w.front ++ joined w.pending rest ≡ released (chunks r gs) → AreChunks rest → AllJoined r gs q hs
     all (c ∷ cs) whole is target are = absurd (let wide = are.0.some in omega (arith, is, none, wide))
     all [] whole is target are =
         let xs_are : w.xs ≡ released (chunks r gs) = w.xs_is ∙ target in
         let old : chunks r gs ≡ w.above = whole ∙ append-nil w.above in
-        let size : total w.xs ≡ r.length = w.size ∙ sym (ap total old) ∙ h.size in
+        let size : total_size w.xs ≡ r.length = w.size ∙ sym (ap total_size old) ∙ h.size in
         let sizes = w.keeps.size in
         let inside = h.inside in
         let tiled : TiledBy (record r { first = q.first }) hs w.xs = record {

@@ -8,9 +8,9 @@ use Rattle.def_memory.specs.Accesses.{stored_cap}
 use Rattle.def_chunks.specs.declared.heads.TheConstants.{NO_CHUNK}
 use Rattle.def_chunks.specs.declared.rows.Range.{Range}
 use Rattle.def_chunks.specs.declared.rows.Gap.{Gap}
-use Rattle.def_chunks.specs.Chunks.{Chunk, is_free, total, first_free, Starts, IsChunk, AreChunks, NoneTouch}
+use Rattle.def_chunks.specs.Chunks.{Chunk, is_free, total_size, first_free, Starts, IsChunk, AreChunks, NoneTouch}
 use Rattle.def_chunks.specs.Tiles.{chunks, Tiled, TilesSettled}
-use Rattle.def_chunks.specs.Changes.{replaced, parts, taken, free_chunk, gap, linked, InUse, KeepsRest, OnlyHeads}
+use Rattle.def_chunks.specs.Changes.{replaced, parts, taken, free_chunk, gap, with_link, InUse, KeepsRest, OnlyHeads}
 use Rattle.def_chunks.specs.Gaps.{ChunkStands, FreeStands, FreeLinked, carved}
 use Rattle.law_chunks.proofs.Lays.{total_both, are_split, are_join}
 use Rattle.law_chunks.proofs.Reading.{sits, replaced_is}
@@ -82,7 +82,7 @@ last_at r gs at size next before bsize h t some = elim t.last [
 ]
 
 pub take_keeps : (r : Range) (gs ms hs : List Granule) (at size next before bsize two : ℕ) → Tiled r gs → FreeLinked r gs at size next before bsize
-    → ms ≡ linked gs r.ram r.base before bsize next → hs ≡ stored_cap ms (at - r.ram) (plain two) → KeepsRest r (chunks r gs) gs hs
+    → ms ≡ with_link gs r.ram r.base before bsize next → hs ≡ stored_cap ms (at - r.ram) (plain two) → KeepsRest r (chunks r gs) gs hs
 take_keeps r gs ms hs at size next before bsize two h t is_one is_two =
     let f = t.free_stands in
     let k = sits r gs at h f.stands in
@@ -123,7 +123,7 @@ split_heads r gs ms hs ds at size first next one two h f whole is_one is_two is 
     (heads_store r ds ms hs at (plain two) over even here is_two)
 
 pub take_heads : (r : Range) (gs ms hs : List Granule) (ds : List Chunk) (at size next before bsize number two : ℕ) → Tiled r gs → FreeLinked r gs at size next before bsize
-    → ms ≡ linked gs r.ram r.base before bsize next → hs ≡ stored_cap ms (at - r.ram) (plain two) → ds ≡ replaced at (taken number) r.base (chunks r gs) → OnlyHeads r ds gs hs
+    → ms ≡ with_link gs r.ram r.base before bsize next → hs ≡ stored_cap ms (at - r.ram) (plain two) → ds ≡ replaced at (taken number) r.base (chunks r gs) → OnlyHeads r ds gs hs
 take_heads r gs ms hs ds at size next before bsize number two h t is_one is_two is =
     let s = t.free_stands.stands in
     let k = sits r gs at h s in
@@ -277,7 +277,7 @@ front_some r gs hs g size next front before bsize h t other fits tiled is keeps 
     ap (replaced g.at (λ c. gap front ++ free_chunk (c.size - front) ∷ []) r.base) s.whole ∙ replaced_is (λ c. gap front ++ free_chunk (c.size - front) ∷ []) g.at r.base s.above s.chunk s.below k.above_are s.place in
     let now : chunks r hs ≡ s.above ++ free_chunk front ∷ free_chunk (s.chunk.size - front) ∷ s.below = is ∙ split_is ∙ ap (λ (c : Chunk). s.above ++ c ∷ record s.chunk { size = s.chunk.size - front } ∷ s.below) one ∙ ap (λ (c : Chunk). s.above ++ free_chunk front ∷ c ∷ s.below) two in
     let apart : chunks r hs ≡ (s.above ++ free_chunk front ∷ []) ++ free_chunk (s.chunk.size - front) ∷ s.below = now ∙ sym (append_assoc s.above (free_chunk front ∷ []) (free_chunk (s.chunk.size - front) ∷ s.below)) in
-    let more : total (s.above ++ free_chunk front ∷ []) ≡ total s.above + front = total_both s.above (free_chunk front ∷ []) ∙ omega arith in
+    let more : total_size (s.above ++ free_chunk front ∷ []) ≡ total_size s.above + front = total_both s.above (free_chunk front ∷ []) ∙ omega arith in
     record {
       tiled = tiled;
       linked = record {
@@ -350,7 +350,7 @@ carve_done r q gs ms ns hs g length number next before bsize h t fit back front 
     let parted : chunks r ns ≡ (s.above ++ gap f) ++ free_chunk (s.chunk.size - b - f) ∷ (gap b ++ s.below) =
     two ∙ ap (λ (l : List Chunk). s.above ++ l) (append_assoc (gap f) (free_chunk (s.chunk.size - b - f) ∷ []) (gap b ++ s.below)) ∙ sym (append_assoc s.above (gap f) (free_chunk (s.chunk.size - b - f) ∷ (gap b ++ s.below))) in
     let front_even = n.front in
-    let more : total (s.above ++ gap f) ≡ total s.above + f = total_both s.above (gap f) ∙ ap (λ m. total s.above + m) (gap_total f) in
+    let more : total_size (s.above ++ gap f) ≡ total_size s.above + f = total_both s.above (gap f) ∙ ap (λ m. total_size s.above + m) (gap_total f) in
     let three : chunks q hs ≡ (s.above ++ gap f) ++ (taken number (free_chunk (s.chunk.size - b - f)) ++ (gap b ++ s.below)) =
     took ∙ ap (replaced (g.at + f) (taken number) r.base) parted
     ∙ replaced_is (taken number) (g.at + f) r.base (s.above ++ gap f) (free_chunk (s.chunk.size - b - f)) (gap b ++ s.below) (are_join s.above (gap f) k.above_are (gap_are f front_even)) (omega (arith, place, more)) in
@@ -378,7 +378,7 @@ carve_apart r q gs hs g front length number h t tiled is =
     record { tiled = tiled; apart = subst NoneTouch (sym list) (carved_apart s.above s.chunk d s.below front back t.is refl (subst NoneTouch s.whole h.apart)) }
 
 -- a free chunk's place is no used chunk's, whatever becomes of it
-use_stays : (r : Range) (gs : List Granule) (at : ℕ) (s : ChunkStands r gs at) (f : Chunk → List Chunk) (p : ℕ) → Tiled r gs → is_free s.chunk ≡ true → total (f s.chunk) ≡ s.chunk.size → InUse p r.base (chunks r gs) → InUse p r.base (replaced at f r.base (chunks r gs))
+use_stays : (r : Range) (gs : List Granule) (at : ℕ) (s : ChunkStands r gs at) (f : Chunk → List Chunk) (p : ℕ) → Tiled r gs → is_free s.chunk ≡ true → total_size (f s.chunk) ≡ s.chunk.size → InUse p r.base (chunks r gs) → InUse p r.base (replaced at f r.base (chunks r gs))
 use_stays r gs at s f p h free_ size used =
     let k = sits r gs at h s in
     let is : replaced at f r.base (chunks r gs) ≡ s.above ++ (f s.chunk ++ s.below) = ap (replaced at f r.base) s.whole ∙ replaced_is f at r.base s.above s.chunk s.below k.above_are s.place in
@@ -386,7 +386,7 @@ use_stays r gs at s f p h free_ size used =
       | inl a ↦ in_use_first p r.base s.above (f s.chunk ++ s.below) a
       | inr b ↦ elim b [
         | inl m ↦ absurd (let u = m.0 in let clash : true ≡ false = sym free_ ∙ u in cc)
-        | inr m ↦ in_use_second p r.base s.above (f s.chunk ++ s.below) (in_use_second p (r.base + total s.above) (f s.chunk) s.below (rw size m))
+        | inr m ↦ in_use_second p r.base s.above (f s.chunk ++ s.below) (in_use_second p (r.base + total_size s.above) (f s.chunk) s.below (rw size m))
       ]
     ] in
     subst (InUse p r.base) (sym is) now
@@ -402,24 +402,24 @@ carve_keeps r gs ms ns hs g length next before bsize h t fit back front last =
     let s = t.free_stands.stands in
     let size_is = t.free_stands.size_is in
     let fits = n.back_fits in
-    let b_size : total (free_chunk (s.chunk.size - b) ∷ gap b) ≡ s.chunk.size = (let one = gap_total b in omega (arith, one, fits, size_is)) in
+    let b_size : total_size (free_chunk (s.chunk.size - b) ∷ gap b) ≡ s.chunk.size = (let one = gap_total b in omega (arith, one, fits, size_is)) in
     let more_one : (p : ℕ) → InUse p r.base (chunks r gs) → InUse p r.base (chunks r ms) = λ p used. subst (InUse p r.base) (sym back.chunks_are) (use_stays r gs g.at s (λ c. free_chunk (c.size - b) ∷ gap b) p h.tiled t.free_stands.is b_size used) in
     let m = back.linked.free_stands in
     let m_size = m.size_is in
     let f_fits = n.front_fits in
-    let f_size : total (gap f ++ free_chunk (m.stands.chunk.size - f) ∷ []) ≡ m.stands.chunk.size = total_both (gap f) (free_chunk (m.stands.chunk.size - f) ∷ []) ∙ (let one = gap_total f in omega (arith, one, f_fits, m_size)) in
+    let f_size : total_size (gap f ++ free_chunk (m.stands.chunk.size - f) ∷ []) ≡ m.stands.chunk.size = total_both (gap f) (free_chunk (m.stands.chunk.size - f) ∷ []) ∙ (let one = gap_total f in omega (arith, one, f_fits, m_size)) in
     let more_two : (p : ℕ) → InUse p r.base (chunks r ms) → InUse p r.base (chunks r ns) = λ p used. subst (InUse p r.base) (sym front.chunks_are) (use_stays r ms g.at m.stands (λ c. gap f ++ free_chunk (c.size - f) ∷ []) p back.tiled m.is f_size used) in
     keeps_then r (chunks r gs) (chunks r ms) gs ms hs (spared_more r (chunks r gs) (chunks r ms) more_one) back.keeps
     (keeps_then r (chunks r ms) (chunks r ns) ms ns hs (spared_more r (chunks r ms) (chunks r ns) more_two) front.keeps last)
 
 -- a head is one still, whatever becomes of a chunk
-heads_stay : (r : Range) (gs : List Granule) (at : ℕ) (s : ChunkStands r gs at) (f : Chunk → List Chunk) (p : ℕ) → Tiled r gs → total (f s.chunk) ≡ s.chunk.size → ((q : ℕ) → Starts q q (f s.chunk)) → Starts p r.base (chunks r gs) → Starts p r.base (replaced at f r.base (chunks r gs))
+heads_stay : (r : Range) (gs : List Granule) (at : ℕ) (s : ChunkStands r gs at) (f : Chunk → List Chunk) (p : ℕ) → Tiled r gs → total_size (f s.chunk) ≡ s.chunk.size → ((q : ℕ) → Starts q q (f s.chunk)) → Starts p r.base (chunks r gs) → Starts p r.base (replaced at f r.base (chunks r gs))
 heads_stay r gs at s f p h size begins head =
     let now : Starts p r.base (s.above ++ (f s.chunk ++ s.below)) = elim (starts_split p r.base s.above (s.chunk ∷ s.below) (subst (Starts p r.base) s.whole head)) [
       | inl a ↦ starts_first p r.base s.above (f s.chunk ++ s.below) a
       | inr b ↦ starts_second p r.base s.above (f s.chunk ++ s.below) (elim b [
-        | inl m ↦ starts_first p (r.base + total s.above) (f s.chunk) s.below (subst (λ x. Starts x (r.base + total s.above) (f s.chunk)) (sym m) (begins (r.base + total s.above)))
-        | inr m ↦ starts_second p (r.base + total s.above) (f s.chunk) s.below (rw size m)
+        | inl m ↦ starts_first p (r.base + total_size s.above) (f s.chunk) s.below (subst (λ x. Starts x (r.base + total_size s.above) (f s.chunk)) (sym m) (begins (r.base + total_size s.above)))
+        | inr m ↦ starts_second p (r.base + total_size s.above) (f s.chunk) s.below (rw size m)
       ])
     ] in
     subst (Starts p r.base) (sym (become r gs at s f h)) now
@@ -438,7 +438,7 @@ carve_heads r q gs ms ns hs g length number next before bsize h t fit back front
     let m = back.linked.free_stands in
     let m_size = m.size_is in
     let f_fits = n.front_fits in
-    let f_size : total (gap f ++ free_chunk (m.stands.chunk.size - f) ∷ []) ≡ m.stands.chunk.size = total_both (gap f) (free_chunk (m.stands.chunk.size - f) ∷ []) ∙ (let one = gap_total f in omega (arith, one, f_fits, m_size)) in
+    let f_size : total_size (gap f ++ free_chunk (m.stands.chunk.size - f) ∷ []) ≡ m.stands.chunk.size = total_both (gap f) (free_chunk (m.stands.chunk.size - f) ∷ []) ∙ (let one = gap_total f in omega (arith, one, f_fits, m_size)) in
     let l = front.linked.free_stands.stands in
     let more_one : (p : ℕ) → Starts p r.base (chunks r ms) → Starts p r.base (chunks r ns) = λ p head. subst (Starts p r.base) (sym front.chunks_are) (heads_stay r ms g.at m.stands (λ c. gap f ++ free_chunk (c.size - f) ∷ []) p back.tiled f_size (front_begins f (m.stands.chunk.size - f)) head) in
     let more_two : (p : ℕ) → Starts p r.base (chunks r ns) → Starts p r.base (chunks q hs) = λ p head. subst (Starts p r.base) (sym took) (heads_stay r ns (g.at + f) l (taken number) p front.tiled (omega arith) (λ x. inl refl) head) in

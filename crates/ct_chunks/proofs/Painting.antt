@@ -8,7 +8,7 @@ use Rattle.law_granules.proofs.Lists.{cap_rest}
 use Rattle.def_memory.specs.Accesses.{stored_cap}
 use Rattle.def_chunks.specs.declared.rows.Range.{Range}
 use Rattle.def_chunks.specs.declared.rows.Head.{Head}
-use Rattle.def_chunks.specs.Chunks.{Chunk, is_free, total, first_free, head_at, head_in, Starts, AreChunks, NoneTouch}
+use Rattle.def_chunks.specs.Chunks.{Chunk, is_free, total_size, first_free, head_at, head_in, Starts, AreChunks, NoneTouch}
 use Rattle.def_chunks.specs.Tiles.{chunks, Tiled, TilesSettled}
 use Rattle.def_chunks.specs.Changes.{replaced, in_state, painted_chunk, all_painted, InUse, KeepsRest, OnlyHeads}
 use Rattle.def_chunks.specs.Gaps.{ChunkStands, UsedStands}
@@ -102,7 +102,7 @@ map_both : (xs ys : List Chunk) → all_painted (xs ++ ys) ≡ all_painted xs ++
 map_both [] ys = refl
 map_both (x ∷ xs) ys = ap (λ l. painted_chunk x ∷ l) (map_both xs ys)
 
-painted_total : (xs : List Chunk) → total (all_painted xs) ≡ total xs
+painted_total : (xs : List Chunk) → total_size (all_painted xs) ≡ total_size xs
 painted_total [] = refl
 painted_total (x ∷ xs) = let first = painted_size x in let rest = painted_total xs in omega (arith, first, rest)
 
@@ -121,7 +121,7 @@ pub record Painting (r : Range) (gs hs : List Granule) (left : ℕ) : Type 0 whe
   pub above : List Chunk
   pub rest : List Chunk
   pub whole : chunks r gs ≡ above ++ rest
-  pub left_is : left ≡ total rest
+  pub left_is : left ≡ total_size rest
   pub tiled : Tiled r hs
   pub now : chunks r hs ≡ all_painted above ++ rest
   pub keeps : KeepsRest r (chunks r gs) gs hs
@@ -134,11 +134,11 @@ painting_starts r gs h = record { above = []; rest = chunks r gs; whole = refl; 
 pub painting_stands : (r : Range) (gs hs : List Granule) (left : ℕ) → Painting r gs hs left → (left ≡ 0 → ⊥) → ChunkStands r hs (r.base + (r.length - left))
 painting_stands r gs hs left w some = first w.rest w.now w.left_is
   where
-    first : (rest : List Chunk) → chunks r hs ≡ all_painted w.above ++ rest → left ≡ total rest → ChunkStands r hs (r.base + (r.length - left))
+    first : (rest : List Chunk) → chunks r hs ≡ all_painted w.above ++ rest → left ≡ total_size rest → ChunkStands r hs (r.base + (r.length - left))
     first [] now is = absurd (some is)
     first (c ∷ cs) now is =
         let both = total_both (all_painted w.above) (c ∷ cs) in
-        let sum = sym (ap total now) ∙ w.tiled.size in
+        let sum = sym (ap total_size now) ∙ w.tiled.size in
         record { above = all_painted w.above; chunk = c; below = cs; whole = now; place = omega (arith, both, sum, is) }
 
 -- what the code has to know of it
@@ -154,7 +154,7 @@ painting_ahead r gs hs left w some =
     let wide = k.shape.some in
     let small = w.tiled.small in
     let both = total_both (all_painted w.above) w.rest in
-    let sum = sym (ap total w.now) ∙ w.tiled.size in
+    let sum = sym (ap total_size w.now) ∙ w.tiled.size in
     let is = w.left_is in
     record { most = omega (arith, both, sum, is); fits = omega (arith, fits, small, wide) }
 
@@ -168,11 +168,11 @@ pub painting_step : (r : Range) (gs hs ks : List Granule) (left size : ℕ) → 
     → Tiled r ks → chunks r ks ≡ replaced (r.base + (r.length - left)) (λ c. painted_chunk c ∷ []) r.base (chunks r hs) → KeepsRest r (chunks r hs) hs ks → ((k : ℕ) → (r.ram + 8 * k ≡ r.base + (r.length - left) → ⊥) → granule_at ks k ≡ granule_at hs k) → Painted r gs ks left size
 painting_step r gs hs ks left size w some size_is tiled is keeps elsewhere = step w.rest w.whole w.now w.left_is
   where
-    step : (rest : List Chunk) → chunks r gs ≡ w.above ++ rest → chunks r hs ≡ all_painted w.above ++ rest → left ≡ total rest → Painted r gs ks left size
+    step : (rest : List Chunk) → chunks r gs ≡ w.above ++ rest → chunks r hs ≡ all_painted w.above ++ rest → left ≡ total_size rest → Painted r gs ks left size
     step [] whole now left_is = absurd (some left_is)
     step (c ∷ cs) whole now left_is =
         let both = total_both (all_painted w.above) (c ∷ cs) in
-        let sum = sym (ap total now) ∙ w.tiled.size in
+        let sum = sym (ap total_size now) ∙ w.tiled.size in
         let at : ℕ = r.base + (r.length - left) in
         let s : ChunkStands r hs at = record { above = all_painted w.above; chunk = c; below = cs; whole = now; place = omega (arith, both, sum, left_is) } in
         let k = sits r hs at w.tiled s in
@@ -211,7 +211,7 @@ pub record AllPainted (r : Range) (gs hs : List Granule) : Type 0 where
 pub painting_ends : (r : Range) (gs hs : List Granule) (left : ℕ) → TilesSettled r gs → Painting r gs hs left → left ≡ 0 → AllPainted r gs hs
 painting_ends r gs hs left h w none = all w.rest w.whole w.now w.left_is (are_split w.above w.rest (subst AreChunks w.whole h.tiled.are)).1
   where
-    all : (rest : List Chunk) → chunks r gs ≡ w.above ++ rest → chunks r hs ≡ all_painted w.above ++ rest → left ≡ total rest → AreChunks rest → AllPainted r gs hs
+    all : (rest : List Chunk) → chunks r gs ≡ w.above ++ rest → chunks r hs ≡ all_painted w.above ++ rest → left ≡ total_size rest → AreChunks rest → AllPainted r gs hs
     all [] whole now is are =
         let old : chunks r gs ≡ w.above = whole ∙ append-nil w.above in
         let new : chunks r hs ≡ all_painted (chunks r gs) = now ∙ append-nil (all_painted w.above) ∙ ap all_painted (sym old) in

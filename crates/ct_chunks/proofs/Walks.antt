@@ -7,7 +7,7 @@ use Rattle.def_chunks.specs.declared.heads.TheConstants.{NO_CHUNK}
 use Rattle.def_chunks.specs.declared.rows.Range.{Range}
 use Rattle.def_chunks.specs.declared.rows.Gap.{Gap}
 use Rattle.def_chunks.specs.declared.rows.Head.{Head}
-use Rattle.def_chunks.specs.Chunks.{Chunk, is_free, total, first_free, head_of, head_at, head_in}
+use Rattle.def_chunks.specs.Chunks.{Chunk, is_free, total_size, first_free, head_of, head_at, head_in}
 use Rattle.def_chunks.specs.Tiles.{chunks, Tiled}
 use Rattle.def_chunks.specs.Gaps.{HasRoomAt, NoFree, LastFree, ChunkStands, FreeLinked, IsGap, NoGap}
 use Rattle.law_chunks.proofs.Lays.{total_both}
@@ -39,12 +39,12 @@ last_used xs c before size h used = elim h [
 ]
 
 -- a free chunk more
-pub last_free : (xs : List Chunk) (c : Chunk) (before size : ℕ) → is_free c ≡ true → before ≡ total xs → size ≡ c.size → LastFree (xs ++ c ∷ []) before size
+pub last_free : (xs : List Chunk) (c : Chunk) (before size : ℕ) → is_free c ≡ true → before ≡ total_size xs → size ≡ c.size → LastFree (xs ++ c ∷ []) before size
 last_free xs c before size is link size_is = inr (record { above = xs; chunk = c; used = []; whole = refl; is = is; others = tt; link = link; size_is = size_is })
 
 -- ---- places among those that were passed
 
-pub none_more : (base length at : ℕ) (xs : List Chunk) (c : Chunk) → (HasRoomAt base length at xs → ⊥) → ((is_free c ≡ true) → at + total xs + 8 ≤ base → base + length ≤ at + total xs + c.size → ⊥) → HasRoomAt base length at (xs ++ c ∷ []) → ⊥
+pub none_more : (base length at : ℕ) (xs : List Chunk) (c : Chunk) → (HasRoomAt base length at xs → ⊥) → ((is_free c ≡ true) → at + total_size xs + 8 ≤ base → base + length ≤ at + total_size xs + c.size → ⊥) → HasRoomAt base length at (xs ++ c ∷ []) → ⊥
 none_more base length at xs c none here h = elim (room_split base length at xs (c ∷ []) h) [
   | inl k ↦ none k
   | inr k ↦ elim k [ inl m ↦ here m.0 m.1 m.2 | inr m ↦ absurd m ]
@@ -63,11 +63,11 @@ free_end base at (c ∷ cs) above = elim (bool_tells (is_free c)) [
   | inr e ↦ rw e (elim (free_end base (at + c.size) cs (omega (arith, above))) [ inl a ↦ inl (omega (arith, a)) | inr b ↦ inr b ])
 ]
 
-free_bound : (base at : ℕ) (cs : List Chunk) → base ≤ at → at - base + total cs < NO_CHUNK → first_free base at cs NO_CHUNK ≤ NO_CHUNK
+free_bound : (base at : ℕ) (cs : List Chunk) → base ≤ at → at - base + total_size cs < NO_CHUNK → first_free base at cs NO_CHUNK ≤ NO_CHUNK
 free_bound base at [] above h = omega arith
 free_bound base at (c ∷ cs) above h = elim (bool_tells (is_free c)) [ inl e ↦ rw e (omega (arith, h)) | inr e ↦ rw e (free_bound base (at + c.size) cs (omega (arith, above)) (omega (arith, h, above))) ]
 
-all_used : (base at : ℕ) (cs : List Chunk) → base ≤ at → at - base + total cs < NO_CHUNK → first_free base at cs NO_CHUNK ≡ NO_CHUNK → NoFree cs
+all_used : (base at : ℕ) (cs : List Chunk) → base ≤ at → at - base + total_size cs < NO_CHUNK → first_free base at cs NO_CHUNK ≡ NO_CHUNK → NoFree cs
 all_used base at [] above h is = tt
 all_used base at (c ∷ cs) above h is = elim (bool_tells (is_free c)) [
   | inl e ↦ absurd (let here : at - base ≡ NO_CHUNK = rw e at is in omega (arith, here, h))
@@ -83,7 +83,7 @@ pub record Walk (r : Range) (gs : List Granule) (unit length before size link : 
   pub whole : chunks r gs ≡ above ++ rest
   pub last : LastFree above before size
   pub none : (b : ℕ) → b % unit ≡ 0 → HasRoomAt b length r.base above → ⊥
-  pub here : link ≡ first_free r.base (r.base + total above) rest NO_CHUNK
+  pub here : link ≡ first_free r.base (r.base + total_size above) rest NO_CHUNK
 
 -- the free chunk that it comes to
 pub record Comes (r : Range) (gs : List Granule) (unit length before size link : ℕ) : Type 0 where
@@ -102,11 +102,11 @@ starts r gs unit length h = record {
   here = let same : r.base + 0 ≡ r.base = omega arith in rw same h.first;
 }
 
-skip : (r : Range) (gs : List Granule) (unit length before size link : ℕ) (above rest : List Chunk) → chunks r gs ≡ above ++ rest → LastFree above before size → ((b : ℕ) → b % unit ≡ 0 → HasRoomAt b length r.base above → ⊥) → link ≡ first_free r.base (r.base + total above) rest NO_CHUNK → (link ≡ NO_CHUNK → ⊥) → Comes r gs unit length before size link
+skip : (r : Range) (gs : List Granule) (unit length before size link : ℕ) (above rest : List Chunk) → chunks r gs ≡ above ++ rest → LastFree above before size → ((b : ℕ) → b % unit ≡ 0 → HasRoomAt b length r.base above → ⊥) → link ≡ first_free r.base (r.base + total_size above) rest NO_CHUNK → (link ≡ NO_CHUNK → ⊥) → Comes r gs unit length before size link
 skip r gs unit length before size link above [] whole last none here some = absurd (some here)
 skip r gs unit length before size link above (c ∷ cs) whole last none here some = elim (bool_tells (is_free c)) [
   | inl free_ ↦
-      let link_is : link ≡ r.base + total above - r.base = rw free_ at here in
+      let link_is : link ≡ r.base + total_size above - r.base = rw free_ at here in
       record {
         stands = record { above = above; chunk = c; below = cs; whole = whole; place = omega (arith, link_is) };
         is = free_;
@@ -114,8 +114,8 @@ skip r gs unit length before size link above (c ∷ cs) whole last none here som
         none = none;
       }
   | inr used ↦
-      let more : total (above ++ c ∷ []) ≡ total above + c.size = total_both above (c ∷ []) ∙ omega arith in
-      let there : r.base + total above + c.size ≡ r.base + total (above ++ c ∷ []) = omega (arith, more) in
+      let more : total_size (above ++ c ∷ []) ≡ total_size above + c.size = total_both above (c ∷ []) ∙ omega arith in
+      let there : r.base + total_size above + c.size ≡ r.base + total_size (above ++ c ∷ []) = omega (arith, more) in
       skip r gs unit length before size link (above ++ c ∷ []) cs
       (whole ∙ sym (append_assoc above (c ∷ []) cs))
       (last_used above c before size last used)
@@ -197,7 +197,7 @@ found r gs unit length before size link head g some w room is = subst (IsGap r g
           | inl k ↦ none b even k
           | inr k ↦ elim k [
             | inl m ↦ (let low = m.1 in let up_ = up_least unit (r.base + link + 8) b some even (omega (arith, low, place)) in omega (arith, up_, lt))
-            | inr m ↦ (let low = room_low b length (r.base + total s.above + s.chunk.size) s.below m in omega (arith, low, place, size_is, lt, room))
+            | inr m ↦ (let low = room_low b length (r.base + total_size s.above + s.chunk.size) s.below m in omega (arith, low, place, size_is, lt, room))
           ]
         ]
 
@@ -217,8 +217,8 @@ goes_on r gs unit length before size link head some w full =
     let s = f.stands in
     let place = s.place in
     let size_is = f.size_is in
-    let more : total (s.above ++ s.chunk ∷ []) ≡ total s.above + s.chunk.size = total_both s.above (s.chunk ∷ []) ∙ omega arith in
-    let there : r.base + link + head.size ≡ r.base + total (s.above ++ s.chunk ∷ []) = omega (arith, more, place, size_is) in
+    let more : total_size (s.above ++ s.chunk ∷ []) ≡ total_size s.above + s.chunk.size = total_both s.above (s.chunk ∷ []) ∙ omega arith in
+    let there : r.base + link + head.size ≡ r.base + total_size (s.above ++ s.chunk ∷ []) = omega (arith, more, place, size_is) in
     record {
       above = s.above ++ s.chunk ∷ [];
       rest = s.below;
@@ -233,11 +233,11 @@ goes_on r gs unit length before size link head some w full =
 pub ended : (r : Range) (gs : List Granule) (unit length before size link : ℕ) → Tiled r gs → Walk r gs unit length before size link → link ≡ NO_CHUNK → NoGap r gs unit length
 ended r gs unit length before size link h w is b even held =
     let both = total_both w.above w.rest in
-    let sum = sym (ap total w.whole) ∙ h.size in
+    let sum = sym (ap total_size w.whole) ∙ h.size in
     let short = h.short in
     let whole = h.even.2 in
-    let used = all_used r.base (r.base + total w.above) w.rest (omega arith) (omega (arith, both, sum, short, whole)) (sym w.here ∙ is) in
+    let used = all_used r.base (r.base + total_size w.above) w.rest (omega arith) (omega (arith, both, sum, short, whole)) (sym w.here ∙ is) in
     elim (room_split b length r.base w.above w.rest (subst (HasRoomAt b length r.base) w.whole held)) [
       | inl k ↦ w.none b even k
-      | inr k ↦ none_free b length (r.base + total w.above) w.rest used k
+      | inr k ↦ none_free b length (r.base + total_size w.above) w.rest used k
     ]

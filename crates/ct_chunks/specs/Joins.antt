@@ -7,7 +7,7 @@ use Rattle.def_chunks.specs.declared.heads.TheConstants.{FREE, PAINTED, NO_CHUNK
 use Rattle.def_chunks.specs.declared.rows.Range.{Range}
 use Rattle.def_chunks.specs.declared.rows.Head.{Head}
 use Rattle.ct_chunks.specs.declared.joining.Last.{Last}
-use Rattle.def_chunks.specs.Changes.{linked}
+use Rattle.def_chunks.specs.Changes.{with_link}
 
 -- the chunk of this head is free, or is let go
 abbrev pub goes : Head → Bool
@@ -23,7 +23,7 @@ abbrev pub absorbed : List Granule → Range → Last → ℕ → ℕ → List G
 absorbed gs r last at size =
     cond (touches r last at)
     (stored_cap gs (r.base + last.offset - r.ram) (plain (last.size + size + NO_CHUNK * 2 ^ 32)))
-    (linked (stored_cap gs (at - r.ram) (plain (size + NO_CHUNK * 2 ^ 32))) r.ram r.base last.offset
+    (with_link (stored_cap gs (at - r.ram) (plain (size + NO_CHUNK * 2 ^ 32))) r.ram r.base last.offset
     last.size (at - r.base))
 
 abbrev pub last_after : Range → Last → ℕ → ℕ → Last

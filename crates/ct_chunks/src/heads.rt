@@ -7,7 +7,7 @@ ghost use Rattle.def_chunks.specs.declared.heads.TheConstants.{NO_CHUNK};
 ghost use Rattle.def_chunks.specs.Chunks.{head_at, head_in};
 ghost use Rattle.def_chunks.specs.Tiles.{Tiled};
 ghost use Rattle.def_chunks.specs.Gaps.{ChunkStands};
-ghost use Rattle.def_chunks.specs.Changes.{linked};
+ghost use Rattle.def_chunks.specs.Changes.{with_link};
 ghost use Rattle.ct_chunks.specs.Writes.{Linkable};
 
 use ct_mem::Memory;
@@ -70,7 +70,7 @@ pub(crate) fn relink<M: Memory>(
 ) -> u32
     requires place { Linkable range (length (M.granules mem.old)) before }
     ensures is { M.granules mem.new
-        ≡ linked (M.granules mem.old) range.ram range.base before before_size next }
+        ≡ with_link (M.granules mem.old) range.ram range.base before before_size next }
     ensures size { length (M.granules mem.new) ≡ length (M.granules mem.old) }
     ensures first { result ≡ cond (nat_eq before NO_CHUNK) next range.first }
 {

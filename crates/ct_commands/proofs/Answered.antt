@@ -10,7 +10,7 @@ use Rattle.def_link.specs.Linked.{linked}
 use Rattle.def_program.specs.declared.Status.{Status}
 use Rattle.def_program.specs.declared.Status.TheVariants.{ReadFault, TooLarge}
 use Rattle.def_program.specs.Lines.{read_line, large_line}
-use Rattle.def_program.specs.Commands.{Command, form_of, generated_by, file_of, reads_image}
+use Rattle.def_program.specs.Commands.{Command, command_form, generated_by, file_of, reads_image}
 use Rattle.def_program.specs.Calls.{CallRecord, Exceeds, IsFile}
 use Rattle.def_program.specs.Turns.{Turn, Asks, FollowsBy, Follows, OfNumber, OfFirst, OfImage, OfLinked, OfRows, OfDescription, source_names}
 use Rattle.def_program.specs.Answers.{Answers, asking, Read, contents, read_call, read_calls, AllRead, WereDue}
@@ -36,7 +36,7 @@ drop_front : (xs ys : List (List ℕ)) → drop (length xs) (xs ++ ys) ≡ ys
 drop_front [] ys = refl
 drop_front (x ∷ xs) ys = drop_front xs ys
 
-module _ (e : CallRecord) (c : Command) (result : Status) (form : form_of e.words ≡ Some c) where
+module _ (e : CallRecord) (c : Command) (result : Status) (form : command_form e.words ≡ Some c) where
   abbrev Refused : Stop → Type 0
   Refused stop = RefusesFile stop e.sink e.sink_after result
 

@@ -4,7 +4,7 @@ use Rattle.def_port.specs.Bytes.{FaultsRose, SinkView}
 use Rattle.def_port.specs.Told.{FolderView}
 use Rattle.def_program.specs.declared.Status.{Status}
 use Rattle.def_program.specs.declared.Status.TheVariants as status
-use Rattle.def_program.specs.Commands.{Command, form_of}
+use Rattle.def_program.specs.Commands.{Command, command_form}
 use Rattle.def_program.specs.Calls.{CallRecord, Exceeds}
 use Rattle.def_program.specs.Lines.{usage_line, read_line, large_line}
 use Rattle.def_program.specs.Turns.{Turn, Follows}
@@ -62,7 +62,7 @@ closed e s text result speaks cause (inr broken) =
 -- ---- the answers of a call
 
 -- memory was wanted after these files
-pub wanting : (e : CallRecord) (c : Command) (rs : List Read) (result : Status) → form_of e.words ≡ Some c → WereDue e c rs
+pub wanting : (e : CallRecord) (c : Command) (rs : List Read) (result : Status) → command_form e.words ≡ Some c → WereDue e c rs
     → e.folder_after.calls ≡ e.folder.calls ++ read_calls rs → e.folder_after.faults ≡ e.folder.faults
     → WroteNothing e.sink e.sink_after result → Answers e result
 wanting e c rs result form due calls same silent =
@@ -70,7 +70,7 @@ wanting e c rs result form due calls same silent =
     (record { command = c; form = form; reads = rs; due = due; calls = calls; written = silent.written; read_same = same; write_same = silent.same })
 
 -- after these files the last turn came
-pub settled : (e : CallRecord) (c : Command) (rs : List Read) (result : Status) → form_of e.words ≡ Some c → AllRead e c rs
+pub settled : (e : CallRecord) (c : Command) (rs : List Read) (result : Status) → command_form e.words ≡ Some c → AllRead e c rs
     → Settles (Follows c (contents rs)) e.sink e.sink_after result → Answers e result
 settled e c rs result form read (inl s) =
     closed e s.status s.text result (speaks s.status s.last)
@@ -78,20 +78,20 @@ settled e c rs result form read (inl s) =
 settled e c rs result form read (inr silent) = wanting e c rs result form read.due read.calls read.same silent
 
 -- after these files one couldn't be read
-pub unread : (e : CallRecord) (c : Command) (rs : List Read) (name : List ℕ) (result : Status) → form_of e.words ≡ Some c → LastRead e c rs name
+pub unread : (e : CallRecord) (c : Command) (rs : List Read) (name : List ℕ) (result : Status) → command_form e.words ≡ Some c → LastRead e c rs name
     → e.folder_after.calls ≡ e.folder.calls ++ calls_to rs (asking name true) → FaultsRose e.folder.faults e.folder_after.faults
     → Closes e.sink e.sink_after (read_line name) status.ReadFault result → Answers e result
 unread e c rs name result form last calls rose closes = closed e status.ReadFault (read_line name) result (λ _ w. w)
     (record { command = c; form = form; reads = rs; name = name; last = last; calls = calls; rose = rose; due = refl }) closes
 
 -- after these files one was too large
-pub too_large : (e : CallRecord) (c : Command) (rs : List Read) (name : List ℕ) (result : Status) → form_of e.words ≡ Some c → LastRead e c rs name
+pub too_large : (e : CallRecord) (c : Command) (rs : List Read) (name : List ℕ) (result : Status) → command_form e.words ≡ Some c → LastRead e c rs name
     → e.folder_after.calls ≡ e.folder.calls ++ calls_to rs (asking name false) → e.folder_after.faults ≡ e.folder.faults → Exceeds (e.folder.file name)
     → Closes e.sink e.sink_after (large_line name) status.TooLarge result → Answers e result
 too_large e c rs name result form last calls same large closes = closed e status.TooLarge (large_line name) result (λ _ w. w)
     (record { command = c; form = form; reads = rs; name = name; last = last; calls = calls; same = same; large = large; due = refl }) closes
 
-pub misused : (e : CallRecord) (result : Status) → form_of e.words ≡ None → e.folder_after.calls ≡ e.folder.calls → e.folder_after.faults ≡ e.folder.faults
+pub misused : (e : CallRecord) (result : Status) → command_form e.words ≡ None → e.folder_after.calls ≡ e.folder.calls → e.folder_after.faults ≡ e.folder.faults
     → Closes e.sink e.sink_after usage_line status.Usage result → Answers e result
 misused e result form calls same closes = closed e status.Usage usage_line result (λ _ w. w) (record { form = form; calls = calls; same = same; due = refl }) closes
 

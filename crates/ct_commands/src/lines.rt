@@ -37,7 +37,7 @@ fn part_word(part: PartWord) -> &'static str
 
 /// The name of a compartment or a library of a description; nothing for other owners.
 pub(crate) fn owner_name<'a>(desc: &'a Desc, owner: Owner) -> &'a str
-    ensures { result.now ≡ spec.owner_name desc.now owner }
+    ensures { result.now ≡ spec.described_owner_name desc.now owner }
 {
     match owner {
         Owner::Compartment(index) => match desc.compartments.get(index as usize) {

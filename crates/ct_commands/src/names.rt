@@ -24,7 +24,7 @@ fn add_file<'a>(names: &mut Vec<&'a str>, code: &'a Code) -> Result<(), AllocErr
 fn add_own<'a>(names: &mut Vec<&'a str>, rows: &'a [Compartment]) -> Result<(), AllocError>
     ensures { OnOk result
         (texts names.new.items ≡ texts names.old.items
-        ++ spec.files_in (map (λ (c : row.CompartmentRow). c.code) rows.now)) }
+        ++ spec.files_in (map (λ (c : row.DescCompartment). c.code) rows.now)) }
 {
     for row in rows {
         add_file(names, &row.code)?;

@@ -3,7 +3,7 @@
 ghost use Rattle.std.specs.Prelude.{◌++◌, ◌∷◌, [], codes, decimal};
 ghost use Rattle.def_program.specs.declared.Status.TheVariants as status;
 ghost use Rattle.def_program.specs.Lines as spec;
-ghost use Rattle.def_program.specs.Lines.{refused, numbered};
+ghost use Rattle.def_program.specs.Lines.{refused, lettered};
 ghost use Rattle.ct_commands.specs.Closing.{Closes};
 ghost use Rattle.ct_commands.specs.Stopped.{RefusesFile};
 
@@ -67,7 +67,7 @@ pub fn refuse_description<S: Sink>(fault: Fault, sink: &mut S) -> Status
 fn refuse_source<S: Sink>(owner: &str, number: u32, line: u32, sink: &mut S) -> Status
     ensures { Closes (S.shows sink.old) (S.shows sink.new)
         (refused (codes "5")
-        (codes "assembly" ∷ numbered (codes "A") number ∷ owner.now ∷ decimal line ∷ []))
+        (codes "assembly" ∷ lettered (codes "A") number ∷ owner.now ∷ decimal line ∷ []))
         status.Assembly result }
 {
     let front = line_front("refused 5 assembly A", number);

@@ -92,7 +92,7 @@ fn limit_of(text: &[u8]) -> Option<u32>
 
 /// The number of a generated firmware: decimal digits without sign or leading zero, of 0 to 4,294,967,295.
 fn firmware_number(text: &[u8]) -> Option<u32>
-    ensures { result ≡ spec.number_of text.now }
+    ensures { result ≡ spec.argument_number text.now }
 {
     match number_of(text, MOST_NUMBER as u64) {
         Some(number) => Some(number as u32),
@@ -104,7 +104,7 @@ fn firmware_number(text: &[u8]) -> Option<u32>
 /// line.
 pub fn form_of<'a>(words: &'a [String]) -> Option<Form<'a>>
     ensures short { IfSome result (λ f. IsShort f.task) }
-    ensures command { option_map command_of result ≡ spec.form_of (map string_bytes words.now) }
+    ensures command { option_map command_of result ≡ spec.command_form (map string_bytes words.now) }
 {
     match words {
         [word, name] => of_one(word.as_str(), name.as_str()),
@@ -122,7 +122,7 @@ pub fn form_of<'a>(words: &'a [String]) -> Option<Form<'a>>
 fn demo_of<'a>(name: &'a str) -> Option<Form<'a>>
     ensures short { IfSome result (λ f. IsShort f.task) }
     ensures command { option_map command_of result
-        ≡ option_map spec.Demo (spec.number_of name.now) }
+        ≡ option_map spec.Demo (spec.argument_number name.now) }
 {
     match firmware_number(name.as_bytes()) {
         Some(number) => Some(Form {

@@ -6,7 +6,7 @@ use Rattle.serde_json.specs.declared.error.Error.{Error}
 use Rattle.def_desc.specs.Rows.{DescRow}
 use Rattle.def_desc.specs.Reading.{description_of}
 use Rattle.def_desc.specs.Walk.{place}
-use Rattle.def_desc.specs.WellFormed.{IsFaulty, fault, fault_of, text_fault}
+use Rattle.def_desc.specs.WellFormed.{IsFaulty, fault, fault_of, json_fault}
 use Rattle.ct_desc.specs.declared.DescFault.{DescFault}
 use Rattle.ct_desc.specs.declared.DescFault.TheVariants.{At, NoMemory}
 
@@ -25,5 +25,5 @@ Faulty d NoMemory = Unit {0}
 -- an error of the JSON reader: F1 where it isn't want of memory
 abbrev pub Unread : Error → DescFault → Type 0
 Unread e (At number part index item) =
-    (fault number (place part index item) ≡ text_fault) × ¬ IsMemory e
+    (fault number (place part index item) ≡ json_fault) × ¬ IsMemory e
 Unread e NoMemory = Unit {0}

@@ -1,7 +1,7 @@
 //! F2 to F6 in one walk over the places: the first place of each rule so far.
 
 ghost use Rattle.std.specs.Prelude.{◌≡◌, [], ◌∷◌, List, map, IfOk, OnOk};
-ghost use Rattle.def_desc.specs.Names.{name_of};
+ghost use Rattle.def_desc.specs.Names.{spot_name};
 ghost use Rattle.def_desc.specs.Walk.{Spot as SpotRow};
 ghost use Rattle.def_desc.specs.WellFormed as spec;
 ghost use Rattle.ct_desc_value.specs.Seen.{spot_view};
@@ -59,7 +59,7 @@ impl Firsts {
     /// F5, and then F6.
     #[tactic(auto, using(crate::proofs::Places::has_failed, crate::proofs::Places::new_name, crate::proofs::Places::known_name), unfolding(crate::specs::Judged::after_twice, crate::specs::Judged::after_limits))]
     fn judge_twice(&mut self, alloc: Global, spot: &Spot, name: &str) -> Result<(), AllocError>
-        requires { name.now ≡ name_of (spot_view spot.now) }
+        requires { name.now ≡ spot_name (spot_view spot.now) }
         ensures kinds { self.new.kinds ≡ self.old.kinds }
         ensures members { self.new.members ≡ self.old.members }
         ensures names { self.new.names ≡ self.old.names }

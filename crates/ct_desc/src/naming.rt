@@ -20,7 +20,7 @@ pub(crate) fn name_at<'a>(
     part: PartWord,
     value: &'a Value,
 ) -> Result<CowStr<'a, Global>, AllocError>
-    ensures { IfOk result (λ n. cow_str_bytes n ≡ spec.named part (view value.now)) }
+    ensures { IfOk result (λ n. cow_str_bytes n ≡ spec.part_name part (view value.now)) }
 {
     match part {
         PartWord::Ram => Ok(CowStr::Borrowed("")),

@@ -63,7 +63,7 @@ impl Spaces {
     fn add_compartment(&mut self, alloc: Global, name: &str) -> Result<bool, AllocError>
         ensures twice { IfOk result (λ b. b ≡ among name.now self.old.owners) }
         ensures added { OnOk result
-            (self.new ≡ spec.joined PartWord.Compartment name.now self.old) }
+            (self.new ≡ spec.with_part_name PartWord.Compartment name.now self.old) }
     {
         let twice = self.owners.add(alloc, name)?;
         self.slots = first_slots(alloc)?;
@@ -74,7 +74,7 @@ impl Spaces {
     fn add_library(&mut self, alloc: Global, name: &str) -> Result<bool, AllocError>
         ensures twice { IfOk result (λ b. b ≡ among name.now self.old.owners) }
         ensures added { OnOk result
-            (self.new ≡ spec.joined PartWord.Library name.now self.old) }
+            (self.new ≡ spec.with_part_name PartWord.Library name.now self.old) }
     {
         let twice = self.owners.add(alloc, name)?;
         self.slots = Names::new(alloc);
@@ -85,9 +85,9 @@ impl Spaces {
     /// Adds the name of a part to its space, and says whether it was there.
     pub fn add(&mut self, alloc: Global, part: PartWord, name: &str) -> Result<bool, AllocError>
         ensures twice { IfOk result
-            (λ b. b ≡ among name.now (spec.space_of part self.old)) }
+            (λ b. b ≡ among name.now (spec.name_space part self.old)) }
         ensures added { OnOk result
-            (self.new ≡ spec.joined part name.now self.old) }
+            (self.new ≡ spec.with_part_name part name.now self.old) }
     {
         match part {
             PartWord::Firmware | PartWord::Ram => Ok(false),

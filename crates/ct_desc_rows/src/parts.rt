@@ -15,9 +15,9 @@ pub struct Code {
 
 impl Model for Code {
     ghost use Rattle.std.specs.Prelude.{option_map, string_bytes};
-    ghost use Rattle.def_desc.specs.Rows.{CodeRow};
+    ghost use Rattle.def_desc.specs.Rows.{DescCode};
 
-    ghost Value = { CodeRow };
+    ghost Value = { DescCode };
 
     ghost view = { λ x. record { words = x.words.items; file = option_map string_bytes x.file } };
 }
@@ -47,9 +47,9 @@ pub struct Shared {
 
 impl Model for Shared {
     ghost use Rattle.std.specs.Prelude.{string_bytes};
-    ghost use Rattle.def_desc.specs.Rows.{SharedRow};
+    ghost use Rattle.def_desc.specs.Rows.{DescShared};
 
-    ghost Value = { SharedRow };
+    ghost Value = { DescShared };
 
     ghost view = { λ x. record { name = string_bytes x.name; size = x.size } };
 }
@@ -64,9 +64,9 @@ pub struct Sealed {
 
 impl Model for Sealed {
     ghost use Rattle.std.specs.Prelude.{string_bytes};
-    ghost use Rattle.def_desc.specs.Rows.{SealedRow};
+    ghost use Rattle.def_desc.specs.Rows.{DescSealed};
 
-    ghost Value = { SealedRow };
+    ghost Value = { DescSealed };
 
     ghost view = { λ x. record {
       name = string_bytes x.name;
@@ -166,9 +166,9 @@ pub struct Compartment {
 
 impl Model for Compartment {
     ghost use Rattle.std.specs.Prelude.{string_bytes};
-    ghost use Rattle.def_desc.specs.Rows.{CompartmentRow};
+    ghost use Rattle.def_desc.specs.Rows.{DescCompartment};
 
-    ghost Value = { CompartmentRow };
+    ghost Value = { DescCompartment };
 
     ghost view = { λ x. record {
       name = string_bytes x.name;
@@ -250,9 +250,9 @@ pub struct Thread {
 
 impl Model for Thread {
     ghost use Rattle.std.specs.Prelude.{string_bytes};
-    ghost use Rattle.def_desc.specs.Rows.{ThreadRow};
+    ghost use Rattle.def_desc.specs.Rows.{DescThread};
 
-    ghost Value = { ThreadRow };
+    ghost Value = { DescThread };
 
     ghost view = { λ x. record {
       name = string_bytes x.name;

@@ -3,7 +3,7 @@
 ghost use Rattle.std.specs.Prelude.{◌≡◌, codes, IfOk, map, option_map, string_bytes};
 ghost use Rattle.serde_json.specs.Data.{Data};
 ghost use Rattle.serde_json.specs.View.{view};
-ghost use Rattle.def_desc.specs.Limits.{number_in as spec_number_in};
+ghost use Rattle.def_desc.specs.Limits.{number_or_zero as spec_number_in};
 ghost use Rattle.def_desc.specs.Members as member;
 ghost use Rattle.def_desc.specs.Reading as spec;
 ghost use Rattle.def_desc.specs.References.{import_of as spec_import_of};
@@ -46,7 +46,7 @@ fn all_of<R: Row>(alloc: Global, values: &[Value]) -> Result<Vec<R>, AllocError>
 
 fn words_of(alloc: Global, values: &[Value]) -> Result<Vec<u32>, AllocError>
     ensures { IfOk result
-        (λ v. v.items ≡ map (λ w. spec.hexadecimal_word (member.text_of w)) (map view values.now)) }
+        (λ v. v.items ≡ map (λ w. spec.hexadecimal_word (member.text_value w)) (map view values.now)) }
 {
     let mut all = Vec::new(alloc);
     for value in values {
@@ -84,7 +84,7 @@ fn text_there(alloc: Global, value: &Value, key: &str) -> Result<Option<String>,
 }
 
 fn code_in(alloc: Global, value: &Value) -> Result<Code, AllocError>
-    ensures { IfOk result (λ x. x ≡ spec.code_of (view value.now)) }
+    ensures { IfOk result (λ x. x ≡ spec.code_of_object (view value.now)) }
 {
     Ok(Code {
         words: words_of(alloc, list_at(value, "words"))?,
@@ -95,7 +95,7 @@ fn code_in(alloc: Global, value: &Value) -> Result<Code, AllocError>
 /// The code of a compartment or library.
 fn code_of(alloc: Global, owner: &Value) -> Result<Code, AllocError>
     ensures { IfOk result
-        (λ x. x ≡ spec.code_of (member.member_at (codes "code") (view owner.now))) }
+        (λ x. x ≡ spec.code_of_object (member.member_at (codes "code") (view owner.now))) }
 {
     match owner.get("code") {
         Some(code) => code_in(alloc, code),
@@ -206,7 +206,7 @@ impl Row for Export {
 }
 
 impl Row for Compartment {
-    ghost meaning = { spec.compartment_of };
+    ghost meaning = { spec.compartment_of_object };
 
     fn of(alloc: Global, value: &Value) -> Result<Compartment, AllocError> {
         Ok(Compartment {

@@ -8,13 +8,13 @@ ghost use Rattle.def_desc.specs.Reading as reading;
 use std::alloc::{AllocError, Global};
 
 fn is_hexadecimal(b: u8) -> bool
-    ensures { result ≡ spec.is_hexadecimal b }
+    ensures { result ≡ spec.is_lower_hexadecimal b }
 {
     (b'0' <= b && b <= b'9') || (b'a' <= b && b <= b'f')
 }
 
 fn are_hexadecimal(text: &[u8]) -> bool
-    ensures { result ≡ list_all spec.is_hexadecimal text.now }
+    ensures { result ≡ list_all spec.is_lower_hexadecimal text.now }
 {
     for b in text {
         if !is_hexadecimal(*b) {
@@ -72,7 +72,7 @@ pub fn word_of(text: &[u8]) -> u32
 }
 
 fn byte_of(a: u8, b: u8) -> u8
-    ensures { result ≡ reading.byte_of a b }
+    ensures { result ≡ reading.byte_of_digits a b }
 {
     (digit_of(a) * 16 + digit_of(b)) as u8
 }

@@ -28,7 +28,7 @@ fn is_choice(choice: Choice, text: &str) -> bool
 }
 
 fn are_words(values: &[Value]) -> bool
-    ensures { result ≡ list_all (λ w. spec.is_word (members.text_of w)) (map view values.now) }
+    ensures { result ≡ list_all (λ w. spec.is_word (members.text_value w)) (map view values.now) }
 {
     for value in values {
         if !is_word(text_of(value).as_bytes()) {
@@ -45,7 +45,7 @@ fn has_words(value: &Value) -> bool
 }
 
 fn is_code(value: &Value) -> bool
-    ensures { result ≡ spec.is_code (view value.now) }
+    ensures { result ≡ spec.is_code_object (view value.now) }
 {
     if has(value, "words") {
         !has(value, "file") && has_words(value)
@@ -94,7 +94,7 @@ fn has_each(value: &Value, members: &[Member]) -> bool
 
 fn has_any(value: &Value, names: &[&'static str]) -> bool
     ensures { result
-        ≡ list_any (λ name. members.has name (view value.now)) (map (λ n. n.now) names.now) }
+        ≡ list_any (λ name. members.has_key name (view value.now)) (map (λ n. n.now) names.now) }
 {
     for name in names {
         if has(value, *name) {
@@ -106,7 +106,7 @@ fn has_any(value: &Value, names: &[&'static str]) -> bool
 
 fn count_of(value: &Value, names: &[&'static str]) -> usize
     ensures { result
-        ≡ count_by (λ name. members.has name (view value.now)) (map (λ n. n.now) names.now) }
+        ≡ count_by (λ name. members.has_key name (view value.now)) (map (λ n. n.now) names.now) }
 {
     let mut count = 0;
     for name in names {

@@ -46,7 +46,7 @@ fn stands_beside(part: PartWord, value: &Value, name: &str) -> bool
 }
 
 fn is_listed(part: PartWord, value: &Value, name: &str) -> bool
-    ensures { result ≡ spec.is_listed part (view value.now) name.now }
+    ensures { result ≡ spec.is_listed_member part (view value.now) name.now }
 {
     is_member(part, name) || stands_beside(part, value, name)
 }
@@ -54,7 +54,7 @@ fn is_listed(part: PartWord, value: &Value, name: &str) -> bool
 #[tactic(auto, using(crate::proofs::Back::names_back))]
 fn are_listed(keys: &Map<String, Value>, part: PartWord, value: &Value) -> bool
     ensures { result
-        ≡ list_all (spec.is_listed part (view value.now))
+        ≡ list_all (spec.is_listed_member part (view value.now))
         (names_in (members_view keys.now.entries)) }
 {
     for key in keys.keys() {
@@ -66,7 +66,7 @@ fn are_listed(keys: &Map<String, Value>, part: PartWord, value: &Value) -> bool
 }
 
 fn members_are_listed(part: PartWord, value: &Value) -> bool
-    ensures { result ≡ list_all (spec.is_listed part (view value.now)) (keys_of (view value.now)) }
+    ensures { result ≡ list_all (spec.is_listed_member part (view value.now)) (keys_of (view value.now)) }
 {
     match value.as_object() {
         Some(keys) => are_listed(keys, part, value),

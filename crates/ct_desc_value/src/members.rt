@@ -4,7 +4,7 @@ ghost use Rattle.std.specs.Prelude.{◌≡◌, map, option_map};
 ghost use Rattle.serde_json.specs.Find.{as_array};
 ghost use Rattle.serde_json.specs.View.{view};
 ghost use Rattle.def_desc.specs.Members as spec;
-ghost use Rattle.def_desc.specs.Limits.{number_in as spec_number_in};
+ghost use Rattle.def_desc.specs.Limits.{number_or_zero as spec_number_in};
 ghost use Rattle.def_desc.specs.Reading as reading;
 
 use serde_json::Value;
@@ -18,7 +18,7 @@ pub fn text_at<'a>(value: &'a Value, key: &str) -> Option<&'a str>
 
 /// The number at a key.
 pub fn number_at(value: &Value, key: &str) -> Option<u64>
-    ensures { result ≡ spec.number_at key.now (view value.now) }
+    ensures { result ≡ spec.number_member key.now (view value.now) }
 {
     value.get(key).and_then(Value::as_u64)
 }
@@ -47,7 +47,7 @@ pub fn list_at<'a>(value: &'a Value, key: &str) -> &'a [Value]
 
 /// A member is there, of whatever kind.
 pub fn has(value: &Value, key: &str) -> bool
-    ensures { result ≡ spec.has key.now (view value.now) }
+    ensures { result ≡ spec.has_key key.now (view value.now) }
 {
     value.get(key).is_some()
 }
@@ -79,7 +79,7 @@ pub fn word_or(value: &Value, key: &str, default: u32) -> u32
 
 /// The number at a key in 32 bits, or 0.
 pub fn word_at(value: &Value, key: &str) -> u32
-    ensures { result ≡ reading.word_at key.now (view value.now) }
+    ensures { result ≡ reading.word_member key.now (view value.now) }
 {
     word_or(value, key, 0)
 }
@@ -96,7 +96,7 @@ pub fn text_or<'a>(value: &'a Value, key: &str) -> &'a str
 
 /// The text that a value is, or the empty text.
 pub fn text_of(value: &Value) -> &str
-    ensures { result.now ≡ spec.text_of (view value.now) }
+    ensures { result.now ≡ spec.text_value (view value.now) }
 {
     match value.as_str() {
         Some(text) => text,

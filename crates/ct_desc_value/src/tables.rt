@@ -24,9 +24,9 @@ fn find<T: Copy>(table: &[(&'static str, T)], name: &[u8]) -> Option<T>
 }
 
 /// The kind of a device.
-#[tactic(auto, unfolding(def_desc::specs::Tables::kind_of))]
+#[tactic(auto, unfolding(def_desc::specs::Tables::device_kind_named))]
 pub fn kind_of(text: &str) -> Option<DeviceKind>
-    ensures { result ≡ spec.kind_of text.now }
+    ensures { result ≡ spec.device_kind_named text.now }
 {
     find(&DEVICE_KINDS, text.as_bytes())
 }

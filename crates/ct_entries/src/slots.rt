@@ -44,7 +44,7 @@ pub(crate) fn add_slots(
 fn slot_row(parts: &Parts, owner: Owner, at: u32, import: ImportRow) -> Entry
     requires sound { Sound parts.now }
     requires fits { SlotFits parts.now import }
-    ensures { result ≡ spec.slot_row parts.now owner at import import.kind }
+    ensures { result ≡ spec.slot_entry parts.now owner at import import.kind }
 {
     let index = import.first;
     let rights = rights(import);
@@ -78,7 +78,7 @@ fn slot_row(parts: &Parts, owner: Owner, at: u32, import: ImportRow) -> Entry
 fn service_row(parts: &Parts, owner: Owner, at: u32, import: ImportRow) -> Entry
     requires fits { SlotFits parts.now import }
     requires kind { import.kind ≡ slot.Service }
-    ensures { result ≡ spec.slot_row parts.now owner at import slot.Service }
+    ensures { result ≡ spec.slot_entry parts.now owner at import slot.Service }
 {
     let base = NATIVE_BASE + NATIVE_UNIT * import.first;
     row(
@@ -92,7 +92,7 @@ fn service_row(parts: &Parts, owner: Owner, at: u32, import: ImportRow) -> Entry
 }
 
 fn shared_row(parts: &Parts, owner: Owner, at: u32, import: ImportRow) -> Entry
-    ensures { result ≡ spec.slot_row parts.now owner at import slot.Shared }
+    ensures { result ≡ spec.slot_entry parts.now owner at import slot.Shared }
 {
     let (base, length) = match parts.shared.get(import.first as usize) {
         Some(object) => (object.base, object.length),
@@ -109,7 +109,7 @@ fn shared_row(parts: &Parts, owner: Owner, at: u32, import: ImportRow) -> Entry
 }
 
 fn sealed_row(parts: &Parts, owner: Owner, at: u32, import: ImportRow) -> Entry
-    ensures { result ≡ spec.slot_row parts.now owner at import slot.Sealed }
+    ensures { result ≡ spec.slot_entry parts.now owner at import slot.Sealed }
 {
     let (base, length) = match parts.sealed.get(import.first as usize) {
         Some(object) => (object.base, object.length),
@@ -130,7 +130,7 @@ fn library_row(parts: &Parts, owner: Owner, at: u32, import: ImportRow) -> Entry
     requires sound { Sound parts.now }
     requires fits { SlotFits parts.now import }
     requires kind { import.kind ≡ slot.Library }
-    ensures { result ≡ spec.slot_row parts.now owner at import slot.Library }
+    ensures { result ≡ spec.slot_entry parts.now owner at import slot.Library }
 {
     let number = lent_number(parts, import);
     let (base, length) = match parts.libraries.get(import.first as usize) {

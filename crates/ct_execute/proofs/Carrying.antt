@@ -7,7 +7,7 @@ use Rattle.def_words.specs.declared.Posture.{Posture}
 use Rattle.def_words.specs.declared.Trap.{Trap}
 use Rattle.def_words.specs.Authority.{cap_address}
 use Rattle.def_words.specs.Capability.{integer, with_address}
-use Rattle.def_words.specs.Jumped.{linked, opened}
+use Rattle.def_words.specs.Jumped.{return_link, opened}
 use Rattle.def_words.specs.Seals.{cap_seal, posture_through}
 use Rattle.def_profile.specs.declared.seals.TheConstants.{SENTRY_DISABLE}
 use Rattle.def_instr.specs.declared.Instr.{Instr}
@@ -20,7 +20,7 @@ use Rattle.def_step.specs.Accesses.{access_of, unless}
 use Rattle.def_step.specs.Checks.{first_failed}
 use Rattle.def_step.specs.Devices.{DeviceStates}
 use Rattle.def_step.specs.Instructions.{fetch_checks, next_at, next_word}
-use Rattle.def_step.specs.Jumps.{flow_result, is_taken, target_at, jumped_to, branched, register_jump_checks, register_jumped, register_target, Flowed}
+use Rattle.def_step.specs.Jumps.{flow_result, is_taken, jump_target, jumped_to, branched, register_jump_checks, register_jumped, register_target, Flowed}
 use Rattle.def_step.specs.Operands.{class_of, operands_of}
 use Rattle.ct_decode.specs.declared.reading.Reading.{Reading}
 use Rattle.ct_decode.specs.Reading.{reading_by}
@@ -81,16 +81,16 @@ whole_target : (pcc : Cap) (posture : Posture) (target : ℕ) (link : Option Cap
     → jumped_to pcc posture target link ≡ Ok (record { link = link; pcc = with_address pcc target; posture = posture })
 whole_target pcc posture target link whole = rw whole refl
 
-branch_goes : (taken : Bool) (pcc : Cap) (posture : Posture) (offset n : ℕ) → n ≡ (if taken then offset else 4) → (target_at pcc n % 4 == 0) ≡ true
-    → branched taken pcc posture offset ≡ Ok (record { link = None; pcc = with_address pcc (target_at pcc n); posture = posture })
+branch_goes : (taken : Bool) (pcc : Cap) (posture : Posture) (offset n : ℕ) → n ≡ (if taken then offset else 4) → (jump_target pcc n % 4 == 0) ≡ true
+    → branched taken pcc posture offset ≡ Ok (record { link = None; pcc = with_address pcc (jump_target pcc n); posture = posture })
 branch_goes true pcc posture offset n is whole =
-    subst (λ (m : ℕ). branched true pcc posture offset ≡ Ok (record { link = None; pcc = with_address pcc (target_at pcc m); posture = posture })) (sym is)
-    (whole_target pcc posture (target_at pcc offset) None (subst (λ (m : ℕ). (target_at pcc m % 4 == 0) ≡ true) is whole))
+    subst (λ (m : ℕ). branched true pcc posture offset ≡ Ok (record { link = None; pcc = with_address pcc (jump_target pcc m); posture = posture })) (sym is)
+    (whole_target pcc posture (jump_target pcc offset) None (subst (λ (m : ℕ). (jump_target pcc m % 4 == 0) ≡ true) is whole))
 branch_goes false pcc posture offset n is whole =
-    subst (λ (m : ℕ). branched false pcc posture offset ≡ Ok (record { link = None; pcc = with_address pcc (target_at pcc m); posture = posture })) (sym is) refl
+    subst (λ (m : ℕ). branched false pcc posture offset ≡ Ok (record { link = None; pcc = with_address pcc (jump_target pcc m); posture = posture })) (sym is) refl
 
 abbrev IsTurned : Seen → ℕ → Instr → ℕ → Seen → Type 0
-IsTurned s t i n new = new ≡ linked_to s t (target_at (thread s t).pcc n) (operands_of i).to
+IsTurned s t i n new = new ≡ linked_to s t (jump_target (thread s t).pcc n) (operands_of i).to
 
 -- what a branch comes to is by its offset
 branch_flows : (i : Instr) (offset : ℕ) (x y pcc : Cap) (posture : Posture) (named : ℕ) → offset_of i ≡ Some offset
@@ -116,7 +116,7 @@ branch_class i offset e = absurd (cc)
 
 branch_by : (s : Seen) (t : ℕ) (i : Instr) (offset n : ℕ) (new : Seen) → offset_of i ≡ Some offset
     → n ≡ (if takes (thread s t) i then offset else 4)
-    → (target_at (thread s t).pcc n % 4 == 0) ≡ true → IsTurned s t i n new → CarriesQuietly s t i new
+    → (jump_target (thread s t).pcc n % 4 == 0) ≡ true → IsTurned s t i n new → CarriesQuietly s t i new
 branch_by s t i offset n new e by whole is listed k time =
     let w = thread s t in
     let named : ℕ = named_in listed (register w (operands_of i).first) in
@@ -126,7 +126,7 @@ branch_by s t i offset n new e by whole is listed k time =
       kind.1,
       branch_flows i offset (register w (operands_of i).first) (register w (operands_of i).second) w.pcc w.posture named e,
       branch_goes (takes w i) w.pcc w.posture offset n by whole,
-    ) (subst (λ k. new ≡ linked_to s t (target_at w.pcc n) k) kind.1 is, refl, refl, refl)
+    ) (subst (λ k. new ≡ linked_to s t (jump_target w.pcc n) k) kind.1 is, refl, refl, refl)
 
 -- x and y are the addresses in the registers
 taken_is : (w : Thread) (i : Instr) (o : Operands) (x y : ℕ) (taken : Bool) → o ≡ operands_of i → x ≡ address_in w o.first → y ≡ address_in w o.second → taken ≡ is_taken i x y
@@ -143,22 +143,22 @@ pub moved_so : (w : Thread) (i : Instr) (o : Operands) (offset n x y : ℕ) (tak
 moved_so w i o offset n x y taken os xs ys is by = ap Some (by ∙ ap (λ (b : Bool). if b then offset else 4) (taken_is w i o x y taken os xs ys is))
 
 jal_quiet : (s : Seen) (t : ℕ) (i : Instr) (n : ℕ) (new : Seen) → Some n ≡ jal_offset i
-    → (target_at (thread s t).pcc n % 4 == 0) ≡ true → IsTurned s t i n new → CarriesQuietly s t i new
+    → (jump_target (thread s t).pcc n % 4 == 0) ≡ true → IsTurned s t i n new → CarriesQuietly s t i new
 unfolding flow_result
 jal_quiet s t (Jal rd offset) n new e whole is listed k time =
     let w = thread s t in
     let same : n ≡ offset = cc in
-    rw (whole_target w.pcc w.posture (target_at w.pcc offset) (Some (linked w.pcc w.posture)) (subst (λ (m : ℕ). (target_at w.pcc m % 4 == 0) ≡ true) same whole))
+    rw (whole_target w.pcc w.posture (jump_target w.pcc offset) (Some (return_link w.pcc w.posture)) (subst (λ (m : ℕ). (jump_target w.pcc m % 4 == 0) ≡ true) same whole))
     (subst (λ (m : ℕ). IsTurned s t (Jal rd offset) m new) same is, refl, refl, refl)
 jal_quiet s t i n new e whole is listed k time = absurd (cc)
 
 moved_quiet : (s : Seen) (t : ℕ) (i : Instr) (o : Option ℕ) (n : ℕ) (new : Seen) → offset_of i ≡ o → Some n ≡ jump_by (thread s t) i o
-    → (target_at (thread s t).pcc n % 4 == 0) ≡ true → IsTurned s t i n new → CarriesQuietly s t i new
+    → (jump_target (thread s t).pcc n % 4 == 0) ≡ true → IsTurned s t i n new → CarriesQuietly s t i new
 moved_quiet s t i None n new e by whole is = jal_quiet s t i n new by whole is
 moved_quiet s t i (Some offset) n new e by whole is = branch_by s t i offset n new e (cc) whole is
 
 pub jump_quiet : (s new : Seen) (t : ℕ) (i : Instr) (n : ℕ) → Some n ≡ jump_offset (thread s t) i
-    → (target_at (thread s t).pcc n % 4 == 0) ≡ true → IsTurned s t i n new → CarriesQuietly s t i new
+    → (jump_target (thread s t).pcc n % 4 == 0) ≡ true → IsTurned s t i n new → CarriesQuietly s t i new
 jump_quiet s new t i n by whole turned =
     moved_quiet s t i (offset_of i) n new refl by whole turned
 
@@ -205,7 +205,7 @@ leads to at x n pcc before off f disables on is still = record {
 }
   where
     went : Posture → Flowed
-    went posture = record { link = Some (linked pcc before); pcc = with_address (opened x) (register_target x n); posture = posture }
+    went posture = record { link = Some (return_link pcc before); pcc = with_address (opened x) (register_target x n); posture = posture }
 
 pub through_quiet : (s new : Seen) (t to at n : ℕ) (x pcc : Cap) (before : Posture) (f : Flowed) (value : Cap) → x ≡ register (thread s t) at → pcc ≡ (thread s t).pcc → before ≡ (thread s t).posture
     → LeadsTo to at x n pcc before f → value ≡ unwrap_or f.link (integer 0)

@@ -5,7 +5,7 @@ use Rattle.def_words.specs.declared.Cap.{Cap}
 use Rattle.def_words.specs.declared.Posture.{Posture}
 use Rattle.def_words.specs.Authority.{cap_address}
 use Rattle.def_words.specs.Capability.{with_address}
-use Rattle.def_words.specs.Jumped.{linked}
+use Rattle.def_words.specs.Jumped.{return_link}
 use Rattle.def_machine.specs.State.{Thread, nobody}
 use Rattle.def_machine.specs.Threads.{jumped}
 use Rattle.ct_threads.specs.declared.window.Window.{Window}
@@ -37,4 +37,4 @@ stored_window s new t is size w has =
 
 pub linked_window : (s new : Seen) (t a to : ℕ) → new ≡ linked_to s t a to → a < 2 ^ 32 → KeepsWindows s new t
 linked_window s new t a to is small w has =
-    subst (λ (x : Seen). HasWindow x t w) (sym is) (jumped_window s t a (thread s t).posture to (linked (thread s t).pcc (thread s t).posture) small w has)
+    subst (λ (x : Seen). HasWindow x t w) (sym is) (jumped_window s t a (thread s t).posture to (return_link (thread s t).pcc (thread s t).posture) small w has)

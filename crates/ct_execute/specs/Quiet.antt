@@ -12,7 +12,7 @@ use Rattle.def_words.specs.declared.Cap.{Cap}
 use Rattle.def_words.specs.declared.Posture.{Posture}
 use Rattle.def_words.specs.Authority.{cap_address}
 use Rattle.def_words.specs.Capability.{with_address}
-use Rattle.def_words.specs.Jumped.{linked}
+use Rattle.def_words.specs.Jumped.{return_link}
 use Rattle.ct_decode.specs.declared.reading.Reading.{Reading}
 use Rattle.ct_decode.specs.Reading.{AreRegisters}
 use Rattle.ct_threads.specs.declared.window.Window.{Window}
@@ -43,7 +43,7 @@ KeepsWindows s new t = (w : Window) → HasWindow s t w → HasWindow new t w
 abbrev pub linked_to : Seen → ℕ → ℕ → ℕ → Seen
 linked_to s t at to =
     after_jump s t (with_address (thread s t).pcc at) (thread s t).posture to
-    (linked (thread s t).pcc (thread s t).posture)
+    (return_link (thread s t).pcc (thread s t).posture)
 
 -- the offset of a branch
 abbrev pub offset_of : Instr → Option ℕ

@@ -7,7 +7,7 @@ ghost use Rattle.def_instr.specs.declared.Instr.TheVariants.{CJalr};
 ghost use Rattle.def_profile.specs.declared.seals.TheConstants.{SENTRY_DISABLE};
 ghost use Rattle.def_step.specs.declared.Class.TheVariants as kinds;
 ghost use Rattle.def_step.specs.Devices.{DeviceStates};
-ghost use Rattle.def_step.specs.Jumps.{target_at};
+ghost use Rattle.def_step.specs.Jumps.{jump_target};
 ghost use Rattle.def_step.specs.Operands.{class_of, operands_of};
 ghost use Rattle.def_words.specs.Seals.{cap_seal};
 ghost use Rattle.ct_decode.specs.Reading.{AreRegisters};
@@ -292,9 +292,9 @@ fn branch<M: Memory + Drop>(
 fn go_by<M: Memory + Drop>(engine: &mut Engine<M>, t: u32, by: u32, to: u32) -> bool
     requires runs { engine.old.running ≡ Some t }
     requires to { to < 16 }
-    ensures whole { result ≡ true → (target_at (thread engine.old t).pcc by % 4 == 0) ≡ true }
+    ensures whole { result ≡ true → (jump_target (thread engine.old t).pcc by % 4 == 0) ≡ true }
     ensures gone { result ≡ true → engine.new
-        ≡ linked_to engine.old t (target_at (thread engine.old t).pcc by) to }
+        ≡ linked_to engine.old t (jump_target (thread engine.old t).pcc by) to }
     ensures same { result ≡ false → engine.new ≡ engine.old }
     ensures windows { KeepsWindows engine.old engine.new t }
 {

@@ -2,7 +2,7 @@
 
 ghost use Rattle.std.specs.Prelude.{IsTrue, ◌≡◌, ◌%◌, ◌^◌};
 ghost use Rattle.def_instr.specs.Shapes.{is_jump};
-ghost use Rattle.def_step.specs.Jumps.{flow_result, target_at, jumped_to, passed_over, branched};
+ghost use Rattle.def_step.specs.Jumps.{flow_result, jump_target, jumped_to, passed_over, branched};
 
 use crate::branches::takes;
 use crate::outcome::Flow;

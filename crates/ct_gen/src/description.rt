@@ -16,7 +16,7 @@ use std::alloc::{AllocError, Global};
 
 /// The name of compartment `i`.
 fn compartment_name(alloc: Global, i: u32) -> Result<String, AllocError>
-    ensures { IfOk result (λ s. string_bytes s ≡ spec.compartment_name i) }
+    ensures { IfOk result (λ s. string_bytes s ≡ spec.name_of_compartment i) }
 {
     format!(in alloc; "n{i}")
 }
@@ -30,7 +30,7 @@ fn file_name(alloc: Global, i: u32) -> Result<String, AllocError>
 
 /// The name of its export.
 fn entry_name(alloc: Global, i: u32) -> Result<String, AllocError>
-    ensures { IfOk result (λ s. string_bytes s ≡ spec.entry_name i) }
+    ensures { IfOk result (λ s. string_bytes s ≡ spec.name_of_entry i) }
 {
     format!(in alloc; "n{i}.go")
 }
@@ -43,7 +43,7 @@ fn text_value(alloc: Global, text: &str) -> Result<Value, AllocError>
 
 /// The list of one value.
 fn list_of(alloc: Global, value: Value) -> Result<Value, AllocError>
-    ensures { IfOk result (λ v. view v ≡ spec.list (view value ∷ [])) }
+    ensures { IfOk result (λ v. view v ≡ spec.array_data (view value ∷ [])) }
 {
     let mut values = Vec::new(alloc);
     values.push(value)?;
@@ -51,7 +51,7 @@ fn list_of(alloc: Global, value: Value) -> Result<Value, AllocError>
 }
 
 fn code_value(alloc: Global, i: u32) -> Result<Value, AllocError>
-    ensures { IfOk result (λ v. view v ≡ spec.code i) }
+    ensures { IfOk result (λ v. view v ≡ spec.code_object i) }
 {
     let file = file_name(alloc, i)?;
     json!(in alloc; {"file": &file})
@@ -100,7 +100,7 @@ fn export_value(alloc: Global, passes: bool) -> Result<Value, AllocError>
 
 /// The list of the one export.
 fn exports_value(alloc: Global, passes: bool) -> Result<Value, AllocError>
-    ensures { IfOk result (λ v. view v ≡ spec.list (spec.export passes ∷ [])) }
+    ensures { IfOk result (λ v. view v ≡ spec.array_data (spec.export passes ∷ [])) }
 {
     let export = export_value(alloc, passes)?;
     list_of(alloc, export)
@@ -131,7 +131,7 @@ fn next_import_value(alloc: Global, i: u32) -> Result<Value, AllocError>
 fn add_imports(values: &mut Vec<Value>, alloc: Global, last: bool, i: u32) -> Result<(), AllocError>
     requires few { i < 64 }
     requires empty { values.old.items ≡ [] }
-    ensures { OnOk result (map view values.new.items ≡ spec.imports last i) }
+    ensures { OnOk result (map view values.new.items ≡ spec.import_objects last i) }
 {
     values.push(port_import_value(alloc)?)?;
     values.push(service_import_value(alloc, "allocate")?)?;
@@ -144,7 +144,7 @@ fn add_imports(values: &mut Vec<Value>, alloc: Global, last: bool, i: u32) -> Re
 
 fn import_values(alloc: Global, last: bool, i: u32) -> Result<Vec<Value>, AllocError>
     requires { i < 64 }
-    ensures { IfOk result (λ v. map view v.items ≡ spec.imports last i) }
+    ensures { IfOk result (λ v. map view v.items ≡ spec.import_objects last i) }
 {
     let mut values = Vec::new(alloc);
     add_imports(&mut values, alloc, last, i)?;
@@ -159,7 +159,7 @@ fn quota_value(alloc: Global) -> Result<Value, AllocError>
 
 /// The list of the one quota.
 fn quotas_value(alloc: Global) -> Result<Value, AllocError>
-    ensures { IfOk result (λ v. view v ≡ spec.list (spec.quota ∷ [])) }
+    ensures { IfOk result (λ v. view v ≡ spec.array_data (spec.quota ∷ [])) }
 {
     let quota = quota_value(alloc)?;
     list_of(alloc, quota)

@@ -11,11 +11,11 @@ use Rattle.def_machine.specs.Objects.{Each, charges, placed_among}
 use Rattle.def_chunks.specs.declared.rows.Range.{Range}
 use Rattle.def_chunks.specs.declared.rows.Gap.{Gap}
 use Rattle.def_chunks.specs.declared.rows.Account.{Account}
-use Rattle.def_chunks.specs.Chunks.{Chunk, is_free, total, Starts, AreChunks}
+use Rattle.def_chunks.specs.Chunks.{Chunk, is_free, total_size, Starts, AreChunks}
 use Rattle.def_chunks.specs.Tiles.{chunks, TilesSettled}
 use Rattle.def_chunks.specs.Changes.{replaced, gap, InUse, Spared, KeepsRest, NoHead, OnlyHeads}
 use Rattle.def_chunks.specs.Gaps.{carved}
-use Rattle.def_chunks.specs.Heaps.{HeapRow, account, name_of, is_named, quota_named, is_used_at, object_at, objects_in, objects_of, Distinct, waiting_in, Laid}
+use Rattle.def_chunks.specs.Heaps.{HeapRow, account, chunk_name, begins_used_chunk, quota_named, is_used_at, object_at, objects_in, objects_of, Distinct, waiting_in, Laid}
 use Rattle.law_chunks.proofs.Lays.{total_both, are_split, are_join}
 use Rattle.law_chunks.proofs.Reading.{sits, replaced_is}
 use Rattle.law_chunks.proofs.Joins.{gap_are, gap_total}
@@ -38,12 +38,12 @@ carved_list above front d back below = above ++ (gap front ++ d ∷ (gap back ++
 
 -- places in the carved list
 record CarvedAt (base front back : ℕ) (above : List Chunk) (d : Chunk) (below : List Chunk) : Type 0 where
-  pub first : total (above ++ gap front) ≡ total above + front
+  pub first : total_size (above ++ gap front) ≡ total_size above + front
   pub list : carved_list above front d back below ≡ (above ++ gap front) ++ d ∷ (gap back ++ below)
 
 carved_at : (base front back : ℕ) (above : List Chunk) (d : Chunk) (below : List Chunk) → CarvedAt base front back above d below
 carved_at base front back above d below = record {
-  first = total_both above (gap front) ∙ ap (λ n. total above + n) (gap_total front);
+  first = total_both above (gap front) ∙ ap (λ n. total_size above + n) (gap_total front);
   list = sym (append_assoc above (gap front) (d ∷ (gap back ++ below)));
 }
 
@@ -61,93 +61,93 @@ carved_are front length number back above below a b f e w some small =
 
 -- one used chunk more
 carved_more : (base front back length number : ℕ) (above : List Chunk) (c : Chunk) (below : List Chunk) → base % 16 ≡ 0 → AreChunks (above ++ c ∷ below) → is_free c ≡ true → c.size ≡ front + (length + 8) + back → AreChunks (carved_list above front (new_chunk length number) back below)
-    → OneMore base (base + total above + front) (above ++ c ∷ below) (carved_list above front (new_chunk length number) back below)
+    → OneMore base (base + total_size above + front) (above ++ c ∷ below) (carved_list above front (new_chunk length number) back below)
 carved_more base front back length number above c below even old_are free_ size new_are =
     let d : Chunk = new_chunk length number in
     let k = carved_at base front back above d below in
     let first = k.first in
     let kinds = are_split above (c ∷ below) old_are in
     let c_some = kinds.1.0.some in
-    let after : base + total above + front + (length + 8) + total (gap back) ≡ base + total above + c.size = (let b = gap_total back in omega (arith, b, size)) in
+    let after : base + total_size above + front + (length + 8) + total_size (gap back) ≡ base + total_size above + c.size = (let b = gap_total back in omega (arith, b, size)) in
     record {
       even = even;
       old_are = old_are;
       new_are = new_are;
-      here = subst (UsedStarts (base + total above + front) base) (sym k.list) (used_between (base + total above + front) base (above ++ gap front) d (gap back ++ below) refl (omega (arith, first)));
+      here = subst (UsedStarts (base + total_size above + front) base) (sym k.list) (used_between (base + total_size above + front) base (above ++ gap front) d (gap back ++ below) refl (omega (arith, first)));
       there = λ p u. elim (used_split p base above (c ∷ below) u) [
         | inl a ↦ used_first p base above (gap front ++ d ∷ (gap back ++ below)) a
         | inr b ↦ elim b [
           | inl z ↦ absurd (let used = z.0 in let clash : true ≡ false = sym free_ ∙ used in cc)
           | inr z ↦ subst (UsedStarts p base) (sym k.list) (used_second p base (above ++ gap front) (d ∷ (gap back ++ below))
-              (inr (used_second p (base + total (above ++ gap front) + d.size) (gap back) below
-              (let there_ : base + total (above ++ gap front) + d.size + total (gap back) ≡ base + total above + c.size = omega (arith, first, after) in rw there_ z))))
+              (inr (used_second p (base + total_size (above ++ gap front) + d.size) (gap back) below
+              (let there_ : base + total_size (above ++ gap front) + d.size + total_size (gap back) ≡ base + total_size above + c.size = omega (arith, first, after) in rw there_ z))))
         ]
       ];
       back = λ p other u. elim (used_split p base (above ++ gap front) (d ∷ (gap back ++ below)) (subst (UsedStarts p base) k.list u)) [
         | inl a ↦ elim (used_split p base above (gap front) a) [
           | inl x ↦ used_first p base above (c ∷ below) x
-          | inr x ↦ absurd (gap_unused p (base + total above) front x)
+          | inr x ↦ absurd (gap_unused p (base + total_size above) front x)
         ]
         | inr b ↦ elim b [
           | inl z ↦ absurd (other (let is = z.1 in omega (arith, is, first)))
-          | inr z ↦ elim (used_split p (base + total (above ++ gap front) + d.size) (gap back) below z) [
-            | inl x ↦ absurd (gap_unused p (base + total (above ++ gap front) + d.size) back x)
-            | inr x ↦ used_second p base above (c ∷ below) (inr (let there_ : base + total (above ++ gap front) + d.size + total (gap back) ≡ base + total above + c.size = omega (arith, first, after) in rw there_ at x))
+          | inr z ↦ elim (used_split p (base + total_size (above ++ gap front) + d.size) (gap back) below z) [
+            | inl x ↦ absurd (gap_unused p (base + total_size (above ++ gap front) + d.size) back x)
+            | inr x ↦ used_second p base above (c ∷ below) (inr (let there_ : base + total_size (above ++ gap front) + d.size + total_size (gap back) ≡ base + total_size above + c.size = omega (arith, first, after) in rw there_ at x))
           ]
         ]
       ];
-      not_old = λ u. elim (used_split (base + total above + front) base above (c ∷ below) u) [
-        | inl a ↦ (let hi = used_high (base + total above + front) base above kinds.0 a in omega (arith, hi))
+      not_old = λ u. elim (used_split (base + total_size above + front) base above (c ∷ below) u) [
+        | inl a ↦ (let hi = used_high (base + total_size above + front) base above kinds.0 a in omega (arith, hi))
         | inr b ↦ elim b [
           | inl z ↦ (let used = z.0 in let clash : true ≡ false = sym free_ ∙ used in cc)
-          | inr z ↦ (let lo = used_low (base + total above + front) (base + total above + c.size) below z in omega (arith, lo, size))
+          | inr z ↦ (let lo = used_low (base + total_size above + front) (base + total_size above + c.size) below z in omega (arith, lo, size))
         ]
       ];
     }
 
 -- ---- the rows
 
-carved_rows : (names : List ℕ) (base front back extent number quota : ℕ) (above : List Chunk) (c : Chunk) (below : List Chunk) → OneMore base (base + total above + front) (above ++ c ∷ below) (carved_list above front (new_chunk extent number) back below)
-    → c.size ≡ front + (extent + 8) + back → (total above + front) / 16 < length names
-    → objects_in (set names ((total above + front) / 16) (name_of quota (total above + front))) base base (carved_list above front (new_chunk extent number) back below)
-    ≡ objects_in names base base above ++ record { number = number; quota = quota; base = base + total above + front + 8; length = extent; charge = extent + 8; live = true; painted = false } ∷ objects_in names base (base + total above + c.size) below
+carved_rows : (names : List ℕ) (base front back extent number quota : ℕ) (above : List Chunk) (c : Chunk) (below : List Chunk) → OneMore base (base + total_size above + front) (above ++ c ∷ below) (carved_list above front (new_chunk extent number) back below)
+    → c.size ≡ front + (extent + 8) + back → (total_size above + front) / 16 < length names
+    → objects_in (set names ((total_size above + front) / 16) (chunk_name quota (total_size above + front))) base base (carved_list above front (new_chunk extent number) back below)
+    ≡ objects_in names base base above ++ record { number = number; quota = quota; base = base + total_size above + front + 8; length = extent; charge = extent + 8; live = true; painted = false } ∷ objects_in names base (base + total_size above + c.size) below
 carved_rows names base front back extent number quota above c below m size inside =
     let d : Chunk = new_chunk extent number in
-    let place : ℕ = base + total above + front in
-    let offset : place - base ≡ total above + front = omega arith in
-    let more : List ℕ = set names ((total above + front) / 16) (name_of quota (total above + front)) in
+    let place : ℕ = base + total_size above + front in
+    let offset : place - base ≡ total_size above + front = omega arith in
+    let more : List ℕ = set names ((total_size above + front) / 16) (chunk_name quota (total_size above + front)) in
     let k = carved_at base front back above d below in
     let first = k.first in
     let same : (p : ℕ) → UsedStarts p base (carved_list above front d back below) → (p ≡ place → ⊥) → quota_named more (p - base) ≡ quota_named names (p - base) = λ p u other.
-    ap (λ o. quota_named (set names (o / 16) (name_of quota o)) (p - base)) (sym offset) ∙ other_quota names base place quota p (carved_list above front d back below) m.new_are m.even m.here u other in
+    ap (λ o. quota_named (set names (o / 16) (chunk_name quota o)) (p - base)) (sym offset) ∙ other_quota names base place quota p (carved_list above front d back below) m.new_are m.even m.here u other in
     let one : objects_in more base base above ≡ objects_in names base base above = names_same names more base base above
     (λ p u. same p (used_first p base above (gap front ++ d ∷ (gap back ++ below)) u) (λ is. (let hi = used_high p base above (are_split above (gap front ++ d ∷ (gap back ++ below)) m.new_are).0 u in omega (arith, hi, is)))) in
-    let after : place + d.size + total (gap back) ≡ base + total above + c.size = (let b = gap_total back in omega (arith, b, size)) in
-    let two : objects_in more base (base + total above + c.size) below ≡ objects_in names base (base + total above + c.size) below = names_same names more base (base + total above + c.size) below
+    let after : place + d.size + total_size (gap back) ≡ base + total_size above + c.size = (let b = gap_total back in omega (arith, b, size)) in
+    let two : objects_in more base (base + total_size above + c.size) below ≡ objects_in names base (base + total_size above + c.size) below = names_same names more base (base + total_size above + c.size) below
     (λ p u. same p (subst (UsedStarts p base) (sym k.list) (used_second p base (above ++ gap front) (d ∷ (gap back ++ below))
-    (inr (used_second p (base + total (above ++ gap front) + d.size) (gap back) below
-    (let there_ : base + total (above ++ gap front) + d.size + total (gap back) ≡ base + total above + c.size = omega (arith, first, after) in rw there_ u)))))
-    (λ is. (let lo = used_low p (base + total above + c.size) below u in omega (arith, lo, is, size)))) in
-    let new_quota : quota_named more (place - base) ≡ quota = ap (λ o. quota_named more o) offset ∙ set_quota names quota (total above + front) inside in
-    let behind : objects_in more base (place + d.size) (gap back ++ below) ≡ objects_in more base (base + total above + c.size) below = objects_both more base (place + d.size) (gap back) below ∙ rw (gap_rows more base (place + d.size) back) (ap (λ a. objects_in more base a below) after) in
-    let row : object_at quota place d ≡ record { number = number; quota = quota; base = base + total above + front + 8; length = extent; charge = extent + 8; live = true; painted = false } = ap (λ n. let r : Object = record { number = number; quota = quota; base = base + total above + front + 8; length = n; charge = extent + 8; live = true; painted = false } in r) (omega arith) in
-    let begin : base + total (above ++ gap front) ≡ place = omega (arith, first) in
+    (inr (used_second p (base + total_size (above ++ gap front) + d.size) (gap back) below
+    (let there_ : base + total_size (above ++ gap front) + d.size + total_size (gap back) ≡ base + total_size above + c.size = omega (arith, first, after) in rw there_ u)))))
+    (λ is. (let lo = used_low p (base + total_size above + c.size) below u in omega (arith, lo, is, size)))) in
+    let new_quota : quota_named more (place - base) ≡ quota = ap (λ o. quota_named more o) offset ∙ set_quota names quota (total_size above + front) inside in
+    let behind : objects_in more base (place + d.size) (gap back ++ below) ≡ objects_in more base (base + total_size above + c.size) below = objects_both more base (place + d.size) (gap back) below ∙ rw (gap_rows more base (place + d.size) back) (ap (λ a. objects_in more base a below) after) in
+    let row : object_at quota place d ≡ record { number = number; quota = quota; base = base + total_size above + front + 8; length = extent; charge = extent + 8; live = true; painted = false } = ap (λ n. let r : Object = record { number = number; quota = quota; base = base + total_size above + front + 8; length = n; charge = extent + 8; live = true; painted = false } in r) (omega arith) in
+    let begin : base + total_size (above ++ gap front) ≡ place = omega (arith, first) in
     let front_none : objects_in more base base (above ++ gap front) ≡ objects_in more base base above =
-    objects_both more base base above (gap front) ∙ ap (λ l. objects_in more base base above ++ l) (gap_rows more base (base + total above) front) ∙ nil_right (objects_in more base base above) in
+    objects_both more base base above (gap front) ∙ ap (λ l. objects_in more base base above ++ l) (gap_rows more base (base + total_size above) front) ∙ nil_right (objects_in more base base above) in
     ap (λ l. objects_in more base base l) k.list
     ∙ objects_both more base base (above ++ gap front) (d ∷ (gap back ++ below))
-    ∙ ap (λ l. l ++ objects_in more base (base + total (above ++ gap front)) (d ∷ (gap back ++ below))) (front_none ∙ one)
+    ∙ ap (λ l. l ++ objects_in more base (base + total_size (above ++ gap front)) (d ∷ (gap back ++ below))) (front_none ∙ one)
     ∙ ap (λ a. objects_in names base base above ++ objects_in more base a (d ∷ (gap back ++ below))) begin
     ∙ ap (λ l. objects_in names base base above ++ object_at (quota_named more (place - base)) place d ∷ l) (behind ∙ two)
-    ∙ ap (λ q. objects_in names base base above ++ object_at q place d ∷ objects_in names base (base + total above + c.size) below) new_quota
-    ∙ ap (λ r. objects_in names base base above ++ r ∷ objects_in names base (base + total above + c.size) below) row
+    ∙ ap (λ q. objects_in names base base above ++ object_at q place d ∷ objects_in names base (base + total_size above + c.size) below) new_quota
+    ∙ ap (λ r. objects_in names base base above ++ r ∷ objects_in names base (base + total_size above + c.size) below) row
   where
     nil_right : (rs : List Object) → rs ++ [] ≡ rs
     nil_right [] = refl
     nil_right (r ∷ rs) = ap (λ l. r ∷ l) (nil_right rs)
 
 -- the rows of a free chunk and its neighbours
-free_rows : (names : List ℕ) (base : ℕ) (above : List Chunk) (c : Chunk) (below : List Chunk) → is_free c ≡ true → objects_in names base base (above ++ c ∷ below) ≡ objects_in names base base above ++ objects_in names base (base + total above + c.size) below
+free_rows : (names : List ℕ) (base : ℕ) (above : List Chunk) (c : Chunk) (below : List Chunk) → is_free c ≡ true → objects_in names base base (above ++ c ∷ below) ≡ objects_in names base base above ++ objects_in names base (base + total_size above + c.size) below
 free_rows names base above c below free_ = objects_both names base base above (c ∷ below) ∙ rw free_ refl
 
 -- ---- the whole
@@ -160,7 +160,7 @@ pub record Left (h n : HeapRow) (gs ms hs : List Granule) (quota extent : ℕ) (
   pub heads : OnlyHeads h.range (chunks n.range ms) gs ms
   pub range : n.range ≡ record h.range { first = n.range.first }
   pub zeroed : IsZeroed (g.base - h.range.ram) (g.base - h.range.ram + extent) ms hs
-  pub names : n.names ≡ set h.names ((g.base - 8 - h.range.base) / 16) (name_of quota (g.base - 8 - h.range.base))
+  pub names : n.names ≡ set h.names ((g.base - 8 - h.range.base) / 16) (chunk_name quota (g.base - 8 - h.range.base))
   pub accounts : n.accounts ≡ set h.accounts quota (record { limit = (account h quota).limit; charged = (account h quota).charged + (extent + 8) })
   pub next : n.next ≡ h.next + 1
   pub waiting : n.waiting ≡ h.waiting
@@ -209,13 +209,13 @@ place_done h n gs ms hs quota extent g l quota_in few p left =
     let e2 = even.2 in
     let old_are : AreChunks (s.above ++ c ∷ s.below) = subst AreChunks s.whole l.settled.tiled.are in
     let m = carved_more base front back extent number s.above c s.below e1 old_are free_ c_size ds_are in
-    let offset : g.base - 8 - base ≡ total s.above + front = omega (arith, place, low) in
-    let at_offset : base + total s.above + front - base ≡ total s.above + front = omega arith in
-    let object_base : base + total s.above + front + 8 ≡ g.base = omega (arith, place, low) in
+    let offset : g.base - 8 - base ≡ total_size s.above + front = omega (arith, place, low) in
+    let at_offset : base + total_size s.above + front - base ≡ total_size s.above + front = omega arith in
+    let object_base : base + total_size s.above + front + 8 ≡ g.base = omega (arith, place, low) in
     let sum = k.sum in
     let slots = l.slots in
-    let slot_in : (total s.above + front) / 16 < length h.names = omega (arith, slots, sum, c_size, some, e2) in
-    let names_is : n.names ≡ set h.names ((total s.above + front) / 16) (name_of quota (total s.above + front)) = left.names ∙ ap (λ o. set h.names (o / 16) (name_of quota o)) offset in
+    let slot_in : (total_size s.above + front) / 16 < length h.names = omega (arith, slots, sum, c_size, some, e2) in
+    let names_is : n.names ≡ set h.names ((total_size s.above + front) / 16) (chunk_name quota (total_size s.above + front)) = left.names ∙ ap (λ o. set h.names (o / 16) (chunk_name quota o)) offset in
     let e_ram : n.range.ram ≡ r.ram = ap (λ (x : Range). x.ram) left.range in
     let e_base : n.range.base ≡ base = ap (λ (x : Range). x.base) left.range in
     let e_length : n.range.length ≡ r.length = ap (λ (x : Range). x.length) left.range in
@@ -240,14 +240,14 @@ place_done h n gs ms hs quota extent g l quota_in few p left =
     let list_hs : chunks n.range hs ≡ ds = same.chunks_are ∙ list in
     let o : Object = placed_object h quota extent g.base in
     let rs : List Object = objects_in h.names base base s.above in
-    let qs : List Object = objects_in h.names base (base + total s.above + c.size) s.below in
+    let qs : List Object = objects_in h.names base (base + total_size s.above + c.size) s.below in
     let old_rows : objects_in h.names base base (chunks r gs) ≡ rs ++ qs = ap (λ cs. objects_in h.names base base cs) s.whole ∙ free_rows h.names base s.above c s.below free_ in
     let new_rows : objects_in n.names n.range.base n.range.base (chunks n.range hs) ≡ rs ++ o ∷ qs =
     ap (λ b. objects_in n.names b b (chunks n.range hs)) e_base ∙ ap (λ cs. objects_in n.names base base cs) list_hs ∙ ap (λ t. objects_in t base base ds) names_is
     ∙ carved_rows h.names base front back extent number quota s.above c s.below m c_size slot_in
     ∙ ap (λ b. rs ++ (let x : Object = record { number = number; quota = quota; base = b; length = extent; charge = extent + 8; live = true; painted = false } in x) ∷ qs) object_base in
-    let before : Each (λ q. q.base ≤ o.base) rs = each_more (λ q. q.base + q.length ≤ base + total s.above) (λ q. q.base ≤ o.base) rs (λ q hi. omega (arith, hi, place, low)) (rows_high h.names base base s.above k.above_are) in
-    let behind : Each (λ q. o.base < q.base) qs = each_more (λ q. base + total s.above + c.size + 8 ≤ q.base) (λ q. o.base < q.base) qs (λ q lo. omega (arith, lo, place, high, size_is)) (rows_low h.names base (base + total s.above + c.size) s.below) in
+    let before : Each (λ q. q.base ≤ o.base) rs = each_more (λ q. q.base + q.length ≤ base + total_size s.above) (λ q. q.base ≤ o.base) rs (λ q hi. omega (arith, hi, place, low)) (rows_high h.names base base s.above k.above_are) in
+    let behind : Each (λ q. o.base < q.base) qs = each_more (λ q. base + total_size s.above + c.size + 8 ≤ q.base) (λ q. o.base < q.base) qs (λ q lo. omega (arith, lo, place, high, size_is)) (rows_low h.names base (base + total_size s.above + c.size) s.below) in
     let placed : rs ++ o ∷ qs ≡ placed_among o (objects_in h.names base base (chunks r gs)) = sym (placed_between o rs qs before behind) ∙ ap (placed_among o) (sym old_rows) in
     let accounts_length : length n.accounts ≡ length h.accounts = ap length left.accounts ∙ length-set h.accounts quota (record { limit = (account h quota).limit; charged = (account h quota).charged + (extent + 8) }) in
     let account_is : (q : ℕ) → account n q ≡ cond (nat_eq quota q) (record { limit = (account h quota).limit; charged = (account h quota).charged + (extent + 8) }) (account h q) =
@@ -276,10 +276,10 @@ place_done h n gs ms hs quota extent g l quota_in few p left =
     let within_new = p.within in
     let within_now : (q : ℕ) → (account n q).charged ≤ (account n q).limit =
     within_after h n quota ((account h quota).charged + (extent + 8)) quota_in left.accounts (omega (arith, within_new)) l.within in
-    let named_old : (x : ℕ) → x % 8 ≡ 0 → is_named h.names x ≡ is_used_at (base + x) base (s.above ++ c ∷ s.below) = λ x x_even. l.named x x_even ∙ ap (λ cs. is_used_at (base + x) base cs) s.whole in
-    let slot_at : (base + total s.above + front - base) / 16 < length h.names = rw at_offset slot_in in
-    let named_now : (x : ℕ) → x % 8 ≡ 0 → is_named n.names x ≡ is_used_at (n.range.base + x) n.range.base (chunks n.range hs) = λ x x_even.
-    ap (λ t. is_named t x) names_is ∙ ap (λ t. is_named (set h.names (t / 16) (name_of quota t)) x) (sym at_offset) ∙ one_named h.names base (base + total s.above + front) quota (s.above ++ c ∷ s.below) ds m slot_at named_old x x_even
+    let named_old : (x : ℕ) → x % 8 ≡ 0 → begins_used_chunk h.names x ≡ is_used_at (base + x) base (s.above ++ c ∷ s.below) = λ x x_even. l.named x x_even ∙ ap (λ cs. is_used_at (base + x) base cs) s.whole in
+    let slot_at : (base + total_size s.above + front - base) / 16 < length h.names = rw at_offset slot_in in
+    let named_now : (x : ℕ) → x % 8 ≡ 0 → begins_used_chunk n.names x ≡ is_used_at (n.range.base + x) n.range.base (chunks n.range hs) = λ x x_even.
+    ap (λ t. begins_used_chunk t x) names_is ∙ ap (λ t. begins_used_chunk (set h.names (t / 16) (chunk_name quota t)) x) (sym at_offset) ∙ one_named h.names base (base + total_size s.above + front) quota (s.above ++ c ∷ s.below) ds m slot_at named_old x x_even
     ∙ ap (λ cs. is_used_at (base + x) base cs) (sym list_hs) ∙ ap (λ b. is_used_at (b + x) b (chunks n.range hs)) (sym e_base) in
     let distinct_now : Distinct (rs ++ o ∷ qs) = distinct_between o rs qs (subst Distinct old_rows l.distinct) (others_below h.next rs numbers_old.0) (others_below h.next qs numbers_old.1) in
     let waiting_was = waiting_both rs qs in
@@ -293,7 +293,7 @@ place_done h n gs ms hs quota extent g l quota_in few p left =
     record {
       laid = record {
         settled = same.settled;
-        slots = ap length names_is ∙ length-set h.names ((total s.above + front) / 16) (name_of quota (total s.above + front)) ∙ slots ∙ ap (λ x. x / 16) (sym e_length);
+        slots = ap length names_is ∙ length-set h.names ((total_size s.above + front) / 16) (chunk_name quota (total_size s.above + front)) ∙ slots ∙ ap (λ x. x / 16) (sym e_length);
         named = named_now;
         quotas = subst (λ x. Each (λ y. y.quota < length n.accounts) x) (sym new_rows) (each_both (λ y. y.quota < length n.accounts) rs (o ∷ qs) (each_more (λ x. x.quota < length h.accounts) (λ y. y.quota < length n.accounts) rs wider quotas_old.0) ((omega (arith, quota_in, accounts_length), each_more (λ x. x.quota < length h.accounts) (λ y. y.quota < length n.accounts) qs wider quotas_old.1)));
         few = (let few_ = l.few in omega (arith, few_, accounts_length));

@@ -5,10 +5,10 @@ use Rattle.def_memory.specs.declared.Granule.{Granule}
 use Rattle.def_machine.specs.State.{Object}
 use Rattle.def_machine.specs.Objects.{Each, charges}
 use Rattle.def_chunks.specs.declared.rows.Head.{Head}
-use Rattle.def_chunks.specs.Chunks.{Chunk, is_free, total, head_at, head_in, IsChunk, AreChunks}
+use Rattle.def_chunks.specs.Chunks.{Chunk, is_free, total_size, head_at, head_in, IsChunk, AreChunks}
 use Rattle.def_chunks.specs.Tiles.{chunks}
 use Rattle.def_chunks.specs.Gaps.{ChunkStands, UsedStands}
-use Rattle.def_chunks.specs.Heaps.{HeapRow, object_at, objects_in, objects_of, quota_named, is_named, is_used_at, account, Laid}
+use Rattle.def_chunks.specs.Heaps.{HeapRow, object_at, objects_in, objects_of, quota_named, begins_used_chunk, is_used_at, account, Laid}
 use Rattle.law_chunks.proofs.Reading.{sits}
 use Rattle.law_chunks.proofs.Rows.{objects_both, UsedStarts, each_split}
 use Rattle.ct_chunks.proofs.Painting.{tells}
@@ -82,7 +82,7 @@ pub record Around (names : List ℕ) (low at : ℕ) (above : List Chunk) (c : Ch
   pub before : NotAt (at + 8) (objects_in names low low above)
   pub behind : NotAt (at + 8) (objects_in names low (at + c.size) below)
 
-pub around : (names : List ℕ) (low at : ℕ) (above : List Chunk) (c : Chunk) (below : List Chunk) → AreChunks above → IsChunk c → at ≡ low + total above → is_free c ≡ false → Around names low at above c below
+pub around : (names : List ℕ) (low at : ℕ) (above : List Chunk) (c : Chunk) (below : List Chunk) → AreChunks above → IsChunk c → at ≡ low + total_size above → is_free c ≡ false → Around names low at above c below
 around names low at above c below are shape place used = record {
   rows = objects_both names low low above (c ∷ below) ∙ rw (← place) (ap (λ l. objects_in names low low above ++ l) (used_rows used));
   before = rows_not_at names low (at + 8) low above (λ p s is. (let high = used_high p low above are s in omega (arith, high, is, place)));
@@ -142,7 +142,7 @@ owned h gs base quota l e = elim (bool_tells (may_begin h base)) [
   | inl is ↦
       let m = may h base is in
       let told_ : owner_at h.names (base - 8 - h.range.base) ≡ Some quota = rw is at e in
-      elim (bool_tells (is_named h.names (base - 8 - h.range.base))) [
+      elim (bool_tells (begins_used_chunk h.names (base - 8 - h.range.base))) [
         | inr not_ ↦ absurd (let clash : None ≡ Some quota = rw not_ at told_ in cc)
         | inl named ↦
             let is_quota : Some (quota_named h.names (base - 8 - h.range.base)) ≡ Some quota = rw named at told_ in
@@ -178,7 +178,7 @@ unowned h gs base l e = rows_not_at h.names h.range.base base h.range.base (chun
     let there : h.range.base + (p - h.range.base) ≡ p = omega (arith, low) in
     let begins = may_is h base (omega (arith, is, even)) (omega (arith, is)) (omega (arith, is, low)) (omega (arith, is, low, high, size)) in
     let used : is_used_at (h.range.base + (p - h.range.base)) h.range.base (chunks h.range gs) ≡ true = rw there (used_test p h.range.base (chunks h.range gs) are s) in
-    let named : is_named h.names (p - h.range.base) ≡ true = l.named (p - h.range.base) (omega (arith, low, even, e1)) ∙ used in
+    let named : begins_used_chunk h.names (p - h.range.base) ≡ true = l.named (p - h.range.base) (omega (arith, low, even, e1)) ∙ used in
     let clash : Some (quota_named h.names (p - h.range.base)) ≡ None = sym (rw (begins, offset, named) refl) ∙ e in
     absurd (cc))
 

@@ -11,7 +11,7 @@ use Rattle.def_chunks.specs.declared.rows.Account.{Account}
 use Rattle.def_chunks.specs.Chunks.{Chunk, is_free, AreChunks}
 use Rattle.def_chunks.specs.Tiles.{chunks, TilesSettled}
 use Rattle.def_chunks.specs.Changes.{all_painted, leaves, gap, joined, released, Spared, KeepsRest, OnlyHeads}
-use Rattle.def_chunks.specs.Heaps.{HeapRow, account, no_account, is_named, quota_named, is_used_at, objects_in, objects_of, Distinct, waiting_in, Laid}
+use Rattle.def_chunks.specs.Heaps.{HeapRow, account, no_account, begins_used_chunk, quota_named, is_used_at, objects_in, objects_of, Distinct, waiting_in, Laid}
 use Rattle.law_chunks.proofs.Joins.{stays_used, joined_are, painted_free, painted_size}
 use Rattle.law_chunks.proofs.Rows.{UsedStarts, painted_rows, joined_rows}
 use Rattle.law_chunks.proofs.Kept.{SameChunks, settled_same, live_spared}
@@ -312,7 +312,7 @@ flush_done h n gs ms hs l left =
     u.quotas (p - base) (u.named (p - base) (omega (arith, even, base_even, low)) ∙ used)) in
     let rows : objects_in n.names n.range.base n.range.base (chunks n.range hs) ≡ unpainted (objects_in h.names base base (chunks r gs)) =
     ap (λ b. objects_in n.names b b (chunks n.range hs)) e_base ∙ ap (λ x. objects_in n.names base base x) list ∙ gone ∙ names_ in
-    let named_now : (x : ℕ) → x % 8 ≡ 0 → is_named n.names x ≡ is_used_at (n.range.base + x) n.range.base (chunks n.range hs) = λ x x_even.
+    let named_now : (x : ℕ) → x % 8 ≡ 0 → begins_used_chunk n.names x ≡ is_used_at (n.range.base + x) n.range.base (chunks n.range hs) = λ x x_even.
     u.named x x_even ∙ sym (joined_used (base + x) base 0 (chunks r gs) are (omega arith) ∙ ap (λ a. is_used_at (base + x) a (map let_go (chunks r gs))) none)
     ∙ ap (λ y. is_used_at (base + x) base y) (sym list) ∙ ap (λ b. is_used_at (b + x) b (chunks n.range hs)) (sym e_base) in
     let account_same : (q : ℕ) → account n q ≡ account h q = λ q. ap (λ a. get_or a q no_account) left.accounts in

@@ -10,10 +10,10 @@ use Rattle.def_machine.specs.State.{Object}
 use Rattle.def_machine.specs.Objects.{Each, charges, quarantine}
 use Rattle.def_chunks.specs.declared.rows.Range.{Range}
 use Rattle.def_chunks.specs.declared.rows.Account.{Account}
-use Rattle.def_chunks.specs.Chunks.{Chunk, is_free, total, Starts, AreChunks, NoneTouch}
+use Rattle.def_chunks.specs.Chunks.{Chunk, is_free, total_size, Starts, AreChunks, NoneTouch}
 use Rattle.def_chunks.specs.Tiles.{chunks, Tiled, TilesSettled}
 use Rattle.def_chunks.specs.Changes.{replaced, in_state, InUse, NoTagComes, KeepsRest}
-use Rattle.def_chunks.specs.Heaps.{HeapRow, account, is_named, quota_named, is_used_at, object_at, objects_in, objects_of, Distinct, waiting_in, Laid}
+use Rattle.def_chunks.specs.Heaps.{HeapRow, account, begins_used_chunk, quota_named, is_used_at, object_at, objects_in, objects_of, Distinct, waiting_in, Laid}
 use Rattle.law_chunks.proofs.Reading.{sits, replaced_is}
 use Rattle.law_chunks.proofs.Joins.{state_apart}
 use Rattle.law_chunks.proofs.Rows.{UsedStarts, objects_both, each_both, each_split, charges_both, waiting_both, distinct_around, distinct_same, quarantine_between}
@@ -27,7 +27,7 @@ use Rattle.ct_heap.proofs.Tables.{account_after, limit_after, within_after}
 -- ---- what is known of the object
 
 -- at most so many objects can wait
-pub waiting_few : (names : List ℕ) (base at : ℕ) (cs : List Chunk) → AreChunks cs → 16 * waiting_in (objects_in names base at cs) ≤ total cs
+pub waiting_few : (names : List ℕ) (base at : ℕ) (cs : List Chunk) → AreChunks cs → 16 * waiting_in (objects_in names base at cs) ≤ total_size cs
 waiting_few names base at [] are = omega arith
 waiting_few names base at (c ∷ cs) are =
     let rest = waiting_few names base (at + c.size) cs are.1 in
@@ -74,12 +74,12 @@ row_of h gs number base extent quota l f =
     let names : List ℕ = h.names in
     let lo : ℕ = h.range.base in
     let o : Object = record { number = number; quota = quota; base = base; length = extent; charge = extent + 8; live = true; painted = false } in
-    let used_rows : objects_in names lo (lo + total s.above) (c ∷ s.below) ≡ object_at (quota_named names (lo + total s.above - lo)) (lo + total s.above) c ∷ objects_in names lo (lo + total s.above + c.size) s.below = rw used refl in
+    let used_rows : objects_in names lo (lo + total_size s.above) (c ∷ s.below) ≡ object_at (quota_named names (lo + total_size s.above - lo)) (lo + total_size s.above) c ∷ objects_in names lo (lo + total_size s.above + c.size) s.below = rw used refl in
     let rs : List Object = objects_in names lo lo s.above in
-    let qs : List Object = objects_in names lo (lo + total s.above + c.size) s.below in
-    let quota_is : quota_named names (lo + total s.above - lo) ≡ quota = ap (λ a. quota_named names (a - lo)) (sym place) ∙ sym f.quota_is in
-    let row : object_at (quota_named names (lo + total s.above - lo)) (lo + total s.above) c ≡ o =
-    ap (λ q. object_at q (lo + total s.above) c) quota_is ∙ ap (λ a. object_at quota a c) (sym place) ∙ row_is number quota base extent c.state c refl f.live size_is f.stands.number_is (omega (arith, low)) in
+    let qs : List Object = objects_in names lo (lo + total_size s.above + c.size) s.below in
+    let quota_is : quota_named names (lo + total_size s.above - lo) ≡ quota = ap (λ a. quota_named names (a - lo)) (sym place) ∙ sym f.quota_is in
+    let row : object_at (quota_named names (lo + total_size s.above - lo)) (lo + total_size s.above) c ≡ o =
+    ap (λ q. object_at q (lo + total_size s.above) c) quota_is ∙ ap (λ a. object_at quota a c) (sym place) ∙ row_is number quota base extent c.state c refl f.live size_is f.stands.number_is (omega (arith, low)) in
     let rows : objects_in names lo lo (chunks h.range gs) ≡ rs ++ o ∷ qs =
     ap (λ cs. objects_in names lo lo cs) s.whole ∙ objects_both names lo lo s.above (c ∷ s.below) ∙ ap (λ x. rs ++ x) used_rows ∙ ap (λ x. rs ++ x ∷ qs) row in
     let charge_is = l.charged quota ∙ ap (charges quota) rows ∙ charges_both quota rs (o ∷ qs) in
@@ -187,16 +187,16 @@ free_done h n gs ms ns hs number base extent quota l f left =
     let o : Object = record { number = number; quota = quota; base = base; length = extent; charge = extent + 8; live = true; painted = false } in
     let gone : Object = record o { live = false } in
     let rs : List Object = objects_in names lo lo s.above in
-    let qs : List Object = objects_in names lo (lo + total s.above + c.size) s.below in
-    let quota_is : quota_named names (lo + total s.above - lo) ≡ quota = ap (λ a. quota_named names (a - lo)) (sym place) ∙ sym f.quota_is in
-    let used_rows : (b : Bool) → b ≡ false → (x : Chunk) → objects_in names lo (lo + total s.above) (x ∷ s.below) ≡ cond (is_free x) (objects_in names lo (lo + total s.above + x.size) s.below) (object_at (quota_named names (lo + total s.above - lo)) (lo + total s.above) x ∷ objects_in names lo (lo + total s.above + x.size) s.below) = λ b e x. refl in
-    let old_row : object_at (quota_named names (lo + total s.above - lo)) (lo + total s.above) c ≡ o =
-    ap (λ q. object_at q (lo + total s.above) c) quota_is ∙ ap (λ a. object_at quota a c) (sym place) ∙ row_is number quota base extent c.state c refl f.live size_is f.stands.number_is (omega (arith, low)) in
+    let qs : List Object = objects_in names lo (lo + total_size s.above + c.size) s.below in
+    let quota_is : quota_named names (lo + total_size s.above - lo) ≡ quota = ap (λ a. quota_named names (a - lo)) (sym place) ∙ sym f.quota_is in
+    let used_rows : (b : Bool) → b ≡ false → (x : Chunk) → objects_in names lo (lo + total_size s.above) (x ∷ s.below) ≡ cond (is_free x) (objects_in names lo (lo + total_size s.above + x.size) s.below) (object_at (quota_named names (lo + total_size s.above - lo)) (lo + total_size s.above) x ∷ objects_in names lo (lo + total_size s.above + x.size) s.below) = λ b e x. refl in
+    let old_row : object_at (quota_named names (lo + total_size s.above - lo)) (lo + total_size s.above) c ≡ o =
+    ap (λ q. object_at q (lo + total_size s.above) c) quota_is ∙ ap (λ a. object_at quota a c) (sym place) ∙ row_is number quota base extent c.state c refl f.live size_is f.stands.number_is (omega (arith, low)) in
     let old_rows : objects_in names lo lo (chunks r gs) ≡ rs ++ o ∷ qs =
     ap (λ cs. objects_in names lo lo cs) s.whole ∙ objects_both names lo lo s.above (c ∷ s.below) ∙ ap (λ x. rs ++ x) (rw used refl) ∙ ap (λ x. rs ++ x ∷ qs) old_row in
     let parts : ℕ → ℕ → ℕ → ℕ → Object = λ m b e t. record { number = m; quota = quota; base = b; length = t; charge = e; live = false; painted = false } in
-    let new_row : object_at (quota_named names (lo + total s.above - lo)) (lo + total s.above) d ≡ gone =
-    ap (λ q. object_at q (lo + total s.above) d) quota_is ∙ ap (λ a. object_at quota a d) (sym place)
+    let new_row : object_at (quota_named names (lo + total_size s.above - lo)) (lo + total_size s.above) d ≡ gone =
+    ap (λ q. object_at q (lo + total_size s.above) d) quota_is ∙ ap (λ a. object_at quota a d) (sym place)
     ∙ ap (λ m. parts m (base - 8 + 8) c.size (c.size - 8)) f.stands.number_is ∙ ap (λ b. parts number b c.size (c.size - 8)) (omega (arith, low)) ∙ ap (λ e. parts number base e (e - 8)) size_is ∙ ap (λ t. parts number base (extent + 8) t) (omega arith) in
     let new_rows : objects_in n.names n.range.base n.range.base (chunks n.range hs) ≡ rs ++ gone ∷ qs =
     ap (λ (x : Range). objects_in n.names x.base x.base (chunks x hs)) left.range ∙ ap (λ t. objects_in t lo lo (chunks r hs)) left.names ∙ ap (λ cs. objects_in names lo lo cs) list_hs
@@ -236,8 +236,8 @@ free_done h n gs ms ns hs number base extent quota l f left =
       | inr b ↦ elim b [ inl z ↦ used_second q lo s.above (c ∷ s.below) (inl (used, z.1)) | inr z ↦ used_second q lo s.above (c ∷ s.below) (inr z) ]
     ] in
     let old_are : AreChunks (s.above ++ c ∷ s.below) = subst AreChunks s.whole l.settled.tiled.are in
-    let named_now : (x : ℕ) → x % 8 ≡ 0 → is_named n.names x ≡ is_used_at (n.range.base + x) n.range.base (chunks n.range hs) = λ x x_even.
-    ap (λ t. is_named t x) left.names ∙ l.named x x_even ∙ ap (λ cs. is_used_at (lo + x) lo cs) s.whole
+    let named_now : (x : ℕ) → x % 8 ≡ 0 → begins_used_chunk n.names x ≡ is_used_at (n.range.base + x) n.range.base (chunks n.range hs) = λ x x_even.
+    ap (λ t. begins_used_chunk t x) left.names ∙ l.named x x_even ∙ ap (λ cs. is_used_at (lo + x) lo cs) s.whole
     ∙ tests_same (lo + x) lo (s.above ++ c ∷ s.below) ds old_are ds_are (to_new (lo + x)) (to_old (lo + x)) ∙ ap (λ cs. is_used_at (lo + x) lo cs) (sym list_hs)
     ∙ ap (λ (y : Range). is_used_at (y.base + x) y.base (chunks y hs)) (sym left.range) in
     let waiting_was = waiting_both rs (o ∷ qs) in

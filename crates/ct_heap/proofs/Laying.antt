@@ -10,10 +10,10 @@ use Rattle.def_machine.specs.Objects.{charges}
 use Rattle.def_chunks.specs.declared.heads.TheConstants.{NO_CHUNK}
 use Rattle.def_chunks.specs.declared.rows.Range.{Range}
 use Rattle.def_chunks.specs.declared.rows.Account.{Account}
-use Rattle.def_chunks.specs.Chunks.{Chunk, total, head_at, Starts, NoneTouch}
+use Rattle.def_chunks.specs.Chunks.{Chunk, total_size, head_at, Starts, NoneTouch}
 use Rattle.def_chunks.specs.Tiles.{chunks, TiledBy, TilesSettled}
 use Rattle.def_chunks.specs.Changes.{free_chunk, KeepsRest, OnlyHeads}
-use Rattle.def_chunks.specs.Heaps.{HeapRow, account, no_account, is_named, name_at, is_used_at, objects_in, objects_of, Laid}
+use Rattle.def_chunks.specs.Heaps.{HeapRow, account, no_account, begins_used_chunk, object_name_at, is_used_at, objects_in, objects_of, Laid}
 use Rattle.law_chunks.proofs.Reading.{chunks_are}
 use Rattle.law_chunks.proofs.Carves.{head_same, store_length}
 use Rattle.law_chunks.proofs.Spares.{keeps_store, loose, heads_store}
@@ -66,8 +66,8 @@ bare_laid h n hs cs e b =
         settled = b.settled;
         slots = ap length names ∙ length-replicate (h.range.length / 16) 0 ∙ ap (λ x. x / 16) (sym b.length_is);
         named = λ o even. (
-            let none : name_at n.names o ≡ 0 = ap (λ x. get_or x (o / 16) 0) names ∙ zeros 0 (h.range.length / 16) (o / 16) in
-            let not_named : is_named n.names o ≡ false = rw none refl in
+            let none : object_name_at n.names o ≡ 0 = ap (λ x. get_or x (o / 16) 0) names ∙ zeros 0 (h.range.length / 16) (o / 16) in
+            let not_named : begins_used_chunk n.names o ≡ false = rw none refl in
             not_named ∙ sym (ap (λ x. is_used_at (n.range.base + o) n.range.base x) b.chunks_are ∙ b.unused (n.range.base + o))
             );
         quotas = rw rows tt;
@@ -193,7 +193,7 @@ lay_heads h n gs hs e some is length_is l =
     let size = l.settled.tiled.size in
     heads_store h.range (chunks n.range hs) gs hs h.range.base (plain (h.range.length + NO_CHUNK * 2 ^ 32)) above (omega (arith, e0, e1, above)) (begins h.range.base (chunks n.range hs) (λ none. some (sym (size ∙ length_is) ∙ none))) is
   where
-    begins : (at : ℕ) (cs : List Chunk) → (total cs ≡ 0 → ⊥) → Starts at at cs
+    begins : (at : ℕ) (cs : List Chunk) → (total_size cs ≡ 0 → ⊥) → Starts at at cs
     begins at [] other = absurd (other refl)
     begins at (c ∷ cs) other = inl refl
 

@@ -3,8 +3,8 @@ use Rattle.std.proofs.Common.{ℕ, ◌≡◌, ◌+◌, ◌-◌, ◌/◌, ◌%◌
 use Rattle.std.proofs.Math.ListN.{get_or, set}
 use Rattle.std.proofs.lemmas.List.{get_or-set_same, get_or-set_other}
 use Rattle.law_lists.proofs.Tests.{bool_tells, eq_tells}
-use Rattle.def_chunks.specs.Chunks.{Chunk, is_free, total, AreChunks}
-use Rattle.def_chunks.specs.Heaps.{name_of, name_at, is_named, quota_named, is_used_at}
+use Rattle.def_chunks.specs.Chunks.{Chunk, is_free, total_size, AreChunks}
+use Rattle.def_chunks.specs.Heaps.{chunk_name, object_name_at, begins_used_chunk, quota_named, is_used_at}
 use Rattle.law_chunks.proofs.Rows.{UsedStarts}
 
 -- ---- where used chunks begin
@@ -14,7 +14,7 @@ used_low p at [] h = absurd h
 used_low p at (c ∷ cs) (inl h) = let is = h.1 in omega (arith, is)
 used_low p at (c ∷ cs) (inr h) = let rest = used_low p (at + c.size) cs h in omega (arith, rest)
 
-pub used_high : (p at : ℕ) (cs : List Chunk) → AreChunks cs → UsedStarts p at cs → p + 16 ≤ at + total cs
+pub used_high : (p at : ℕ) (cs : List Chunk) → AreChunks cs → UsedStarts p at cs → p + 16 ≤ at + total_size cs
 used_high p at [] are h = absurd h
 used_high p at (c ∷ cs) are (inl h) = let wide = are.0.used h.0 in let is = h.1 in omega (arith, wide, is)
 used_high p at (c ∷ cs) are (inr h) = let rest = used_high p (at + c.size) cs are.1 h in omega (arith, rest)
@@ -57,7 +57,7 @@ pub record Used (p at : ℕ) (cs : List Chunk) : Type 0 where
   pub chunk : Chunk
   pub below : List Chunk
   pub whole : cs ≡ above ++ chunk ∷ below
-  pub place : p ≡ at + total above
+  pub place : p ≡ at + total_size above
   pub is : is_free chunk ≡ false
 
 pub used_chunk : (p at : ℕ) (cs : List Chunk) → UsedStarts p at cs → Used p at cs
@@ -68,15 +68,15 @@ used_chunk p at (c ∷ cs) (inr h) =
     let place = u.place in
     record { above = c ∷ u.above; chunk = u.chunk; below = u.below; whole = ap (λ l. c ∷ l) u.whole; place = omega (arith, place); is = u.is }
 
-pub used_between : (p at : ℕ) (xs : List Chunk) (c : Chunk) (ys : List Chunk) → is_free c ≡ false → p ≡ at + total xs → UsedStarts p at (xs ++ c ∷ ys)
+pub used_between : (p at : ℕ) (xs : List Chunk) (c : Chunk) (ys : List Chunk) → is_free c ≡ false → p ≡ at + total_size xs → UsedStarts p at (xs ++ c ∷ ys)
 used_between p at [] c ys used is = inl (used, omega (arith, is))
 used_between p at (x ∷ xs) c ys used is = inr (used_between p (at + x.size) xs c ys used (omega (arith, is)))
 
-pub used_split : (p at : ℕ) (xs ys : List Chunk) → UsedStarts p at (xs ++ ys) → UsedStarts p at xs ⊎ UsedStarts p (at + total xs) ys
+pub used_split : (p at : ℕ) (xs ys : List Chunk) → UsedStarts p at (xs ++ ys) → UsedStarts p at xs ⊎ UsedStarts p (at + total_size xs) ys
 used_split p at [] ys h = let here : at + 0 ≡ at = omega arith in inr (rw here h)
 used_split p at (x ∷ xs) ys (inl h) = inl (inl h)
 used_split p at (x ∷ xs) ys (inr h) =
-    let there : at + (x.size + total xs) ≡ at + x.size + total xs = omega arith in
+    let there : at + (x.size + total_size xs) ≡ at + x.size + total_size xs = omega arith in
     elim (used_split p (at + x.size) xs ys h) [ inl k ↦ inl (inr k) | inr k ↦ inr (rw there k) ]
 
 pub used_first : (p at : ℕ) (xs ys : List Chunk) → UsedStarts p at xs → UsedStarts p at (xs ++ ys)
@@ -84,10 +84,10 @@ used_first p at [] ys h = absurd h
 used_first p at (x ∷ xs) ys (inl h) = inl h
 used_first p at (x ∷ xs) ys (inr h) = inr (used_first p (at + x.size) xs ys h)
 
-pub used_second : (p at : ℕ) (xs ys : List Chunk) → UsedStarts p (at + total xs) ys → UsedStarts p at (xs ++ ys)
+pub used_second : (p at : ℕ) (xs ys : List Chunk) → UsedStarts p (at + total_size xs) ys → UsedStarts p at (xs ++ ys)
 used_second p at [] ys h = let here : at + 0 ≡ at = omega arith in rw here at h
 used_second p at (x ∷ xs) ys h =
-    let there : at + (x.size + total xs) ≡ at + x.size + total xs = omega arith in
+    let there : at + (x.size + total_size xs) ≡ at + x.size + total_size xs = omega arith in
     inr (used_second p (at + x.size) xs ys (rw there at h))
 
 -- two tests that say the same
@@ -102,38 +102,38 @@ tests_same p at cs ds a b there back = elim (bool_tells (is_used_at p at cs)) [
 
 -- ---- entries
 
-pub name_side : (quota offset : ℕ) → (name_of quota offset - 1) % 2 ≡ offset / 8 % 2
+pub name_side : (quota offset : ℕ) → (chunk_name quota offset - 1) % 2 ≡ offset / 8 % 2
 name_side quota offset = omega arith
 
-pub name_quota : (quota offset : ℕ) → (name_of quota offset - 1) / 2 ≡ quota
+pub name_quota : (quota offset : ℕ) → (chunk_name quota offset - 1) / 2 ≡ quota
 name_quota quota offset = omega arith
 
 -- the entry that is set names its chunk
-pub set_named : (names : List ℕ) (quota offset : ℕ) → offset / 16 < length names → is_named (set names (offset / 16) (name_of quota offset)) offset ≡ true
+pub set_named : (names : List ℕ) (quota offset : ℕ) → offset / 16 < length names → begins_used_chunk (set names (offset / 16) (chunk_name quota offset)) offset ≡ true
 set_named names quota offset inside =
-    let same : name_at (set names (offset / 16) (name_of quota offset)) offset ≡ name_of quota offset = get_or-set_same names (offset / 16) (name_of quota offset) 0 inside in
-    let some : nat_eq (name_of quota offset) 0 ≡ false = elim (eq_tells (name_of quota offset) 0) [ inl e ↦ absurd (let z = e.1 in omega (arith, z)) | inr e ↦ e.0 ] in
-    let side : nat_eq ((name_of quota offset - 1) % 2) (offset / 8 % 2) ≡ true = elim (eq_tells ((name_of quota offset - 1) % 2) (offset / 8 % 2)) [ inl e ↦ e.0 | inr e ↦ absurd (e.1 (name_side quota offset)) ] in
+    let same : object_name_at (set names (offset / 16) (chunk_name quota offset)) offset ≡ chunk_name quota offset = get_or-set_same names (offset / 16) (chunk_name quota offset) 0 inside in
+    let some : nat_eq (chunk_name quota offset) 0 ≡ false = elim (eq_tells (chunk_name quota offset) 0) [ inl e ↦ absurd (let z = e.1 in omega (arith, z)) | inr e ↦ e.0 ] in
+    let side : nat_eq ((chunk_name quota offset - 1) % 2) (offset / 8 % 2) ≡ true = elim (eq_tells ((chunk_name quota offset - 1) % 2) (offset / 8 % 2)) [ inl e ↦ e.0 | inr e ↦ absurd (e.1 (name_side quota offset)) ] in
     rw (same, some, side) refl
 
-pub set_quota : (names : List ℕ) (quota offset : ℕ) → offset / 16 < length names → quota_named (set names (offset / 16) (name_of quota offset)) offset ≡ quota
+pub set_quota : (names : List ℕ) (quota offset : ℕ) → offset / 16 < length names → quota_named (set names (offset / 16) (chunk_name quota offset)) offset ≡ quota
 set_quota names quota offset inside =
-    let same : name_at (set names (offset / 16) (name_of quota offset)) offset ≡ name_of quota offset = get_or-set_same names (offset / 16) (name_of quota offset) 0 inside in
+    let same : object_name_at (set names (offset / 16) (chunk_name quota offset)) offset ≡ chunk_name quota offset = get_or-set_same names (offset / 16) (chunk_name quota offset) 0 inside in
     ap (λ n. (n - 1) / 2) same ∙ name_quota quota offset
 
 -- others stay
-pub set_elsewhere : (names : List ℕ) (offset other name : ℕ) → (other / 16 ≡ offset / 16 → ⊥) → name_at (set names (offset / 16) name) other ≡ name_at names other
+pub set_elsewhere : (names : List ℕ) (offset other name : ℕ) → (other / 16 ≡ offset / 16 → ⊥) → object_name_at (set names (offset / 16) name) other ≡ object_name_at names other
 set_elsewhere names offset other name apart = get_or-set_other names (offset / 16) (other / 16) name 0 apart
 
 -- and the other granule of the same sixteen bytes isn't named
-pub set_beside : (names : List ℕ) (quota offset other : ℕ) → offset / 16 < length names → offset % 8 ≡ 0 → other % 8 ≡ 0 → other / 16 ≡ offset / 16 → (other ≡ offset → ⊥) → is_named (set names (offset / 16) (name_of quota offset)) other ≡ false
+pub set_beside : (names : List ℕ) (quota offset other : ℕ) → offset / 16 < length names → offset % 8 ≡ 0 → other % 8 ≡ 0 → other / 16 ≡ offset / 16 → (other ≡ offset → ⊥) → begins_used_chunk (set names (offset / 16) (chunk_name quota offset)) other ≡ false
 set_beside names quota offset other inside even odd slot apart =
-    let same : name_at (set names (offset / 16) (name_of quota offset)) other ≡ name_of quota offset = ap (λ k. get_or (set names (offset / 16) (name_of quota offset)) k 0) slot ∙ get_or-set_same names (offset / 16) (name_of quota offset) 0 inside in
-    let side : nat_eq ((name_of quota offset - 1) % 2) (other / 8 % 2) ≡ false = elim (eq_tells ((name_of quota offset - 1) % 2) (other / 8 % 2)) [
+    let same : object_name_at (set names (offset / 16) (chunk_name quota offset)) other ≡ chunk_name quota offset = ap (λ k. get_or (set names (offset / 16) (chunk_name quota offset)) k 0) slot ∙ get_or-set_same names (offset / 16) (chunk_name quota offset) 0 inside in
+    let side : nat_eq ((chunk_name quota offset - 1) % 2) (other / 8 % 2) ≡ false = elim (eq_tells ((chunk_name quota offset - 1) % 2) (other / 8 % 2)) [
       | inl e ↦ absurd (apart (let is = e.1 in let mine = name_side quota offset in omega (arith, is, mine, even, odd, slot)))
       | inr e ↦ e.0
     ] in
-    elim (bool_tells (nat_eq (name_of quota offset) 0)) [ inl e ↦ rw (same, e) refl | inr e ↦ rw (same, e, side) refl ]
+    elim (bool_tells (nat_eq (chunk_name quota offset) 0)) [ inl e ↦ rw (same, e) refl | inr e ↦ rw (same, e, side) refl ]
 
-pub named_same : (names more : List ℕ) (o : ℕ) → name_at more o ≡ name_at names o → is_named more o ≡ is_named names o
+pub named_same : (names more : List ℕ) (o : ℕ) → object_name_at more o ≡ object_name_at names o → begins_used_chunk more o ≡ begins_used_chunk names o
 named_same names more o same = rw same refl

@@ -6,7 +6,7 @@ use Rattle.std.proofs.lemmas.List.{get_or-set_same, get_or-set_other}
 use Rattle.law_lists.proofs.Tests.{bool_tells, eq_tells}
 use Rattle.def_chunks.specs.declared.rows.Account.{Account}
 use Rattle.def_chunks.specs.Chunks.{Chunk, AreChunks}
-use Rattle.def_chunks.specs.Heaps.{HeapRow, account, no_account, name_of, is_named, quota_named, is_used_at}
+use Rattle.def_chunks.specs.Heaps.{HeapRow, account, no_account, chunk_name, begins_used_chunk, quota_named, is_used_at}
 use Rattle.law_chunks.proofs.Rows.{UsedStarts}
 use Rattle.ct_heap.proofs.Named.{used_low, used_even, used_apart, used_test, used_says, tests_same, named_same, set_named, set_elsewhere, set_beside}
 
@@ -22,8 +22,8 @@ pub record OneMore (base place : ℕ) (cs ds : List Chunk) : Type 0 where
   pub back : (p : ℕ) → (p ≡ place → ⊥) → UsedStarts p base ds → UsedStarts p base cs
   pub not_old : UsedStarts place base cs → ⊥
 
-pub one_named : (names : List ℕ) (base place quota : ℕ) (cs ds : List Chunk) → OneMore base place cs ds → (place - base) / 16 < length names → ((o : ℕ) → o % 8 ≡ 0 → is_named names o ≡ is_used_at (base + o) base cs)
-    → (o : ℕ) → o % 8 ≡ 0 → is_named (set names ((place - base) / 16) (name_of quota (place - base))) o ≡ is_used_at (base + o) base ds
+pub one_named : (names : List ℕ) (base place quota : ℕ) (cs ds : List Chunk) → OneMore base place cs ds → (place - base) / 16 < length names → ((o : ℕ) → o % 8 ≡ 0 → begins_used_chunk names o ≡ is_used_at (base + o) base cs)
+    → (o : ℕ) → o % 8 ≡ 0 → begins_used_chunk (set names ((place - base) / 16) (chunk_name quota (place - base))) o ≡ is_used_at (base + o) base ds
 one_named names base place quota cs ds m inside named o even =
     let offset : ℕ = place - base in
     let base_even = m.even in
@@ -35,7 +35,7 @@ one_named names base place quota cs ds m inside named o even =
         | inl same ↦
             let at_place : base + o ≡ place = omega (arith, same, low) in
             let used : is_used_at (base + o) base ds ≡ true = used_test (base + o) base ds m.new_are (subst (λ p. UsedStarts p base ds) (sym at_place) m.here) in
-            ap (λ x. is_named (set names (offset / 16) (name_of quota offset)) x) same ∙ set_named names quota offset inside ∙ sym used
+            ap (λ x. begins_used_chunk (set names (offset / 16) (chunk_name quota offset)) x) same ∙ set_named names quota offset inside ∙ sym used
         | inr other ↦
             let not_named = set_beside names quota offset o inside offset_even even slot other in
             let not_used : is_used_at (base + o) base ds ≡ false = elim (bool_tells (is_used_at (base + o) base ds)) [
@@ -49,14 +49,14 @@ one_named names base place quota cs ds m inside named o even =
             not_named ∙ sym not_used
       ]
       | inr apart ↦
-          let stays = set_elsewhere names offset o (name_of quota offset) apart in
+          let stays = set_elsewhere names offset o (chunk_name quota offset) apart in
           let other : base + o ≡ place → ⊥ = λ is. apart (ap (λ n. n / 16) (omega (arith, is))) in
-          named_same names (set names (offset / 16) (name_of quota offset)) o stays ∙ named o even
+          named_same names (set names (offset / 16) (chunk_name quota offset)) o stays ∙ named o even
           ∙ tests_same (base + o) base cs ds m.old_are m.new_are (m.there (base + o)) (m.back (base + o) other)
     ]
 
 -- quotas of the others stay
-pub other_quota : (names : List ℕ) (base place quota p : ℕ) (ds : List Chunk) → AreChunks ds → base % 16 ≡ 0 → UsedStarts place base ds → UsedStarts p base ds → (p ≡ place → ⊥) → quota_named (set names ((place - base) / 16) (name_of quota (place - base))) (p - base) ≡ quota_named names (p - base)
+pub other_quota : (names : List ℕ) (base place quota p : ℕ) (ds : List Chunk) → AreChunks ds → base % 16 ≡ 0 → UsedStarts place base ds → UsedStarts p base ds → (p ≡ place → ⊥) → quota_named (set names ((place - base) / 16) (chunk_name quota (place - base))) (p - base) ≡ quota_named names (p - base)
 other_quota names base place quota p ds are even here there other =
     let low = used_low place base ds here in
     let low_p = used_low p base ds there in
@@ -65,7 +65,7 @@ other_quota names base place quota p ds are even here there other =
       | inr (inl a) ↦ omega (arith, a, slot, low, low_p)
       | inr (inr b) ↦ omega (arith, b, slot, low, low_p)
     ] in
-    ap (λ n. (n - 1) / 2) (set_elsewhere names (place - base) (p - base) (name_of quota (place - base)) apart)
+    ap (λ n. (n - 1) / 2) (set_elsewhere names (place - base) (p - base) (chunk_name quota (place - base)) apart)
 
 -- ---- accounts
 

@@ -9,10 +9,10 @@ use Rattle.def_memory.specs.declared.Granule.{Granule}
 use Rattle.def_memory.specs.Granules.{granule_at, nothing}
 use Rattle.def_memory.specs.Ranges.{IsMarked}
 use Rattle.def_chunks.specs.declared.rows.Range.{Range}
-use Rattle.def_chunks.specs.Chunks.{Chunk, is_free, total, head_at, head_in, IsChunk, AreChunks}
+use Rattle.def_chunks.specs.Chunks.{Chunk, is_free, total_size, head_at, head_in, IsChunk, AreChunks}
 use Rattle.def_chunks.specs.Tiles.{chunks, TilesSettled}
 use Rattle.def_chunks.specs.Gaps.{ChunkStands}
-use Rattle.def_chunks.specs.Heaps.{name_at, is_named, quota_named, is_used_at}
+use Rattle.def_chunks.specs.Heaps.{object_name_at, begins_used_chunk, quota_named, is_used_at}
 use Rattle.law_chunks.proofs.Lays.{total_both, are_split, are_join}
 use Rattle.law_chunks.proofs.Reading.{sits}
 use Rattle.law_chunks.proofs.Rows.{UsedStarts}
@@ -36,7 +36,7 @@ let_go_are (c ∷ cs) are = (
   let_go_are cs are.1,
 )
 
-pub let_go_total : (cs : List Chunk) → total (map let_go cs) ≡ total cs
+pub let_go_total : (cs : List Chunk) → total_size (map let_go cs) ≡ total_size cs
 let_go_total [] = refl
 let_go_total (c ∷ cs) = let first = let_go_size c in let rest = let_go_total cs in omega (arith, first, rest)
 
@@ -44,10 +44,10 @@ map_both : (xs ys : List Chunk) → map let_go (xs ++ ys) ≡ map let_go xs ++ m
 map_both [] ys = refl
 map_both (x ∷ xs) ys = ap (λ l. let_go x ∷ l) (map_both xs ys)
 
-painted_both : (p at : ℕ) (xs ys : List Chunk) → is_painted_in p at (xs ++ ys) ≡ (is_painted_in p at xs || is_painted_in p (at + total xs) ys)
+painted_both : (p at : ℕ) (xs ys : List Chunk) → is_painted_in p at (xs ++ ys) ≡ (is_painted_in p at xs || is_painted_in p (at + total_size xs) ys)
 painted_both p at [] ys = let here : at + 0 ≡ at = omega arith in rw here refl
 painted_both p at (x ∷ xs) ys =
-    let there : at + (x.size + total xs) ≡ at + x.size + total xs = omega arith in
+    let there : at + (x.size + total_size xs) ≡ at + x.size + total_size xs = omega arith in
     let rest = painted_both p (at + x.size) xs ys in
     rw there (elim (bool_tells (nat_eq x.state 3 && nat_le at p && nat_lt p (at + x.size))) [ inl e ↦ rw e refl | inr e ↦ rw e rest ])
 
@@ -65,18 +65,18 @@ pub record Unnaming (r : Range) (gs hs : List Granule) (names more : List ℕ) (
   pub above : List Chunk
   pub rest : List Chunk
   pub whole : chunks r gs ≡ above ++ rest
-  pub left_is : left ≡ total rest
+  pub left_is : left ≡ total_size rest
   pub settled : TilesSettled r hs
   pub same : chunks r hs ≡ chunks r gs
   pub size : length hs ≡ length gs
   pub caps : (k : ℕ) → (granule_at hs k).cap ≡ (granule_at gs k).cap
   pub marks : (k : ℕ) → (granule_at hs k).mark ≡ cond (is_painted_in (r.ram + 8 * k) r.base above) false (granule_at gs k).mark
   pub entries : length more ≡ length names
-  pub named : (o : ℕ) → o % 8 ≡ 0 → is_named more o ≡ is_used_at (r.base + o) r.base (map let_go above ++ rest)
-  pub quotas : (o : ℕ) → is_named more o ≡ true → quota_named more o ≡ quota_named names o
+  pub named : (o : ℕ) → o % 8 ≡ 0 → begins_used_chunk more o ≡ is_used_at (r.base + o) r.base (map let_go above ++ rest)
+  pub quotas : (o : ℕ) → begins_used_chunk more o ≡ true → quota_named more o ≡ quota_named names o
   pub now_is : now ≡ staying_chunks above + waiting_chunks rest
 
-pub unnaming_starts : (r : Range) (gs : List Granule) (names : List ℕ) (waiting : ℕ) → TilesSettled r gs → ((o : ℕ) → o % 8 ≡ 0 → is_named names o ≡ is_used_at (r.base + o) r.base (chunks r gs)) → waiting ≡ waiting_chunks (chunks r gs) → Unnaming r gs gs names names waiting r.length
+pub unnaming_starts : (r : Range) (gs : List Granule) (names : List ℕ) (waiting : ℕ) → TilesSettled r gs → ((o : ℕ) → o % 8 ≡ 0 → begins_used_chunk names o ≡ is_used_at (r.base + o) r.base (chunks r gs)) → waiting ≡ waiting_chunks (chunks r gs) → Unnaming r gs gs names names waiting r.length
 unnaming_starts r gs names waiting h named is = record {
   above = [];
   rest = chunks r gs;
@@ -96,11 +96,11 @@ unnaming_starts r gs names waiting h named is = record {
 pub unnaming_stands : (r : Range) (gs hs : List Granule) (names more : List ℕ) (now left : ℕ) → Unnaming r gs hs names more now left → (left ≡ 0 → ⊥) → ChunkStands r hs (r.base + (r.length - left))
 unnaming_stands r gs hs names more now left w some = first w.rest w.whole w.left_is
   where
-    first : (rest : List Chunk) → chunks r gs ≡ w.above ++ rest → left ≡ total rest → ChunkStands r hs (r.base + (r.length - left))
+    first : (rest : List Chunk) → chunks r gs ≡ w.above ++ rest → left ≡ total_size rest → ChunkStands r hs (r.base + (r.length - left))
     first [] whole is = absurd (some is)
     first (c ∷ cs) whole is =
         let both = total_both w.above (c ∷ cs) in
-        let sum = sym (ap total (w.same ∙ whole)) ∙ w.settled.tiled.size in
+        let sum = sym (ap total_size (w.same ∙ whole)) ∙ w.settled.tiled.size in
         record { above = w.above; chunk = c; below = cs; whole = w.same ∙ whole; place = omega (arith, both, sum, is) }
 
 -- what the code has to know
@@ -116,7 +116,7 @@ unnaming_ahead r gs hs names more now left w some =
     let wide = k.shape.some in
     let small = w.settled.tiled.small in
     let both = total_both w.above w.rest in
-    let sum = sym (ap total (w.same ∙ w.whole)) ∙ w.settled.tiled.size in
+    let sum = sym (ap total_size (w.same ∙ w.whole)) ∙ w.settled.tiled.size in
     let is = w.left_is in
     record { most = omega (arith, both, sum, is); fits = omega (arith, fits, small, wide) }
 
@@ -172,7 +172,7 @@ not_painted : (c : Chunk) (p at : ℕ) → nat_eq c.state 3 ≡ false → (nat_e
 not_painted c p at e = rw e refl
 
 -- with one more chunk behind
-one_more : (p at : ℕ) (xs : List Chunk) (c : Chunk) (b : Bool) → (nat_eq c.state 3 && nat_le (at + total xs) p && nat_lt p (at + total xs + c.size)) ≡ b → is_painted_in p at (xs ++ c ∷ []) ≡ (is_painted_in p at xs || b)
+one_more : (p at : ℕ) (xs : List Chunk) (c : Chunk) (b : Bool) → (nat_eq c.state 3 && nat_le (at + total_size xs) p && nat_lt p (at + total_size xs + c.size)) ≡ b → is_painted_in p at (xs ++ c ∷ []) ≡ (is_painted_in p at xs || b)
 one_more p at xs c b e = painted_both p at xs (c ∷ []) ∙ (let none : (b || false) ≡ b = elim (bool_tells b) [ inl x ↦ rw x refl | inr x ↦ rw x refl ] in rw e (ap (λ x. is_painted_in p at xs || x) none))
 
 abbrev one_unless : Bool → ℕ
@@ -184,31 +184,31 @@ pub unnaming_step : (r : Range) (gs hs ks : List Granule) (names more last : Lis
     → Unnamed r gs ks names last now left size one
 unnaming_step r gs hs ks names more last now left size one slots w some size_is u = step w.rest w.whole w.left_is w.now_is w.named
   where
-    marks_now : (c : Chunk) (j at : ℕ) → at ≡ r.base + total w.above → nat_eq c.state 3 ≡ true → r.ram ≤ at → (at - r.ram) % 8 ≡ 0 → (hs ks : List Granule) (b : Bool) → IsMarked (at - r.ram) (at - r.ram + c.size) false hs ks → (granule_at hs j).mark ≡ cond b false (granule_at gs j).mark → at + c.size ≤ r.ram + 8 * length hs → length hs ≡ length gs
-        → (granule_at ks j).mark ≡ cond (b || is_painted_in (r.ram + 8 * j) (r.base + total w.above) (c ∷ [])) false (granule_at gs j).mark
+    marks_now : (c : Chunk) (j at : ℕ) → at ≡ r.base + total_size w.above → nat_eq c.state 3 ≡ true → r.ram ≤ at → (at - r.ram) % 8 ≡ 0 → (hs ks : List Granule) (b : Bool) → IsMarked (at - r.ram) (at - r.ram + c.size) false hs ks → (granule_at hs j).mark ≡ cond b false (granule_at gs j).mark → at + c.size ≤ r.ram + 8 * length hs → length hs ≡ length gs
+        → (granule_at ks j).mark ≡ cond (b || is_painted_in (r.ram + 8 * j) (r.base + total_size w.above) (c ∷ [])) false (granule_at gs j).mark
     marks_now c j at place e over even hs ks b marked old inside size = elim (le_tells (at - r.ram) (8 * j)) [
       | inr a ↦
-          let out : is_painted_in (r.ram + 8 * j) (r.base + total w.above) (c ∷ []) ≡ false = (let lt = a.1 in ap (λ x. x || false) (not_here c (r.ram + 8 * j) (r.base + total w.above) (inl (omega (arith, lt, place, over))))) in
+          let out : is_painted_in (r.ram + 8 * j) (r.base + total_size w.above) (c ∷ []) ≡ false = (let lt = a.1 in ap (λ x. x || false) (not_here c (r.ram + 8 * j) (r.base + total_size w.above) (inl (omega (arith, lt, place, over))))) in
           ap (λ (g : Granule). g.mark) (marked.rest j (inl a.1)) ∙ old ∙ rw out (ap (λ x. cond x false (granule_at gs j).mark) (sym (or-false b)))
       | inl a ↦ elim (lt_tells (8 * j) (at - r.ram + c.size)) [
         | inr z ↦
-            let out : is_painted_in (r.ram + 8 * j) (r.base + total w.above) (c ∷ []) ≡ false = (let ge = z.1 in ap (λ x. x || false) (not_here c (r.ram + 8 * j) (r.base + total w.above) (inr (omega (arith, ge, place, over))))) in
+            let out : is_painted_in (r.ram + 8 * j) (r.base + total_size w.above) (c ∷ []) ≡ false = (let ge = z.1 in ap (λ x. x || false) (not_here c (r.ram + 8 * j) (r.base + total_size w.above) (inr (omega (arith, ge, place, over))))) in
             ap (λ (g : Granule). g.mark) (marked.rest j (inr z.1)) ∙ old ∙ rw out (ap (λ x. cond x false (granule_at gs j).mark) (sym (or-false b)))
         | inl z ↦
             let le = a.1 in
             let lt = z.1 in
-            let is_in : is_painted_in (r.ram + 8 * j) (r.base + total w.above) (c ∷ []) ≡ true = ap (λ x. x || false) (here_painted c (r.ram + 8 * j) (r.base + total w.above) e (omega (arith, le, place, over)) (omega (arith, lt, place, over))) in
+            let is_in : is_painted_in (r.ram + 8 * j) (r.base + total_size w.above) (c ∷ []) ≡ true = ap (λ x. x || false) (here_painted c (r.ram + 8 * j) (r.base + total_size w.above) e (omega (arith, le, place, over)) (omega (arith, lt, place, over))) in
             ap (λ (g : Granule). g.mark) (marked.marks j (omega (arith, lt, inside, over)) (le, lt)) ∙ rw is_in (elim (bool_tells b) [ inl x ↦ rw x refl | inr x ↦ rw x refl ])
       ]
     ]
 
-    step : (rest : List Chunk) → chunks r gs ≡ w.above ++ rest → left ≡ total rest → now ≡ staying_chunks w.above + waiting_chunks rest → ((o : ℕ) → o % 8 ≡ 0 → is_named more o ≡ is_used_at (r.base + o) r.base (map let_go w.above ++ rest)) → Unnamed r gs ks names last now left size one
+    step : (rest : List Chunk) → chunks r gs ≡ w.above ++ rest → left ≡ total_size rest → now ≡ staying_chunks w.above + waiting_chunks rest → ((o : ℕ) → o % 8 ≡ 0 → begins_used_chunk more o ≡ is_used_at (r.base + o) r.base (map let_go w.above ++ rest)) → Unnamed r gs ks names last now left size one
     step [] whole left_is now_is named = absurd (some left_is)
     step (c ∷ cs) whole left_is now_is named =
         let at : ℕ = r.base + (r.length - left) in
         let both = total_both w.above (c ∷ cs) in
-        let sum = sym (ap total (w.same ∙ whole)) ∙ w.settled.tiled.size in
-        let place : at ≡ r.base + total w.above = omega (arith, both, sum, left_is) in
+        let sum = sym (ap total_size (w.same ∙ whole)) ∙ w.settled.tiled.size in
+        let place : at ≡ r.base + total_size w.above = omega (arith, both, sum, left_is) in
         let s : ChunkStands r hs at = record { above = w.above; chunk = c; below = cs; whole = w.same ∙ whole; place = place } in
         let k = sits r hs at w.settled.tiled s in
         let t = tells r hs at s w.settled.tiled in
@@ -237,10 +237,10 @@ unnaming_step r gs hs ks names more last now left size one slots w some size_is 
                   same = ap (λ l. chunks r l) o.0 ∙ w.same;
                   size = ap length o.0 ∙ w.size;
                   caps = λ j. ap (λ l. (granule_at l j).cap) o.0 ∙ w.caps j;
-                  marks = λ j. ap (λ l. (granule_at l j).mark) o.0 ∙ w.marks j ∙ ap (λ b. cond b false (granule_at gs j).mark) (sym (one_more (r.ram + 8 * j) r.base w.above c false (not_painted c (r.ram + 8 * j) (r.base + total w.above) e) ∙ or-false (is_painted_in (r.ram + 8 * j) r.base w.above)));
+                  marks = λ j. ap (λ l. (granule_at l j).mark) o.0 ∙ w.marks j ∙ ap (λ b. cond b false (granule_at gs j).mark) (sym (one_more (r.ram + 8 * j) r.base w.above c false (not_painted c (r.ram + 8 * j) (r.base + total_size w.above) e) ∙ or-false (is_painted_in (r.ram + 8 * j) r.base w.above)));
                   entries = ap length o.1 ∙ w.entries;
-                  named = λ x even. ap (λ l. is_named l x) o.1 ∙ named x even ∙ ap (λ l. is_used_at (r.base + x) r.base l) (sym list);
-                  quotas = λ x yes_. ap (λ l. quota_named l x) o.1 ∙ w.quotas x (sym (ap (λ l. is_named l x) o.1) ∙ yes_);
+                  named = λ x even. ap (λ l. begins_used_chunk l x) o.1 ∙ named x even ∙ ap (λ l. is_used_at (r.base + x) r.base l) (sym list);
+                  quotas = λ x yes_. ap (λ l. quota_named l x) o.1 ∙ w.quotas x (sym (ap (λ l. begins_used_chunk l x) o.1) ∙ yes_);
                   now_is = omega (arith, now_is, staying, count, one_is);
                 };
               }
@@ -286,12 +286,12 @@ unnaming_step r gs hs ks names more last now left size one slots w some size_is 
               ] in
               let gone_at : (p : ℕ) → UsedStarts p r.base (map let_go w.above ++ d ∷ cs) → p ≡ at → ⊥ = λ p x is. elim (used_split p r.base (map let_go w.above) (d ∷ cs) x) [
                 | inl a ↦ (let hi = used_high p r.base (map let_go w.above) above_are a in omega (arith, hi, is, place, above_total))
-                | inr b ↦ elim b [ inl z ↦ (let clash : true ≡ false = z.0 in cc) | inr z ↦ (let lo = used_low p (r.base + total (map let_go w.above) + d.size) cs z in omega (arith, lo, is, place, above_total, wide)) ]
+                | inr b ↦ elim b [ inl z ↦ (let clash : true ≡ false = z.0 in cc) | inr z ↦ (let lo = used_low p (r.base + total_size (map let_go w.above) + d.size) cs z in omega (arith, lo, is, place, above_total, wide)) ]
               ] in
-              let new_named : (x : ℕ) → x % 8 ≡ 0 → is_named (set more (offset / 16) 0) x ≡ is_used_at (r.base + x) r.base (map let_go w.above ++ d ∷ cs) = λ x x_even. elim (cases_eq (x / 16) (offset / 16)) [
+              let new_named : (x : ℕ) → x % 8 ≡ 0 → begins_used_chunk (set more (offset / 16) 0) x ≡ is_used_at (r.base + x) r.base (map let_go w.above ++ d ∷ cs) = λ x x_even. elim (cases_eq (x / 16) (offset / 16)) [
                 | inl slot ↦
-                    let none : name_at (set more (offset / 16) 0) x ≡ 0 = ap (λ j. get_or (set more (offset / 16) 0) j 0) slot ∙ get_or-set_same more (offset / 16) 0 0 slot_in in
-                    let not_named : is_named (set more (offset / 16) 0) x ≡ false = rw none refl in
+                    let none : object_name_at (set more (offset / 16) 0) x ≡ 0 = ap (λ j. get_or (set more (offset / 16) 0) j 0) slot ∙ get_or-set_same more (offset / 16) 0 0 slot_in in
+                    let not_named : begins_used_chunk (set more (offset / 16) 0) x ≡ false = rw none refl in
                     let not_used : is_used_at (r.base + x) r.base (map let_go w.above ++ d ∷ cs) ≡ false = elim (bool_tells (is_used_at (r.base + x) r.base (map let_go w.above ++ d ∷ cs))) [
                       | inr z ↦ z
                       | inl z ↦
@@ -304,17 +304,17 @@ unnaming_step r gs hs ks names more last now left size one slots w some size_is 
                     ] in
                     not_named ∙ sym not_used
                 | inr apart ↦
-                    let stays : name_at (set more (offset / 16) 0) x ≡ name_at more x = set_elsewhere more offset x 0 apart in
+                    let stays : object_name_at (set more (offset / 16) 0) x ≡ object_name_at more x = set_elsewhere more offset x 0 apart in
                     let other : r.base + x ≡ at → ⊥ = λ is. apart (ap (λ n. n / 16) (omega (arith, is, low))) in
                     named_same more (set more (offset / 16) 0) x stays ∙ named x x_even
                     ∙ sym (tests_same (r.base + x) r.base (map let_go w.above ++ d ∷ cs) (map let_go w.above ++ c ∷ cs) new_are old_are (to_old (r.base + x)) (to_new (r.base + x) other))
               ] in
-              let new_quota : (x : ℕ) → is_named (set more (offset / 16) 0) x ≡ true → quota_named (set more (offset / 16) 0) x ≡ quota_named names x = λ x yes_. elim (cases_eq (x / 16) (offset / 16)) [
+              let new_quota : (x : ℕ) → begins_used_chunk (set more (offset / 16) 0) x ≡ true → quota_named (set more (offset / 16) 0) x ≡ quota_named names x = λ x yes_. elim (cases_eq (x / 16) (offset / 16)) [
                 | inl slot ↦
-                    let none : name_at (set more (offset / 16) 0) x ≡ 0 = ap (λ j. get_or (set more (offset / 16) 0) j 0) slot ∙ get_or-set_same more (offset / 16) 0 0 slot_in in
+                    let none : object_name_at (set more (offset / 16) 0) x ≡ 0 = ap (λ j. get_or (set more (offset / 16) 0) j 0) slot ∙ get_or-set_same more (offset / 16) 0 0 slot_in in
                     absurd (let clash : false ≡ true = rw none at yes_ in cc)
                 | inr apart ↦
-                    let stays : name_at (set more (offset / 16) 0) x ≡ name_at more x = set_elsewhere more offset x 0 apart in
+                    let stays : object_name_at (set more (offset / 16) 0) x ≡ object_name_at more x = set_elsewhere more offset x 0 apart in
                     ap (λ n. (n - 1) / 2) stays ∙ w.quotas x (sym (named_same more (set more (offset / 16) 0) x stays) ∙ yes_)
               ] in
               let last_is : last ≡ set more (offset / 16) 0 = o.1 in
@@ -335,8 +335,8 @@ unnaming_step r gs hs ks names more last now left size one slots w some size_is 
                   caps = λ j. caps j ∙ w.caps j;
                   marks = λ j. marks_now c j (at) place e over even hs ks (is_painted_in (r.ram + 8 * j) r.base w.above) marked (w.marks j) inside (w.size) ∙ ap (λ b. cond b false (granule_at gs j).mark) (sym (painted_both (r.ram + 8 * j) r.base w.above (c ∷ [])));
                   entries = ap length last_is ∙ length-set more (offset / 16) 0 ∙ w.entries;
-                  named = λ x x_even. ap (λ l. is_named l x) last_is ∙ new_named x x_even ∙ ap (λ l. is_used_at (r.base + x) r.base l) (sym list);
-                  quotas = λ x yes_. ap (λ l. quota_named l x) last_is ∙ new_quota x (sym (ap (λ l. is_named l x) last_is) ∙ yes_);
+                  named = λ x x_even. ap (λ l. begins_used_chunk l x) last_is ∙ new_named x x_even ∙ ap (λ l. is_used_at (r.base + x) r.base l) (sym list);
+                  quotas = λ x yes_. ap (λ l. quota_named l x) last_is ∙ new_quota x (sym (ap (λ l. begins_used_chunk l x) last_is) ∙ yes_);
                   now_is = omega (arith, now_is, staying, count, count_staying, one_is);
                 };
               }
@@ -345,7 +345,7 @@ unnaming_step r gs hs ks names more last now left size one slots w some size_is 
 pub unnaming_ends : (r : Range) (gs hs : List Granule) (names more : List ℕ) (now left : ℕ) → TilesSettled r gs → Unnaming r gs hs names more now left → left ≡ 0 → Unnames r gs hs names more now
 unnaming_ends r gs hs names more now left h w none = all w.rest w.whole w.left_is w.now_is w.named (are_split w.above w.rest (subst AreChunks w.whole h.tiled.are)).1
   where
-    all : (rest : List Chunk) → chunks r gs ≡ w.above ++ rest → left ≡ total rest → now ≡ staying_chunks w.above + waiting_chunks rest → ((o : ℕ) → o % 8 ≡ 0 → is_named more o ≡ is_used_at (r.base + o) r.base (map let_go w.above ++ rest)) → AreChunks rest → Unnames r gs hs names more now
+    all : (rest : List Chunk) → chunks r gs ≡ w.above ++ rest → left ≡ total_size rest → now ≡ staying_chunks w.above + waiting_chunks rest → ((o : ℕ) → o % 8 ≡ 0 → begins_used_chunk more o ≡ is_used_at (r.base + o) r.base (map let_go w.above ++ rest)) → AreChunks rest → Unnames r gs hs names more now
     all (c ∷ cs) whole is now_is named are = absurd (let wide = are.0.some in omega (arith, is, none, wide))
     all [] whole is now_is named are =
         let old : chunks r gs ≡ w.above = whole ∙ append-nil w.above in

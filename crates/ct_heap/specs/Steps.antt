@@ -14,7 +14,7 @@ use Rattle.def_chunks.specs.Chunks.{Chunk, is_free}
 use Rattle.def_chunks.specs.Tiles.{chunks}
 use Rattle.def_chunks.specs.Changes.{NoTagComes, NoHead}
 use Rattle.def_chunks.specs.Gaps.{FreeLinked, UsedStands}
-use Rattle.def_chunks.specs.Heaps.{HeapRow, objects_of, account, is_named, quota_named, is_used_at}
+use Rattle.def_chunks.specs.Heaps.{HeapRow, objects_of, account, begins_used_chunk, quota_named, is_used_at}
 use Rattle.ct_chunks.specs.Cuts.{Fitting}
 use Rattle.ct_heap.specs.Effects.{Stays, Same}
 
@@ -117,6 +117,6 @@ pub record Unnames (r : Range) (gs hs : List Granule) (names more : List ℕ) (l
         ≡ cond (is_painted_in (r.ram + 8 * k) r.base (chunks r gs)) false (granule_at gs k).mark
     pub entries : length more ≡ length names
     pub named : (o : ℕ) → o % 8 ≡ 0
-        → is_named more o ≡ is_used_at (r.base + o) r.base (map let_go (chunks r gs))
-    pub quotas : (o : ℕ) → is_named more o ≡ true → quota_named more o ≡ quota_named names o
+        → begins_used_chunk more o ≡ is_used_at (r.base + o) r.base (map let_go (chunks r gs))
+    pub quotas : (o : ℕ) → begins_used_chunk more o ≡ true → quota_named more o ≡ quota_named names o
     pub left_is : left ≡ staying_chunks (chunks r gs)

@@ -4,7 +4,7 @@ ghost use Rattle.std.specs.Prelude.{ℕ, ◌≡◌, ◌+◌, ◌-◌, ◌*◌, �
 ghost use Rattle.def_chunks.specs.Chunks.{head_at, head_in};
 ghost use Rattle.def_chunks.specs.Tiles.{chunks, Tiled, TilesSettled};
 ghost use Rattle.def_chunks.specs.Gaps.{ChunkStands};
-ghost use Rattle.def_chunks.specs.Heaps.{name_of, is_named, quota_named, is_used_at};
+ghost use Rattle.def_chunks.specs.Heaps.{chunk_name, begins_used_chunk, quota_named, is_used_at};
 ghost use Rattle.ct_heap.specs.Table.{owner_at};
 ghost use Rattle.ct_heap.specs.Steps.{waiting_chunks, Unnames, UnnamesChunk};
 
@@ -17,7 +17,7 @@ use def_chunks::heads::{PAINTED, SLOT};
 /// granules the chunk begins at.
 fn name_of(quota: u32, offset: u32) -> u16
     requires { quota < 32767 }
-    ensures { result ≡ name_of quota offset }
+    ensures { result ≡ chunk_name quota offset }
 {
     (1 + 2 * quota + offset / 8 % 2) as u16
 }
@@ -26,7 +26,7 @@ fn name_of(quota: u32, offset: u32) -> u16
 pub(crate) fn name_chunk(names: &mut Vec<u16>, quota: u32, offset: u32)
     requires quota { quota < 32767 }
     requires inside { offset / 16 < length names.old.items }
-    ensures { names.new.items ≡ slice_set names.old.items (offset / 16) (name_of quota offset) }
+    ensures { names.new.items ≡ slice_set names.old.items (offset / 16) (chunk_name quota offset) }
 {
     names[(offset / SLOT) as usize] = name_of(quota, offset);
 }
@@ -62,7 +62,7 @@ pub(crate) fn unname<M: Memory>(
     requires settled { TilesSettled range.now (M.granules mem.old) }
     requires slots { length names.old.items ≡ range.now.length / 16 }
     requires named { (o : ℕ) → o % 8 ≡ 0
-        → is_named names.old.items o
+        → begins_used_chunk names.old.items o
         ≡ is_used_at (range.now.base + o) range.now.base (chunks range.now (M.granules mem.old)) }
     requires waiting { waiting ≡ waiting_chunks (chunks range.now (M.granules mem.old)) }
     ensures { Unnames range.now (M.granules mem.old) (M.granules mem.new) names.old.items

@@ -12,7 +12,7 @@ use Rattle.def_image.specs.Parts.{SlotRow, CodeRow, CompartmentRow, ThreadRow, P
 use Rattle.def_image.specs.Spelling.{raw_of, raw_slot, raw_code, raw_compartment}
 use Rattle.def_image.specs.Sizes.{compartment_size, library_size, compartments_at, libraries_at}
 use Rattle.def_image.specs.Checks.{first}
-use Rattle.def_image.specs.Limits.{byte_at, row_limits, name_checks, own_slot_limits, slot_limits, compartment_limits_by, compartment_limits, library_limits_by, library_limits, entry_name, is_misnamed, is_unnamed_key}
+use Rattle.def_image.specs.Limits.{byte_in, row_limits, name_checks, own_slot_limits, slot_limits, compartment_limits_by, compartment_limits, library_limits_by, library_limits, entry_name, is_misnamed, is_unnamed_key}
 use Rattle.law_image.proofs.Passing.{left_none, all_pass, every}
 use Rattle.law_image.proofs.Holding.{limited, compartment_holds, library_holds}
 use Rattle.law_image.proofs.Limited.{few_threads, header_fits, thread_fits}
@@ -42,11 +42,11 @@ room_is p s = let e = end_is p s.spellable in omega (arith, e, s.small)
 -- ---- rights are six bits
 
 abbrev IsPacked : RawEntry → Type 0
-IsPacked e = byte_at e.row 1 < 64
+IsPacked e = byte_in e.row 1 < 64
 
-row_packed : (at : ℕ) (row : List ℕ) → first (row_limits at row) ≡ None → byte_at row 1 < 64
+row_packed : (at : ℕ) (row : List ℕ) → first (row_limits at row) ≡ None → byte_in row 1 < 64
 unfolding row_limits
-row_packed at row none = let most = ltb-false 63 (byte_at row 1) (all_pass (row_limits at row) none).1.0 in omega (arith, most)
+row_packed at row none = let most = ltb-false 63 (byte_in row 1) (all_pass (row_limits at row) none).1.0 in omega (arith, most)
 
 own_packed : (at : ℕ) (earlier : List RawEntry) (e : RawEntry) → first (own_slot_limits at earlier e) ≡ None → IsPacked e
 unfolding own_slot_limits

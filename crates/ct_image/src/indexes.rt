@@ -43,7 +43,7 @@ fn has_shared(libraries: &[Code], library: u32, export: u32) -> bool
 
 /// Whether what a slot names is there.
 fn is_named(parts: &Parts, row: ImportRow) -> bool
-    ensures { result ≡ spec.is_named parts.now row row.kind }
+    ensures { result ≡ spec.is_slot_named parts.now row row.kind }
 {
     let first = row.first as usize;
     match row.kind {
@@ -60,7 +60,7 @@ fn is_named(parts: &Parts, row: ImportRow) -> bool
 
 /// The class of a kind: imports stand before quotas, and these before keys.
 fn class_of(kind: SlotKind) -> u8
-    ensures { result ≡ spec.class_of kind }
+    ensures { result ≡ spec.slot_class kind }
 {
     match kind {
         SlotKind::Quota => 1,
@@ -93,7 +93,7 @@ fn is_late(row: ImportRow, earlier: &[Slot]) -> bool
 
 /// Whether a slot names nothing, is of the switch or the return, or is out of order.
 fn is_astray(parts: &Parts, earlier: &[Slot], row: ImportRow) -> bool
-    ensures { result ≡ spec.is_astray parts.now earlier.now row }
+    ensures { result ≡ spec.is_import_astray parts.now earlier.now row }
 {
     !is_named(parts, row)
         || (is_service(row, SWITCH) || is_service(row, RETURN))
@@ -197,7 +197,7 @@ fn libraries_fault(parts: &Parts, at: u32, libraries: &[Code]) -> Option<u32>
 
 /// Whether a thread enters an export of a compartment.
 fn enters(parts: &Parts, thread: &Thread) -> bool
-    ensures { result ≡ spec.enters parts.now thread.now }
+    ensures { result ≡ spec.enters_export parts.now thread.now }
 {
     has_export(
         parts.compartments.as_slice(),

@@ -29,14 +29,14 @@ fn is_even(number: u32) -> bool
 
 /// Whether an address lies in both ranges, each given by its base and length.
 fn meets(a: u32, m: u64, b: u32, n: u64) -> bool
-    ensures { result ≡ spec.meets a m b n }
+    ensures { result ≡ spec.overlaps a m b n }
 {
     0 < m && 0 < n && (a as u128) < b as u128 + n as u128 && (b as u128) < a as u128 + m as u128
 }
 
 /// Whether a range meets that of the native routines.
 fn meets_native(base: u32, length: u32) -> bool
-    ensures { result ≡ spec.meets_native base length }
+    ensures { result ≡ spec.overlaps_native base length }
 {
     meets(
         base,
@@ -93,7 +93,7 @@ fn is_heap_laid(parts: &Parts, trusted: Span) -> bool
 
 /// Whether a device meets one of the others.
 fn meets_device(base: u32, earlier: &[Device]) -> bool
-    ensures { result ≡ list_any (spec.meets_device base) earlier.now }
+    ensures { result ≡ list_any (spec.overlaps_device base) earlier.now }
 {
     for other in earlier {
         if meets(base, DEVICE_SIZE as u64, other.base, DEVICE_SIZE as u64) {

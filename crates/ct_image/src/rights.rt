@@ -23,7 +23,7 @@ use def_profile::rights::{
 
 /// Reading, writing, or both.
 fn is_device_set(set: u32) -> bool
-    ensures { result ≡ spec.is_one_of set spec.device_rights }
+    ensures { result ≡ spec.is_one_of set spec.device_right_sets }
 {
     set == GL + LD || set == GL + SD || set == GL + LD + SD
 }

@@ -8,40 +8,40 @@ use Rattle.def_image.specs.declared.format.TheConstants.{DEVICE, SHARED, THREAD,
 use Rattle.def_image.specs.Raw.{RawCode, RawCompartment, RawImage}
 use Rattle.def_image.specs.Sizes.{sealed_size, compartment_size, library_size, devices_at, shared_at, sealed_at, compartments_at, libraries_at, threads_at}
 use Rattle.def_image.specs.Checks.{first, walked}
-use Rattle.def_image.specs.Limits.{name_of, name_checks, own_slots_limits, own_gates, dirty_padding, slots_limits, library_gates, count_limits, number_limits, header_limits, compartment_limits_by, library_limits_by, limit_checks, device_limits, shared_limits, sealed_limits, compartment_limits, library_limits, thread_limits}
-use Rattle.def_image.specs.First.{or_else}
+use Rattle.def_image.specs.Limits.{name_in_field, name_checks, own_slots_limits, own_gates, dirty_padding, slots_limits, library_gate_checks, count_limits, number_limits, header_limits, compartment_limits_by, library_limits_by, limit_checks, device_limits, shared_limits, sealed_limits, compartment_limits, library_limits, thread_limits}
+use Rattle.def_image.specs.First.{first_some}
 use Rattle.law_image.proofs.Walks.{first_both, or_later}
 use Rattle.ct_image_limits.specs.Owners.{compartment_head, first_of_tables, library_head, first_of_library}
 use Rattle.ct_image_limits.specs.Whole.{first_of_parts}
 
 -- ---- the header
 
-pub header_first : (r : RawImage) → first (header_limits r) ≡ or_else (first (count_limits r)) (first (number_limits r))
+pub header_first : (r : RawImage) → first (header_limits r) ≡ first_some (first (count_limits r)) (first (number_limits r))
 unfolding header_limits
 header_first r = first_both (count_limits r) (number_limits r)
 
 -- ---- owners
 
 pub compartment_first : (entry at : ℕ) (seen : List (List ℕ)) (c : RawCompartment)
-    → first (compartment_limits_by entry at seen c) ≡ or_else (first (compartment_head at (among (name_of c.code.name) seen) c)) (first_of_tables at entry c)
+    → first (compartment_limits_by entry at seen c) ≡ first_some (first (compartment_head at (among (name_in_field c.code.name) seen) c)) (first_of_tables at entry c)
 unfolding compartment_limits_by name_checks
 compartment_first entry at seen c =
-    let head = compartment_head at (among (name_of c.code.name) seen) c in
+    let head = compartment_head at (among (name_in_field c.code.name) seen) c in
     let slots = own_slots_limits (at + COMPARTMENT_HEAD) c.code in
     let gates = own_gates entry at c.code in
     let padding = dirty_padding at c in
     first_both (head ++ slots ++ gates) padding
-    ∙ ap (λ o. or_else o (first padding)) (first_both (head ++ slots) gates ∙ ap (λ o. or_else o (first gates)) (first_both head slots) ∙ or_later (first head) (first slots) (first gates))
-    ∙ or_later (first head) (or_else (first slots) (first gates)) (first padding) ∙ ap (λ o. or_else (first head) o) (or_later (first slots) (first gates) (first padding))
+    ∙ ap (λ o. first_some o (first padding)) (first_both (head ++ slots) gates ∙ ap (λ o. first_some o (first gates)) (first_both head slots) ∙ or_later (first head) (first slots) (first gates))
+    ∙ or_later (first head) (first_some (first slots) (first gates)) (first padding) ∙ ap (λ o. first_some (first head) o) (or_later (first slots) (first gates) (first padding))
 
 pub library_first : (entry at : ℕ) (seen : List (List ℕ)) (c : RawCode)
-    → first (library_limits_by entry at seen c) ≡ or_else (first (library_head at (among (name_of c.name) seen) c)) (first_of_library at entry c)
+    → first (library_limits_by entry at seen c) ≡ first_some (first (library_head at (among (name_in_field c.name) seen) c)) (first_of_library at entry c)
 unfolding library_limits_by name_checks
 library_first entry at seen c =
-    let head = library_head at (among (name_of c.name) seen) c in
+    let head = library_head at (among (name_in_field c.name) seen) c in
     let slots = slots_limits (at + LIBRARY_HEAD) c in
-    let gates = library_gates entry at c in
-    first_both (head ++ slots) gates ∙ ap (λ o. or_else o (first gates)) (first_both head slots) ∙ or_later (first head) (first slots) (first gates)
+    let gates = library_gate_checks entry at c in
+    first_both (head ++ slots) gates ∙ ap (λ o. first_some o (first gates)) (first_both head slots) ∙ or_later (first head) (first slots) (first gates)
 
 -- ---- names of several lists
 
@@ -55,15 +55,15 @@ among_three name a b c = among_two name (a ++ b) c ∙ ap (λ x. x || among name
 
 -- seven lists, one after the other
 seven_first : (h d s x c l t : List Check)
-    → first (h ++ d ++ s ++ x ++ c ++ l ++ t) ≡ or_else (first h) (or_else (first d) (or_else (first s) (or_else (first x) (or_else (first c) (or_else (first l) (first t))))))
+    → first (h ++ d ++ s ++ x ++ c ++ l ++ t) ≡ first_some (first h) (first_some (first d) (first_some (first s) (first_some (first x) (first_some (first c) (first_some (first l) (first t))))))
 seven_first h d s x c l t =
     onto (h ++ d ++ s ++ x ++ c ++ l) t _ (onto (h ++ d ++ s ++ x ++ c) l _ (onto (h ++ d ++ s ++ x) c _ (onto (h ++ d ++ s) x _ (onto (h ++ d) s _ (first_both h d)))))
     ∙ regrouped (first h) (first d) (first s) (first x) (first c) (first l) (first t)
   where
-    onto : (cs more : List Check) (o : Option ℕ) → first cs ≡ o → first (cs ++ more) ≡ or_else o (first more)
-    onto cs more o e = first_both cs more ∙ ap (λ p. or_else p (first more)) e
+    onto : (cs more : List Check) (o : Option ℕ) → first cs ≡ o → first (cs ++ more) ≡ first_some o (first more)
+    onto cs more o e = first_both cs more ∙ ap (λ p. first_some p (first more)) e
 
-    regrouped : (h d s x c l t : Option ℕ) → or_else (or_else (or_else (or_else (or_else (or_else h d) s) x) c) l) t ≡ or_else h (or_else d (or_else s (or_else x (or_else c (or_else l t)))))
+    regrouped : (h d s x c l t : Option ℕ) → first_some (first_some (first_some (first_some (first_some (first_some h d) s) x) c) l) t ≡ first_some h (first_some d (first_some s (first_some x (first_some c (first_some l t)))))
     regrouped None None None None None l t = refl
     regrouped None None None None (Some n) l t = refl
     regrouped None None None (Some n) c l t = refl
@@ -71,7 +71,7 @@ seven_first h d s x c l t =
     regrouped None (Some n) s x c l t = refl
     regrouped (Some n) d s x c l t = refl
 
-pub limits_first : (r : RawImage) → first (limit_checks r) ≡ or_else (first (header_limits r)) (first_of_parts r)
+pub limits_first : (r : RawImage) → first (limit_checks r) ≡ first_some (first (header_limits r)) (first_of_parts r)
 unfolding limit_checks
 limits_first r =
     seven_first (header_limits r)

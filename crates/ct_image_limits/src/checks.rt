@@ -4,7 +4,7 @@ ghost use Rattle.std.specs.Prelude.{◌≡◌, ◌<◌, ◌+◌, ◌^◌, length
 ghost use Rattle.def_image.specs.Checks as spec;
 ghost use Rattle.def_image.specs.Limits as limits;
 ghost use Rattle.def_image.specs.Profile as profile;
-ghost use Rattle.def_image.specs.First.{or_else};
+ghost use Rattle.def_image.specs.First.{first_some};
 
 use ct_image_fields::name_of;
 use ct_texts::is_name;
@@ -32,7 +32,7 @@ pub(crate) fn first(checks: &[Check]) -> Option<u32>
 
 /// The first of two places, where there is one.
 pub(crate) fn earlier_of(first: Option<u32>, second: Option<u32>) -> Option<u32>
-    ensures { result ≡ or_else first second }
+    ensures { result ≡ first_some first second }
 {
     match first {
         Some(place) => Some(place),
@@ -58,7 +58,7 @@ pub(crate) fn are_zeros(bytes: &[u8]) -> bool
 /// zeros that pad it.
 pub(crate) fn name_checks(at: u32, repeated: bool, unwanted: bool, field: &[u8]) -> [Check; 2]
     requires { at + length field.now < 2 ^ 32 }
-    ensures { result ≡ limits.named at repeated unwanted field.now }
+    ensures { result ≡ limits.checks_of_name at repeated unwanted field.now }
 {
     let name = name_of(field);
     [

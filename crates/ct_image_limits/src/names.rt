@@ -27,7 +27,7 @@ impl Named for RawEntry {
 }
 
 impl Named for RawDevice {
-    ghost named = { spec.device_name };
+    ghost named = { spec.raw_device_name };
 
     fn name(&self) -> &[u8] {
         name_of(&self.name)

@@ -7,7 +7,7 @@ ghost use Rattle.def_image.specs.Limits as spec;
 ghost use Rattle.def_image.specs.Sizes as sizes;
 ghost use Rattle.def_image.specs.Sizes.{sum_of};
 ghost use Rattle.def_image.specs.declared.format.TheConstants.{THREAD as THREAD_SIZE, COMPARTMENT_HEAD as OWN_HEAD, LIBRARY_HEAD as SHARED_HEAD};
-ghost use Rattle.def_image.specs.First.{or_else};
+ghost use Rattle.def_image.specs.First.{first_some};
 ghost use Rattle.ct_image_limits.specs.Owners as parts;
 
 use crate::checks::{are_zeros, check, earlier_of, first, name_checks, outside};
@@ -52,7 +52,7 @@ fn library_size(library: &RawCode) -> u32
 /// How many entries a compartment has: code, globals, slots and exports.
 fn compartment_entries(compartment: &RawCompartment) -> u32
     requires { sizes.compartment_size compartment.now < 2 ^ 32 }
-    ensures value { result ≡ spec.compartment_entries compartment.now }
+    ensures value { result ≡ spec.raw_compartment_entries compartment.now }
     ensures few { result ≤ sizes.compartment_size compartment.now }
 {
     2 + compartment.code.slots.len() as u32 + compartment.code.exports.len() as u32
@@ -61,7 +61,7 @@ fn compartment_entries(compartment: &RawCompartment) -> u32
 /// How many entries a library has: code, slots and exports.
 fn library_entries(library: &RawCode) -> u32
     requires { sizes.library_size library.now < 2 ^ 32 }
-    ensures value { result ≡ spec.library_entries library.now }
+    ensures value { result ≡ spec.raw_library_entries library.now }
     ensures few { result ≤ sizes.library_size library.now }
 {
     1 + library.slots.len() as u32 + library.exports.len() as u32
@@ -280,7 +280,7 @@ pub(crate) fn compartments_end(at: u32, compartments: &[RawCompartment]) -> (u32
     requires room { at + sum_of sizes.compartment_size compartments.now < 2 ^ 32 }
     requires later { 1 ≤ at }
     ensures place { result.0 ≡ at + sum_of sizes.compartment_size compartments.now }
-    ensures entry { result.1 ≡ 1 + sum_of spec.compartment_entries compartments.now }
+    ensures entry { result.1 ≡ 1 + sum_of spec.raw_compartment_entries compartments.now }
     ensures few { result.1 ≤ result.0 }
 {
     let mut place = at;

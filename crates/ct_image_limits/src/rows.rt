@@ -39,7 +39,7 @@ pub(crate) const LIBRARY_BOUNDS: Bounds = Bounds {
 /// The number at an offset of a row.
 pub(crate) fn number_at(row: &[u8; 16], at: usize) -> u32
     requires { at + 4 ≤ 16 }
-    ensures { result ≡ spec.number_at row.now at }
+    ensures { result ≡ spec.number_field row.now at }
 {
     u32::from_le_bytes([row[at], row[at + 1], row[at + 2], row[at + 3]])
 }

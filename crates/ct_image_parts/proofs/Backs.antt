@@ -14,7 +14,7 @@ use Rattle.def_image.specs.Spelling.{zeros, padding_after, raw_slot, raw_gate, r
 use Rattle.def_image.specs.Shapes.{IsRawEntry, IsDevice, IsShared, IsSealed, IsCode, IsCompartment, IsThread, IsShaped, Clean, SpellableSlot, SpellableGate, SpellableCode, IsSpellable}
 use Rattle.def_image.specs.Sizes.{entries_size, sealed_size, compartment_size, library_size, devices_at, shared_at, sealed_at, compartments_at, libraries_at, threads_at, rate_size}
 use Rattle.def_image.specs.Checks.{first, check}
-use Rattle.def_image.specs.Limits.{name_checks, are_zeros, header_limits, device_limits, shared_limits, sealed_limits, row_limits, gate_limits, own_slot_limits, slot_limits, export_limits, dirty_padding, compartment_limits_by, compartment_limits, library_limits_by, library_limits, thread_limits_by, thread_limits, limit_checks, Bounds, compartment_bounds, library_bounds, entry_name, is_misnamed, is_unnamed_key, device_name, shared_name, sealed_name, overfills}
+use Rattle.def_image.specs.Limits.{name_checks, are_zeros, header_limits, device_limits, shared_limits, sealed_limits, row_limits, gate_limits, own_slot_limits, slot_limits, export_limits, dirty_padding, compartment_limits_by, compartment_limits, library_limits_by, library_limits, thread_limits_by, thread_limits, limit_checks, Bounds, compartment_bounds, library_bounds, entry_name, is_misnamed, is_unnamed_key, raw_device_name, shared_name, sealed_name, overfills}
 use Rattle.law_image.proofs.Tells.{within_is}
 use Rattle.law_image.proofs.Passing.{left_none, right_none, all_pass, every}
 use Rattle.law_image.proofs.Holding.{limited, compartment_holds, library_holds}
@@ -112,11 +112,11 @@ record DeviceOk (d : RawDevice) : Type 0 where
 device_fits : (at : ℕ) (earlier : List RawDevice) (d : RawDevice) → first (device_limits at earlier d) ≡ None → DeviceOk d
 unfolding device_limits
 device_fits at earlier d none =
-    let names = name_checks at false (map device_name earlier) d.name in
+    let names = name_checks at false (map raw_device_name earlier) d.name in
     let last = check (at + 32) (outside 1 3 d.kind) ∷ [] in
     record {
       kind = device_back d.kind (within_is 1 3 d.kind (all_pass last (right_none names last none)).0);
-      name = name_fits at false (map device_name earlier) d.name (all_pass names (left_none names last none));
+      name = name_fits at false (map raw_device_name earlier) d.name (all_pass names (left_none names last none));
     }
 
 device_comes : (d : RawDevice) → DeviceOk d → IsDevice d → raw_device (device_of d) ≡ d

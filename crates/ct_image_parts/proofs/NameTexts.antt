@@ -9,7 +9,7 @@ use Rattle.def_texts.specs.Names.{is_name, is_name_byte, is_lower, among}
 use Rattle.def_image.specs.declared.Check.{Check}
 use Rattle.def_image.specs.Spelling.{zeros, name_field}
 use Rattle.def_image.specs.Shapes.{IsField, Clean}
-use Rattle.def_image.specs.Limits.{name_of, are_zeros, name_checks}
+use Rattle.def_image.specs.Limits.{name_in_field, are_zeros, name_checks}
 use Rattle.ct_image_parts.specs.Converted.{text_of}
 
 -- ---- a name's bytes are characters
@@ -49,16 +49,16 @@ name_bytes (b ∷ bs) h =
     let rest = both_right (is_lower b) (list_all is_name_byte bs) front in
     rw (lower, rest) refl
 
-text_is : (field : List ℕ) → is_name (name_of field) ≡ true → text_of field ≡ name_of field
-text_is field h = own_text (name_of field) (name_bytes (name_of field) h)
+text_is : (field : List ℕ) → is_name (name_in_field field) ≡ true → text_of field ≡ name_in_field field
+text_is field h = own_text (name_in_field field) (name_bytes (name_in_field field) h)
 
 -- ---- a field is its name and zeros
 
-split : (field : List ℕ) → name_of field ++ drop (length (name_of field)) field ≡ field
+split : (field : List ℕ) → name_in_field field ++ drop (length (name_in_field field)) field ≡ field
 split [] = refl
 split (b ∷ bs) = by (b == 0) (split bs)
   where
-    by : (c : Bool) → name_of bs ++ drop (length (name_of bs)) bs ≡ bs → cond c [] (b ∷ name_of bs) ++ drop (length (cond c [] (b ∷ name_of bs))) (b ∷ bs) ≡ b ∷ bs
+    by : (c : Bool) → name_in_field bs ++ drop (length (name_in_field bs)) bs ≡ bs → cond c [] (b ∷ name_in_field bs) ++ drop (length (cond c [] (b ∷ name_in_field bs))) (b ∷ bs) ≡ b ∷ bs
     by true rest = refl
     by false rest = ap (λ (l : List ℕ). b ∷ l) rest
 
@@ -74,22 +74,22 @@ all_zeros (b ∷ bs) h =
 
 -- what the limits say of a name's field
 pub record NameFits (field : List ℕ) : Type 0 where
-  pub form : is_name (name_of field) ≡ true
-  pub padding : are_zeros (drop (length (name_of field)) field) ≡ true
+  pub form : is_name (name_in_field field) ≡ true
+  pub padding : are_zeros (drop (length (name_in_field field)) field) ≡ true
 
 pub name_fits : (at : ℕ) (unwanted : Bool) (seen : List (List ℕ)) (field : List ℕ) → AllByRecursion (λ (c : Check). c.fails ≡ false) (name_checks at unwanted seen field) → NameFits field
 unfolding name_checks
 name_fits at unwanted seen field h =
-    let bad = not (is_name (name_of field)) in
-    let twice = among (name_of field) seen in
+    let bad = not (is_name (name_in_field field)) in
+    let twice = among (name_in_field field) seen in
     record {
-      form = not-false (is_name (name_of field)) (or_parts bad twice (or_parts (bad || twice) unwanted h.0).0).0;
-      padding = not-false (are_zeros (drop (length (name_of field)) field)) h.1.0;
+      form = not-false (is_name (name_in_field field)) (or_parts bad twice (or_parts (bad || twice) unwanted h.0).0).0;
+      padding = not-false (are_zeros (drop (length (name_in_field field)) field)) h.1.0;
     }
 
 pub field_back : (field : List ℕ) → IsField 32 field → NameFits field → name_field (text_of field) ≡ field
 field_back field is fits =
-    let name = name_of field in
+    let name = name_in_field field in
     let rest = drop (length name) field in
     let whole = split field in
     let sizes = length-append name rest in
@@ -100,9 +100,9 @@ field_back field is fits =
 
 -- ---- a name holds no zero
 
-no_zero : (field : List ℕ) → Clean (name_of field)
+no_zero : (field : List ℕ) → Clean (name_in_field field)
 no_zero [] = tt
-no_zero (b ∷ bs) = elim (eq_tells b 0) as (λ x. Clean (name_of (b ∷ bs))) [
+no_zero (b ∷ bs) = elim (eq_tells b 0) as (λ x. Clean (name_in_field (b ∷ bs))) [
   | inl e ↦ rw e.0 tt
   | inr e ↦ rw e.0 (some b e.1, no_zero bs)
 ]

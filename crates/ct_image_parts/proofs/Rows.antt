@@ -10,7 +10,7 @@ use Rattle.def_image.specs.Sound.{IsWithin}
 use Rattle.ct_entry.specs.DeviceKinds.{device_kind_of, device_number}
 use Rattle.def_image.specs.Spelling.{number, kind_byte, posture_byte, passes_byte, import_field, export_field}
 use Rattle.def_image.specs.Shapes.{IsField, IsNumber}
-use Rattle.def_image.specs.Limits.{byte_at, number_at, are_zeros, row_limits, gate_limits, Bounds}
+use Rattle.def_image.specs.Limits.{byte_in, number_field, are_zeros, row_limits, gate_limits, Bounds}
 use Rattle.law_image.proofs.Tells.{within_is}
 use Rattle.ct_image_parts.specs.Converted.{kind_of, posture_of, import_of, export_of}
 
@@ -35,13 +35,13 @@ take_all (suc n) [] h = tt
 take_all (suc n) (b ∷ bs) h = (h.0, take_all n bs h.1)
 
 -- a number of a row is what is spelled there
-number_there : (row : List ℕ) (k : ℕ) → AllByRecursion (λ b. b < 256) row → k + 4 ≤ length row → number (number_at row k) ≡ take 4 (drop k row)
+number_there : (row : List ℕ) (k : ℕ) → AllByRecursion (λ b. b < 256) row → k + 4 ≤ length row → number (number_field row k) ≡ take 4 (drop k row)
 number_there row k each long =
     let front = take 4 (drop k row) in
     let size : length front ≡ 4 = omega (arith, length-take 4 (drop k row), length-drop k row, long) in
-    le_bytes_4 front (number_at row k) size (bytes_at front (take_all 4 (drop k row) (drop_all k row each))) refl
+    le_bytes_4 front (number_field row k) size (bytes_at front (take_all 4 (drop k row) (drop_all k row each))) refl
 
-pub small_there : (row : List ℕ) (k : ℕ) → AllByRecursion (λ b. b < 256) row → IsNumber (number_at row k)
+pub small_there : (row : List ℕ) (k : ℕ) → AllByRecursion (λ b. b < 256) row → IsNumber (number_field row k)
 small_there row k each =
     let fits = bytes_at (take 4 (drop k row)) (take_all 4 (drop k row) (drop_all k row each)) in
     omega (arith, fits 0, fits 1, fits 2, fits 3)
@@ -134,16 +134,16 @@ pub import_back : (at : ℕ) (row : List ℕ) → IsField 16 row → AllByRecurs
 unfolding row_limits
 import_back at row is h =
     let size = is.size in
-    let kind = kind_back (byte_at row 0) (within_is 1 8 (byte_at row 0) h.0) in
+    let kind = kind_back (byte_in row 0) (within_is 1 8 (byte_in row 0) h.0) in
     let pair = zero_pair row (omega (arith, size)) (not-false (are_zeros (take 2 (drop 2 row))) h.1.1.0) in
-    let third = eqb-true (number_at row 12) 0 (not-false (number_at row 12 == 0) h.1.1.1.1.1.0) in
+    let third = eqb-true (number_field row 12) 0 (not-false (number_field row 12 == 0) h.1.1.1.1.1.0) in
     let q0 = sym (four row (omega (arith, size))) in
-    let e0 : (kind_byte (kind_of (byte_at row 0)) ∷ byte_at row 1 ∷ 0 ∷ 0 ∷ []) ≡ take 4 row =
-    same_four (kind_byte (kind_of (byte_at row 0))) (byte_at row 1) 0 0 (byte_at row 0) (byte_at row 1) (byte_at row 2) (byte_at row 3) kind refl (sym pair.0) (sym pair.1) ∙ q0 in
+    let e0 : (kind_byte (kind_of (byte_in row 0)) ∷ byte_in row 1 ∷ 0 ∷ 0 ∷ []) ≡ take 4 row =
+    same_four (kind_byte (kind_of (byte_in row 0))) (byte_in row 1) 0 0 (byte_in row 0) (byte_in row 1) (byte_in row 2) (byte_in row 3) kind refl (sym pair.0) (sym pair.1) ∙ q0 in
     let e1 = number_there row 4 is.each (omega (arith, size)) in
     let e2 = number_there row 8 is.each (omega (arith, size)) in
     let e3 : number 0 ≡ take 4 (drop 12 row) = ap number (sym third) ∙ number_there row 12 is.each (omega (arith, size)) in
-    whole (kind_byte (kind_of (byte_at row 0)) ∷ byte_at row 1 ∷ 0 ∷ 0 ∷ []) (number (number_at row 4)) (number (number_at row 8)) (number 0) row e0 e1 e2 e3 size
+    whole (kind_byte (kind_of (byte_in row 0)) ∷ byte_in row 1 ∷ 0 ∷ 0 ∷ []) (number (number_field row 4)) (number (number_field row 8)) (number 0) row e0 e1 e2 e3 size
 
 -- ---- export rows
 
@@ -152,10 +152,10 @@ pub record AreNarrow (b : Bounds) : Type 0 where
   pub posture : 1 ≤ b.posture
   pub passes : b.passes ≤ 2
 
-last_four : (row : List ℕ) → 12 ≤ length row → take 4 (drop 8 row) ≡ byte_at row 8 ∷ byte_at row 9 ∷ byte_at row 10 ∷ byte_at row 11 ∷ []
+last_four : (row : List ℕ) → 12 ≤ length row → take 4 (drop 8 row) ≡ byte_in row 8 ∷ byte_in row 9 ∷ byte_in row 10 ∷ byte_in row 11 ∷ []
 last_four row long =
     four (drop 8 row) (omega (arith, length-drop 8 row, long))
-    ∙ same_four (get_or (drop 8 row) 0 0) (get_or (drop 8 row) 1 0) (get_or (drop 8 row) 2 0) (get_or (drop 8 row) 3 0) (byte_at row 8) (byte_at row 9) (byte_at row 10) (byte_at row 11)
+    ∙ same_four (get_or (drop 8 row) 0 0) (get_or (drop 8 row) 1 0) (get_or (drop 8 row) 2 0) (get_or (drop 8 row) 3 0) (byte_in row 8) (byte_in row 9) (byte_in row 10) (byte_in row 11)
     (get_or-drop 8 row 0 0) (get_or-drop 8 row 1 0) (get_or-drop 8 row 2 0) (get_or-drop 8 row 3 0)
 
 export_grouped : (a b d : List ℕ) (w x y z : ℕ) → a ++ b ++ w ∷ x ∷ y ∷ z ∷ d ≡ a ++ b ++ (w ∷ x ∷ y ∷ z ∷ []) ++ d
@@ -166,21 +166,21 @@ pub export_back : (b : Bounds) (text entry at : ℕ) (row : List ℕ) → AreNar
 unfolding gate_limits
 export_back b text entry at row narrow is h =
     let size = is.size in
-    let posture = within_is b.posture 3 (byte_at row 9) h.1.1.1.0 in
-    let passes = within_is 1 b.passes (byte_at row 10) h.1.1.1.1.0 in
+    let posture = within_is b.posture 3 (byte_in row 9) h.1.1.1.0 in
+    let passes = within_is 1 b.passes (byte_in row 10) h.1.1.1.1.0 in
     let p0 = posture.0 in
     let p1 = posture.1 in
     let s0 = passes.0 in
     let s1 = passes.1 in
     let n0 = narrow.posture in
     let n1 = narrow.passes in
-    let zeroth = eqb-true (byte_at row 11) 0 (not-false (byte_at row 11 == 0) h.1.1.1.1.1.0) in
+    let zeroth = eqb-true (byte_in row 11) 0 (not-false (byte_in row 11 == 0) h.1.1.1.1.1.0) in
     let e0 = number_there row 0 is.each (omega (arith, size)) in
     let e1 = number_there row 4 is.each (omega (arith, size)) in
-    let e2 : (byte_at row 8 ∷ posture_byte (posture_of (byte_at row 9)) ∷ passes_byte (byte_at row 10 == 1) ∷ 0 ∷ []) ≡ take 4 (drop 8 row) =
-    same_four (byte_at row 8) (posture_byte (posture_of (byte_at row 9))) (passes_byte (byte_at row 10 == 1)) 0 (byte_at row 8) (byte_at row 9) (byte_at row 10) (byte_at row 11)
-    refl (posture_back (byte_at row 9) (omega (arith, p0, n0)) p1) (passes_back (byte_at row 10) s0 (omega (arith, s1, n1))) (sym zeroth)
+    let e2 : (byte_in row 8 ∷ posture_byte (posture_of (byte_in row 9)) ∷ passes_byte (byte_in row 10 == 1) ∷ 0 ∷ []) ≡ take 4 (drop 8 row) =
+    same_four (byte_in row 8) (posture_byte (posture_of (byte_in row 9))) (passes_byte (byte_in row 10 == 1)) 0 (byte_in row 8) (byte_in row 9) (byte_in row 10) (byte_in row 11)
+    refl (posture_back (byte_in row 9) (omega (arith, p0, n0)) p1) (passes_back (byte_in row 10) s0 (omega (arith, s1, n1))) (sym zeroth)
     ∙ sym (last_four row (omega (arith, size))) in
     let e3 = number_there row 12 is.each (omega (arith, size)) in
-    export_grouped (number (number_at row 0)) (number (number_at row 4)) (number (number_at row 12)) (byte_at row 8) (posture_byte (posture_of (byte_at row 9))) (passes_byte (byte_at row 10 == 1)) 0
-    ∙ whole (number (number_at row 0)) (number (number_at row 4)) (byte_at row 8 ∷ posture_byte (posture_of (byte_at row 9)) ∷ passes_byte (byte_at row 10 == 1) ∷ 0 ∷ []) (number (number_at row 12)) row e0 e1 e2 e3 size
+    export_grouped (number (number_field row 0)) (number (number_field row 4)) (number (number_field row 12)) (byte_in row 8) (posture_byte (posture_of (byte_in row 9))) (passes_byte (byte_in row 10 == 1)) 0
+    ∙ whole (number (number_field row 0)) (number (number_field row 4)) (byte_in row 8 ∷ posture_byte (posture_of (byte_in row 9)) ∷ passes_byte (byte_in row 10 == 1) ∷ 0 ∷ []) (number (number_field row 12)) row e0 e1 e2 e3 size

@@ -8,7 +8,7 @@ use Rattle.def_image.specs.Sizes.{compartments_at, libraries_at, threads_at}
 use Rattle.def_image.specs.Checks.{first, walked}
 use Rattle.def_image.specs.Indexes.{compartment_asked, library_asked, thread_asked, part_size, code_size, index_checks}
 use Rattle.def_image.specs.Rights.{compartment_rights, library_rights, right_checks}
-use Rattle.def_image.specs.First.{or_else}
+use Rattle.def_image.specs.First.{first_some}
 use Rattle.law_image.proofs.Walks.{first_both, or_later}
 use Rattle.ct_image_parts.specs.Places.{compartment_bytes, library_bytes, compartments_place, libraries_place, threads_place}
 use Rattle.ct_image_parts.proofs.Sized.{compartment_is, library_is, compartments_there, libraries_there, threads_there}
@@ -37,7 +37,7 @@ libraries_same : (asked : ℕ → List CodeRow → CodeRow → List Check) (p : 
 libraries_same asked p =
     ap (λ k. walked asked code_size k [] p.libraries) (libraries_there p) ∙ resized asked code_size library_bytes library_is (libraries_place p) [] p.libraries
 
-pub indexes_first : (p : PartsRow) → first (index_checks p) ≡ or_else (first (owners_walk (compartment_asked p) p)) (or_else (first (libraries_walk (library_asked p) p)) (first (threads_walk p)))
+pub indexes_first : (p : PartsRow) → first (index_checks p) ≡ first_some (first (owners_walk (compartment_asked p) p)) (first_some (first (libraries_walk (library_asked p) p)) (first (threads_walk p)))
 unfolding index_checks
 indexes_first p =
     let c = walked (compartment_asked p) part_size (compartments_at (raw_of p)) [] p.compartments in
@@ -46,14 +46,14 @@ indexes_first p =
     let ec : first c ≡ first (owners_walk (compartment_asked p) p) = ap first (owners_same (compartment_asked p) p) in
     let el : first l ≡ first (libraries_walk (library_asked p) p) = ap first (libraries_same (library_asked p) p) in
     let et : first t ≡ first (threads_walk p) = ap (λ k. first (walked (thread_asked p) (λ t. THREAD) k [] p.threads)) (threads_there p) in
-    first_both (c ++ l) t ∙ ap (λ o. or_else o (first t)) (first_both c l) ∙ or_later (first c) (first l) (first t)
-    ∙ ap (λ o. or_else o (or_else (first l) (first t))) ec ∙ ap (λ o. or_else (first (owners_walk (compartment_asked p) p)) (or_else o (first t))) el
-    ∙ ap (λ o. or_else (first (owners_walk (compartment_asked p) p)) (or_else (first (libraries_walk (library_asked p) p)) o)) et
+    first_both (c ++ l) t ∙ ap (λ o. first_some o (first t)) (first_both c l) ∙ or_later (first c) (first l) (first t)
+    ∙ ap (λ o. first_some o (first_some (first l) (first t))) ec ∙ ap (λ o. first_some (first (owners_walk (compartment_asked p) p)) (first_some o (first t))) el
+    ∙ ap (λ o. first_some (first (owners_walk (compartment_asked p) p)) (first_some (first (libraries_walk (library_asked p) p)) o)) et
 
-pub rights_first : (p : PartsRow) → first (right_checks p) ≡ or_else (first (owners_walk compartment_rights p)) (first (libraries_walk library_rights p))
+pub rights_first : (p : PartsRow) → first (right_checks p) ≡ first_some (first (owners_walk compartment_rights p)) (first (libraries_walk library_rights p))
 unfolding right_checks
 rights_first p =
     let c = walked compartment_rights part_size (compartments_at (raw_of p)) [] p.compartments in
     let l = walked library_rights code_size (libraries_at (raw_of p)) [] p.libraries in
-    first_both c l ∙ ap (λ o. or_else o (first l)) (ap first (owners_same compartment_rights p))
-    ∙ ap (λ o. or_else (first (owners_walk compartment_rights p)) o) (ap first (libraries_same library_rights p))
+    first_both c l ∙ ap (λ o. first_some o (first l)) (ap first (owners_same compartment_rights p))
+    ∙ ap (λ o. first_some (first (owners_walk compartment_rights p)) o) (ap first (libraries_same library_rights p))

@@ -13,11 +13,11 @@ use Rattle.def_image.specs.declared.SlotKind.{SlotKind}
 use Rattle.def_image.specs.declared.SlotKind.TheVariants.{Service, Device, Shared, Sealed, Call, Library, Quota, Key}
 use Rattle.def_image.specs.Raw.{RawDevice, RawShared, RawSealed, RawCode, RawCompartment, RawThread, RawImage}
 use Rattle.def_image.specs.Parts.{SlotRow, GateRow, SharedRow, SealedRow, CodeRow, CompartmentRow, ThreadRow, PartsRow}
-use Rattle.def_image.specs.Limits.{name_of, byte_at, number_at}
+use Rattle.def_image.specs.Limits.{name_in_field, byte_in, number_field}
 
 -- a name as a text
 abbrev pub text_of : List ℕ → List ℕ
-text_of field = flat_map encode_utf8 (name_of field)
+text_of field = flat_map encode_utf8 (name_in_field field)
 
 -- ---- choices, by their bytes
 
@@ -34,20 +34,20 @@ posture_of n = if n == 1 then Inherit else if n == 2 then Disabled else Enabled
 
 abbrev pub import_of : List ℕ → ImportRow
 import_of row = record {
-  kind = kind_of (byte_at row 0);
-  rights = byte_at row 1;
-  first = number_at row 4;
-  second = number_at row 8;
+  kind = kind_of (byte_in row 0);
+  rights = byte_in row 1;
+  first = number_field row 4;
+  second = number_field row 8;
 }
 
 abbrev pub export_of : List ℕ → ExportRow
 export_of row = record {
-  offset = number_at row 0;
-  stack = number_at row 4;
-  args = byte_at row 8;
-  posture = posture_of (byte_at row 9);
-  capabilities = byte_at row 10 == 1;
-  entry = number_at row 12;
+  offset = number_field row 0;
+  stack = number_field row 4;
+  args = byte_in row 8;
+  posture = posture_of (byte_in row 9);
+  capabilities = byte_in row 10 == 1;
+  entry = number_field row 12;
 }
 
 abbrev pub slot_of : RawEntry → SlotRow

@@ -55,7 +55,7 @@ fn posture_of(byte: u8) -> Mode
 /// The number at an offset of a row.
 fn number_at(row: &[u8; 16], at: usize) -> u32
     requires { at + 4 ≤ 16 }
-    ensures { result ≡ limits.number_at row.now at }
+    ensures { result ≡ limits.number_field row.now at }
 {
     u32::from_le_bytes([row[at], row[at + 1], row[at + 2], row[at + 3]])
 }

@@ -2,7 +2,7 @@
 
 ghost use Rattle.std.specs.Prelude.{◌≡◌, ◌<◌, ◌⊎◌, IfSome};
 ghost use Rattle.def_instr.specs.Table.{EncodesTo};
-ghost use Rattle.def_instr.specs.Reading.{IsCut, joined, capability_of, unnumbered_of, one_source_of, two_source_of};
+ghost use Rattle.def_instr.specs.Reading.{IsCut, word_of_fields, capability_of, unnumbered_of, one_source_of, two_source_of};
 
 use crate::fields::{low_immediate, signed_immediate, two_small};
 use def_instr::{Fields, Instr};
@@ -12,7 +12,7 @@ pub(crate) fn capability(f: Fields) -> Option<Instr>
     requires cut { IsCut f }
     requires opcode { f.opcode ≡ 0x5B }
     ensures exact { result ≡ capability_of f }
-    ensures sound { IfSome result (λ i. EncodesTo i (joined f)) }
+    ensures sound { IfSome result (λ i. EncodesTo i (word_of_fields f)) }
 {
     if !two_small(f.rd, f.rs1) {
         return None;
@@ -42,7 +42,7 @@ fn unnumbered(f: Fields) -> Option<Instr>
     requires rd { f.rd < 16 }
     requires rs1 { f.rs1 < 16 }
     ensures exact { result ≡ unnumbered_of f }
-    ensures sound { IfSome result (λ i. EncodesTo i (joined f)) }
+    ensures sound { IfSome result (λ i. EncodesTo i (word_of_fields f)) }
 {
     match f.funct7 {
         0x7F => one_source(f),
@@ -69,7 +69,7 @@ fn one_source(f: Fields) -> Option<Instr>
     requires rd { f.rd < 16 }
     requires rs1 { f.rs1 < 16 }
     ensures exact { result ≡ one_source_of f }
-    ensures sound { IfSome result (λ i. EncodesTo i (joined f)) }
+    ensures sound { IfSome result (λ i. EncodesTo i (word_of_fields f)) }
 {
     let (rd, rs1) = (f.rd, f.rs1);
     match f.rs2 {
@@ -98,7 +98,7 @@ fn two_source(f: Fields) -> Option<Instr>
     requires rs1 { f.rs1 < 16 }
     requires rs2 { f.rs2 < 16 }
     ensures exact { result ≡ two_source_of f }
-    ensures sound { IfSome result (λ i. EncodesTo i (joined f)) }
+    ensures sound { IfSome result (λ i. EncodesTo i (word_of_fields f)) }
 {
     let (rd, rs1, rs2) = (f.rd, f.rs1, f.rs2);
     match f.funct7 {

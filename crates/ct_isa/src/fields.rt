@@ -3,7 +3,7 @@
 
 ghost use Rattle.std.specs.Prelude.{◌≡◌, ◌+◌, ◌*◌, ◌/◌, ◌%◌, ◌^◌, ◌<◌, ◌≤◌};
 ghost use Rattle.def_instr.specs.Table.{IsSigned, IsOffset};
-ghost use Rattle.def_instr.specs.Reading.{IsCut, joined};
+ghost use Rattle.def_instr.specs.Reading.{IsCut, word_of_fields};
 ghost use Rattle.def_instr.specs.Reading as reading;
 
 use ct_bits::{extended, field};
@@ -13,7 +13,7 @@ use def_instr::Fields;
 pub(crate) fn cut(word: u32) -> Fields
     ensures value { result ≡ reading.cut_of word }
     ensures cut { IsCut result }
-    ensures whole { word ≡ joined result }
+    ensures whole { word ≡ word_of_fields result }
 {
     Fields {
         opcode: word % (1 << 7),

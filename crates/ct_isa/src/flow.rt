@@ -2,7 +2,7 @@
 
 ghost use Rattle.std.specs.Prelude.{◌≡◌, ◌<◌, ◌⊎◌, IfSome};
 ghost use Rattle.def_instr.specs.Table.{EncodesTo};
-ghost use Rattle.def_instr.specs.Reading.{IsCut, joined, branch_of, jump_of, register_jump_of};
+ghost use Rattle.def_instr.specs.Reading.{IsCut, word_of_fields, branch_of, jump_of, register_jump_of};
 
 use crate::fields::{branch_offset, jump_offset, signed_immediate, two_small};
 use def_instr::{Fields, Instr};
@@ -12,7 +12,7 @@ pub(crate) fn branch(f: Fields) -> Option<Instr>
     requires cut { IsCut f }
     requires opcode { f.opcode ≡ 0x63 }
     ensures exact { result ≡ branch_of f }
-    ensures sound { IfSome result (λ i. EncodesTo i (joined f)) }
+    ensures sound { IfSome result (λ i. EncodesTo i (word_of_fields f)) }
 {
     if !two_small(f.rs1, f.rs2) {
         return None;
@@ -34,7 +34,7 @@ pub(crate) fn jump(f: Fields) -> Option<Instr>
     requires cut { IsCut f }
     requires opcode { f.opcode ≡ 0x6F }
     ensures exact { result ≡ jump_of f }
-    ensures sound { IfSome result (λ i. EncodesTo i (joined f)) }
+    ensures sound { IfSome result (λ i. EncodesTo i (word_of_fields f)) }
 {
     if f.rd < 16 {
         return Some(Instr::Jal {
@@ -50,7 +50,7 @@ pub(crate) fn register_jump(f: Fields) -> Option<Instr>
     requires cut { IsCut f }
     requires opcode { f.opcode ≡ 0x67 }
     ensures exact { result ≡ register_jump_of f }
-    ensures sound { IfSome result (λ i. EncodesTo i (joined f)) }
+    ensures sound { IfSome result (λ i. EncodesTo i (word_of_fields f)) }
 {
     if f.funct3 == 0 && two_small(f.rd, f.rs1) {
         return Some(Instr::CJalr {

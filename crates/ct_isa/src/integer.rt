@@ -2,7 +2,7 @@
 
 ghost use Rattle.std.specs.Prelude.{◌≡◌, ◌<◌, ◌⊎◌, IfSome};
 ghost use Rattle.def_instr.specs.Table.{EncodesTo};
-ghost use Rattle.def_instr.specs.Reading.{IsCut, joined, immediate_of, shift_of, register_of, base_of, alternate_of, multiply_of};
+ghost use Rattle.def_instr.specs.Reading.{IsCut, word_of_fields, immediate_of, shift_of, register_instruction, base_instruction, alternate_of, multiply_of};
 
 use crate::fields::{signed_immediate, three_small, two_small};
 use def_instr::{Fields, Instr};
@@ -12,7 +12,7 @@ pub(crate) fn immediate(f: Fields) -> Option<Instr>
     requires cut { IsCut f }
     requires opcode { f.opcode ≡ 0x13 }
     ensures exact { result ≡ immediate_of f }
-    ensures sound { IfSome result (λ i. EncodesTo i (joined f)) }
+    ensures sound { IfSome result (λ i. EncodesTo i (word_of_fields f)) }
 {
     if !two_small(f.rd, f.rs1) {
         return None;
@@ -36,7 +36,7 @@ fn shift(f: Fields) -> Option<Instr>
     requires rd { f.rd < 16 }
     requires rs1 { f.rs1 < 16 }
     ensures exact { result ≡ shift_of f }
-    ensures sound { IfSome result (λ i. EncodesTo i (joined f)) }
+    ensures sound { IfSome result (λ i. EncodesTo i (word_of_fields f)) }
 {
     let (rd, rs1, amount) = (f.rd, f.rs1, f.rs2);
     match (f.funct3, f.funct7) {
@@ -51,8 +51,8 @@ fn shift(f: Fields) -> Option<Instr>
 pub(crate) fn register(f: Fields) -> Option<Instr>
     requires cut { IsCut f }
     requires opcode { f.opcode ≡ 0x33 }
-    ensures exact { result ≡ register_of f }
-    ensures sound { IfSome result (λ i. EncodesTo i (joined f)) }
+    ensures exact { result ≡ register_instruction f }
+    ensures sound { IfSome result (λ i. EncodesTo i (word_of_fields f)) }
 {
     if !three_small(f.rd, f.rs1, f.rs2) {
         return None;
@@ -73,8 +73,8 @@ fn base(f: Fields) -> Option<Instr>
     requires rd { f.rd < 16 }
     requires rs1 { f.rs1 < 16 }
     requires rs2 { f.rs2 < 16 }
-    ensures exact { result ≡ base_of f }
-    ensures sound { IfSome result (λ i. EncodesTo i (joined f)) }
+    ensures exact { result ≡ base_instruction f }
+    ensures sound { IfSome result (λ i. EncodesTo i (word_of_fields f)) }
 {
     let (rd, rs1, rs2) = (f.rd, f.rs1, f.rs2);
     match f.funct3 {
@@ -99,7 +99,7 @@ fn alternate(f: Fields) -> Option<Instr>
     requires rs1 { f.rs1 < 16 }
     requires rs2 { f.rs2 < 16 }
     ensures exact { result ≡ alternate_of f }
-    ensures sound { IfSome result (λ i. EncodesTo i (joined f)) }
+    ensures sound { IfSome result (λ i. EncodesTo i (word_of_fields f)) }
 {
     let (rd, rs1, rs2) = (f.rd, f.rs1, f.rs2);
     match f.funct3 {
@@ -118,7 +118,7 @@ fn multiply(f: Fields) -> Option<Instr>
     requires rs1 { f.rs1 < 16 }
     requires rs2 { f.rs2 < 16 }
     ensures exact { result ≡ multiply_of f }
-    ensures sound { IfSome result (λ i. EncodesTo i (joined f)) }
+    ensures sound { IfSome result (λ i. EncodesTo i (word_of_fields f)) }
 {
     let (rd, rs1, rs2) = (f.rd, f.rs1, f.rs2);
     match f.funct3 {

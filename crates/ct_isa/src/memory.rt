@@ -2,7 +2,7 @@
 
 ghost use Rattle.std.specs.Prelude.{◌≡◌, ◌<◌, ◌⊎◌, IfSome};
 ghost use Rattle.def_instr.specs.Table.{EncodesTo};
-ghost use Rattle.def_instr.specs.Reading.{IsCut, joined, load_of, store_of};
+ghost use Rattle.def_instr.specs.Reading.{IsCut, word_of_fields, load_instruction, store_instruction};
 
 use crate::fields::{signed_immediate, store_immediate, two_small};
 use def_instr::{Fields, Instr};
@@ -11,8 +11,8 @@ use def_instr::{Fields, Instr};
 pub(crate) fn load(f: Fields) -> Option<Instr>
     requires cut { IsCut f }
     requires opcode { f.opcode ≡ 0x03 }
-    ensures exact { result ≡ load_of f }
-    ensures sound { IfSome result (λ i. EncodesTo i (joined f)) }
+    ensures exact { result ≡ load_instruction f }
+    ensures sound { IfSome result (λ i. EncodesTo i (word_of_fields f)) }
 {
     if !two_small(f.rd, f.rs1) {
         return None;
@@ -33,8 +33,8 @@ pub(crate) fn load(f: Fields) -> Option<Instr>
 pub(crate) fn store(f: Fields) -> Option<Instr>
     requires cut { IsCut f }
     requires opcode { f.opcode ≡ 0x23 }
-    ensures exact { result ≡ store_of f }
-    ensures sound { IfSome result (λ i. EncodesTo i (joined f)) }
+    ensures exact { result ≡ store_instruction f }
+    ensures sound { IfSome result (λ i. EncodesTo i (word_of_fields f)) }
 {
     if !two_small(f.rs1, f.rs2) {
         return None;

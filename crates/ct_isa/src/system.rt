@@ -2,7 +2,7 @@
 
 ghost use Rattle.std.specs.Prelude.{◌≡◌, ◌<◌, ◌⊎◌, IfSome};
 ghost use Rattle.def_instr.specs.Table.{EncodesTo};
-ghost use Rattle.def_instr.specs.Reading.{IsCut, joined, upper_of, fence_of, call_of, system_of};
+ghost use Rattle.def_instr.specs.Reading.{IsCut, word_of_fields, upper_of, fence_of, call_of, system_of};
 
 use crate::fields::{low_immediate, signed_immediate, upper_immediate};
 use def_instr::{Fields, Instr};
@@ -12,7 +12,7 @@ pub(crate) fn upper(f: Fields) -> Option<Instr>
     requires cut { IsCut f }
     requires opcode { (f.opcode ≡ 0x37) ⊎ (f.opcode ≡ 0x17) ⊎ (f.opcode ≡ 0x7B) }
     ensures exact { result ≡ upper_of f }
-    ensures sound { IfSome result (λ i. EncodesTo i (joined f)) }
+    ensures sound { IfSome result (λ i. EncodesTo i (word_of_fields f)) }
 {
     if f.rd >= 16 {
         return None;
@@ -30,7 +30,7 @@ pub(crate) fn fence(f: Fields) -> Option<Instr>
     requires cut { IsCut f }
     requires opcode { f.opcode ≡ 0x0F }
     ensures exact { result ≡ fence_of f }
-    ensures sound { IfSome result (λ i. EncodesTo i (joined f)) }
+    ensures sound { IfSome result (λ i. EncodesTo i (word_of_fields f)) }
 {
     if f.funct3 == 0 && f.rd == 0 && f.rs1 == 0 {
         return Some(Instr::Fence {
@@ -46,7 +46,7 @@ fn call(f: Fields) -> Option<Instr>
     requires opcode { f.opcode ≡ 0x73 }
     requires funct3 { f.funct3 ≡ 0 }
     ensures exact { result ≡ call_of f }
-    ensures sound { IfSome result (λ i. EncodesTo i (joined f)) }
+    ensures sound { IfSome result (λ i. EncodesTo i (word_of_fields f)) }
 {
     if f.rd != 0 || f.rs1 != 0 || f.funct7 != 0 {
         return None;
@@ -63,7 +63,7 @@ pub(crate) fn system(f: Fields) -> Option<Instr>
     requires cut { IsCut f }
     requires opcode { f.opcode ≡ 0x73 }
     ensures exact { result ≡ system_of f }
-    ensures sound { IfSome result (λ i. EncodesTo i (joined f)) }
+    ensures sound { IfSome result (λ i. EncodesTo i (word_of_fields f)) }
 {
     match f.funct3 {
         0 => call(f),

@@ -3,7 +3,7 @@ use Rattle.std.proofs.Common.{ℕ, ◌+◌, ◌<◌, ◌≤◌, ◌≡◌, List,
 use Rattle.std.proofs.lemmas.List.{append-nil}
 use Rattle.std.proofs.Math.ListN.{drop_of_length-le}
 use Rattle.def_layout.specs.declared.Region.{Region}
-use Rattle.def_layout.specs.Placement.{region_base, region_length, region, placed, last_end}
+use Rattle.def_layout.specs.Placement.{region_base, region_length, region_from, placed, last_end}
 use Rattle.def_layout.specs.Lies.{AreSmall}
 use Rattle.def_layout.specs.declared.TheConstants.{MOST_REGION}
 use Rattle.law_layout.proofs.Placing.{next_end, last_cons, placed_cons, last_nil, placed_nil, grows}
@@ -27,9 +27,9 @@ ends_under end i total sizes lt same =
     subst (λ n. next_end end (get_or sizes i 0) ≤ n) after (grows (next_end end (get_or sizes i 0)) (drop (i + 1) sizes))
 
 pub placed_after : (front : List Region) (end i : ℕ) (sizes : List ℕ) (all : List Region) → i < length sizes → front ++ placed end (drop i sizes) ≡ all
-    → (front ++ region (region_base end (get_or sizes i 0)) (region_length (get_or sizes i 0)) ∷ []) ++ placed (next_end end (get_or sizes i 0)) (drop (i + 1) sizes) ≡ all
+    → (front ++ region_from (region_base end (get_or sizes i 0)) (region_length (get_or sizes i 0)) ∷ []) ++ placed (next_end end (get_or sizes i 0)) (drop (i + 1) sizes) ≡ all
 placed_after front end i sizes all lt told =
-    let one : placed end (drop i sizes) ≡ region (region_base end (get_or sizes i 0)) (region_length (get_or sizes i 0)) ∷ placed (next_end end (get_or sizes i 0)) (drop (i + 1) sizes) =
+    let one : placed end (drop i sizes) ≡ region_from (region_base end (get_or sizes i 0)) (region_length (get_or sizes i 0)) ∷ placed (next_end end (get_or sizes i 0)) (drop (i + 1) sizes) =
     ap (λ (ns : List ℕ). placed end ns) (rest_is sizes i lt) ∙ placed_cons end (get_or sizes i 0) (drop (i + 1) sizes) in
     simp append_assoc (sym (ap (λ (rs : List Region). front ++ rs) one) ∙ told)
 

@@ -7,10 +7,10 @@ use Rattle.def_profile.specs.declared.limits.TheConstants.{MOST_FRAMES, MOST_THR
 use Rattle.def_layout.specs.Placement.{needed}
 use Rattle.def_image.specs.Sizes.{sum_of}
 use Rattle.def_desc.specs.Lawful.{IsLawful, IsLawfulCompartment, IsLawfulLibrary, IsLawfulExport, IsLawfulShared, IsLawfulSealed, IsLawfulThread}
-use Rattle.def_desc.specs.Rows.{ExportRow, SharedRow, SealedRow, ThreadRow, CompartmentRow, LibraryRow, DescRow}
+use Rattle.def_desc.specs.Rows.{ExportRow, DescShared, DescSealed, DescThread, DescCompartment, LibraryRow, DescRow}
 use Rattle.def_link.specs.declared.LinkFault.TheVariants as fault
 use Rattle.law_image.proofs.Limited.{threads_most}
-use Rattle.def_link.specs.Linked.{compartment_sizes, library_code_size, area_size}
+use Rattle.def_link.specs.Linked.{compartment_sizes, library_code_size, saved_area_size}
 use Rattle.law_link.proofs.Lying.{shared_sizes, sealed_sizes, stack_sizes, trusted_size}
 use Rattle.law_link.proofs.Placings.{few_areas}
 use Rattle.ct_asm.specs.Labels.{Assembled}
@@ -23,7 +23,7 @@ use Rattle.ct_link.proofs.Ready.{no_room}
 
 -- ---- rows
 
-small_owner : (d : DescRow) (c : CompartmentRow) → IsLawfulCompartment d c → IsSmallOwner c
+small_owner : (d : DescRow) (c : DescCompartment) → IsLawfulCompartment d c → IsSmallOwner c
 small_owner d c h = record {
   globals = h.globals;
   imports = h.imports;
@@ -77,7 +77,7 @@ own_sizes d own = compartment_sizes (own_built d.compartments own)
 abbrev lent_sizes : DescRow → List Assembled → List ℕ
 lent_sizes d lent = map library_code_size (lent_built d.libraries lent)
 
-small_own : (cs : List CompartmentRow) (os : List Assembled) → AllByRecursion IsSmallOwner cs → AllByRecursion IsSized os → AllByRecursion IsSmall (compartment_sizes (own_built cs os))
+small_own : (cs : List DescCompartment) (os : List Assembled) → AllByRecursion IsSmallOwner cs → AllByRecursion IsSized os → AllByRecursion IsSmall (compartment_sizes (own_built cs os))
 unfolding IsSmall
 small_own [] os h k = tt
 small_own (c ∷ cs) [] h k = tt
@@ -101,8 +101,8 @@ small_lent (l ∷ ls) (o ∷ os) h k =
     let text = k.0.text in
     (omega (arith, imports, text), small_lent ls os h.1 k.1)
 
-pub frames_few : (d : DescRow) → IsLawful d → AllByRecursion (λ (t : ThreadRow). t.frames ≤ MOST_FRAMES) d.threads
-frames_few d law = all_so (IsLawfulThread d) (λ (t : ThreadRow). t.frames ≤ MOST_FRAMES) d.threads (λ t h. h.frames.1) law.thread
+pub frames_few : (d : DescRow) → IsLawful d → AllByRecursion (λ (t : DescThread). t.frames ≤ MOST_FRAMES) d.threads
+frames_few d law = all_so (IsLawfulThread d) (λ (t : DescThread). t.frames ≤ MOST_FRAMES) d.threads (λ t h. h.frames.1) law.thread
 
 pub threads_few : (d : DescRow) → IsLawful d → length d.threads ≤ MOST_THREADS_2
 threads_few d law =
@@ -110,7 +110,7 @@ threads_few d law =
     let most = threads_most d.version in
     omega (arith, few, most)
 
-pub areas_few : (d : DescRow) → IsLawful d → sum_of area_size d.threads ≤ 403456
+pub areas_few : (d : DescRow) → IsLawful d → sum_of saved_area_size d.threads ≤ 403456
 areas_few d law =
     let small = few_areas d.threads 64 (frames_few d law) (threads_few d law) in
     omega (arith, small)
@@ -126,16 +126,16 @@ small_all d own lent h =
     let areas = areas_few d law in
     let in_a = small_own d.compartments own (are_own d own lent h).rows h.own_sized in
     let in_b = small_lent d.libraries lent (are_lent d own lent h).rows h.lent_sized in
-    let in_s = all_mapped IsSmall (λ (s : SharedRow). s.size) d.shared (all_so IsLawfulShared (λ (y : SharedRow). y.size ≤ 2097152) d.shared (λ y w. let k = w.1 in omega (arith, k)) law.shared_object) in
-    let in_x = all_mapped IsSmall (λ (s : SealedRow). length s.bytes) d.sealed (all_so IsLawfulSealed (λ (y : SealedRow). length y.bytes ≤ 2097152) d.sealed (λ y w. let k = w.few.1 in omega (arith, k)) law.sealed_object) in
-    let in_t = all_mapped IsSmall (λ (t : ThreadRow). t.stack) d.threads (all_so (IsLawfulThread d) (λ (y : ThreadRow). y.stack ≤ 2097152) d.threads (λ y w. let k = w.stack.1 in omega (arith, k)) law.thread) in
+    let in_s = all_mapped IsSmall (λ (s : DescShared). s.size) d.shared (all_so IsLawfulShared (λ (y : DescShared). y.size ≤ 2097152) d.shared (λ y w. let k = w.1 in omega (arith, k)) law.shared_object) in
+    let in_x = all_mapped IsSmall (λ (s : DescSealed). length s.bytes) d.sealed (all_so IsLawfulSealed (λ (y : DescSealed). length y.bytes ≤ 2097152) d.sealed (λ y w. let k = w.few.1 in omega (arith, k)) law.sealed_object) in
+    let in_t = all_mapped IsSmall (λ (t : DescThread). t.stack) d.threads (all_so (IsLawfulThread d) (λ (y : DescThread). y.stack ≤ 2097152) d.threads (λ y w. let k = w.stack.1 in omega (arith, k)) law.thread) in
     let in_z : AllByRecursion IsSmall (trusted_size d ∷ []) = (omega (arith, areas), tt) in
     all_joined IsSmall (a ++ b ++ s ++ x ++ stack_sizes d) (trusted_size d ∷ [])
     (all_joined IsSmall (a ++ b ++ s ++ x) (stack_sizes d)
     (all_joined IsSmall (a ++ b ++ s) x
     (all_joined IsSmall (a ++ b) s (all_joined IsSmall a b in_a in_b) in_s) in_x) in_t) in_z
 
-own_count : (cs : List CompartmentRow) (os : List Assembled) → length cs ≡ length os → length (compartment_sizes (own_built cs os)) ≡ 3 * length cs
+own_count : (cs : List DescCompartment) (os : List Assembled) → length cs ≡ length os → length (compartment_sizes (own_built cs os)) ≡ 3 * length cs
 own_count [] os e = refl
 own_count (c ∷ cs) [] e = absurd (omega (arith, e))
 own_count (c ∷ cs) (o ∷ os) e = let rest = own_count cs os (omega (arith, e)) in omega (arith, rest)
@@ -154,9 +154,9 @@ few_all d own lent h =
     let b = lent_sizes d lent in
     let na = own_count d.compartments own (are_own d own lent h).each in
     let nb = lent_count d.libraries lent (are_lent d own lent h).each in
-    let ns = length-map d.shared (λ (s : SharedRow). s.size) in
-    let nx = length-map d.sealed (λ (s : SealedRow). length s.bytes) in
-    let nt = length-map d.threads (λ (t : ThreadRow). t.stack) in
+    let ns = length-map d.shared (λ (s : DescShared). s.size) in
+    let nx = length-map d.sealed (λ (s : DescSealed). length s.bytes) in
+    let nt = length-map d.threads (λ (t : DescThread). t.stack) in
     let l1 = length-append a b in
     let l2 = length-append (a ++ b) (shared_sizes d) in
     let l3 = length-append (a ++ b ++ shared_sizes d) (sealed_sizes d) in

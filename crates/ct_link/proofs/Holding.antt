@@ -6,9 +6,9 @@ use Rattle.std.proofs.Math.Path.{fun_ext}
 use Rattle.law_lists.proofs.Alls.{all_joined}
 use Rattle.def_profile.specs.declared.limits.TheConstants.{MOST_BYTES}
 use Rattle.def_desc.specs.Lawful.{IsLawfulCode, IsLawfulCompartment, IsLawfulLibrary}
-use Rattle.def_desc.specs.Rows.{CompartmentRow, LibraryRow, DescRow}
+use Rattle.def_desc.specs.Rows.{DescCompartment, LibraryRow, DescRow}
 use Rattle.def_link.specs.declared.LinkFault.{LinkFault}
-use Rattle.def_link.specs.Owners.{Unit as OwnerUnit, Built, units_of, compartment_unit, library_unit, numbered, unit_built, with_front, source_for, rest_of, all_built}
+use Rattle.def_link.specs.Owners.{Unit as OwnerUnit, Built, units_of, compartment_unit, library_unit, numbered, unit_built, built_before, source_for, rest_of, all_built}
 use Rattle.law_link.proofs.Texts.{IsText}
 use Rattle.law_link.proofs.Builts.{unit_sound}
 use Rattle.ct_asm.specs.Labels.{Assembled, label_named}
@@ -35,7 +35,7 @@ built_each [] sources bs e = let same : [] ≡ bs = cc in ap length (sym same)
 built_each (u ∷ us) sources bs e = by (unit_built u (source_for u.code.file sources)) (all_built us (rest_of u.code.file sources)) refl e
     (λ cs k. built_each us (rest_of u.code.file sources) cs k)
   where
-    by : (o : Result Built LinkFault) (r : Result (List Built) LinkFault) → all_built us (rest_of u.code.file sources) ≡ r → with_front o r ≡ Ok bs
+    by : (o : Result Built LinkFault) (r : Result (List Built) LinkFault) → all_built us (rest_of u.code.file sources) ≡ r → built_before o r ≡ Ok bs
         → ((cs : List Built) → all_built us (rest_of u.code.file sources) ≡ Ok cs → length cs ≡ length us) → length bs ≡ length (u ∷ us)
     by (Err f) r rest h so = absurd (let no : Err f ≡ Ok bs = h in cc)
     by (Ok b) (Err f) rest h so = absurd (let no : Err f ≡ Ok bs = h in cc)
@@ -56,7 +56,7 @@ built_texts (u ∷ us) sources bs h e = by (unit_built u (source_for u.code.file
     (λ cs k. built_texts us (rest_of u.code.file sources) cs h.1 k)
   where
     by : (o : Result Built LinkFault) → unit_built u (source_for u.code.file sources) ≡ o
-        → (r : Result (List Built) LinkFault) → all_built us (rest_of u.code.file sources) ≡ r → with_front o r ≡ Ok bs
+        → (r : Result (List Built) LinkFault) → all_built us (rest_of u.code.file sources) ≡ r → built_before o r ≡ Ok bs
         → ((cs : List Built) → all_built us (rest_of u.code.file sources) ≡ Ok cs → AreTexts cs) → AreTexts bs
     by (Err f) is r rest k so = absurd (let no : Err f ≡ Ok bs = k in cc)
     by (Ok b) is (Err f) rest k so = absurd (let no : Err f ≡ Ok bs = k in cc)
@@ -64,7 +64,7 @@ built_texts (u ∷ us) sources bs h e = by (unit_built u (source_for u.code.file
         let same : b ∷ cs ≡ bs = cc in
         subst AreTexts same ((unit_sound u (source_for u.code.file sources) b h.0 is).text, so cs rest)
 
-compartment_codes : (d : DescRow) (n : ℕ) (cs : List CompartmentRow) → AllByRecursion (IsLawfulCompartment d) cs → AllByRecursion (λ (u : OwnerUnit). IsLawfulCode u.code) (numbered compartment_unit n cs)
+compartment_codes : (d : DescRow) (n : ℕ) (cs : List DescCompartment) → AllByRecursion (IsLawfulCompartment d) cs → AllByRecursion (λ (u : OwnerUnit). IsLawfulCode u.code) (numbered compartment_unit n cs)
 compartment_codes d n [] h = tt
 compartment_codes d n (c ∷ cs) h = (h.0.code, compartment_codes d (n + 1) cs h.1)
 

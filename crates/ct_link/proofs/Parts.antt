@@ -4,7 +4,7 @@ use Rattle.std.proofs.Math.Nat.{mul-zero, mul-suc}
 use Rattle.def_layout.specs.declared.Region.{Region}
 use Rattle.def_image.specs.Parts.{SharedRow as SharedPart, SealedRow as SealedPart, CodeRow as CodePart, CompartmentRow as CompartmentPart, ThreadRow as ThreadPart}
 use Rattle.def_image.specs.Sizes.{sum_of}
-use Rattle.def_desc.specs.Rows.{SharedRow, SealedRow, ThreadRow, CompartmentRow, LibraryRow, DescRow}
+use Rattle.def_desc.specs.Rows.{DescShared, DescSealed, DescThread, DescCompartment, LibraryRow, DescRow}
 use Rattle.def_link.specs.Slots.{compartment_export_named}
 use Rattle.def_link.specs.Owners.{numbered}
 use Rattle.def_link.specs.Linked.{compartment_code_size, library_code_size, compartment_sizes, base_at, length_at, compartment_part, compartment_parts, library_part, library_parts, shared_parts, sealed_parts, thread_part, thread_parts}
@@ -14,16 +14,16 @@ use Rattle.ct_link.proofs.Places.{dropped}
 
 -- ---- objects and threads: the part at an index has the region there
 
-abbrev pub shared_of : Region → SharedRow → SharedPart
+abbrev pub shared_of : Region → DescShared → SharedPart
 shared_of r s = record { name = s.name; base = r.base; length = r.length }
 
-abbrev pub sealed_of : Region → SealedRow → SealedPart
+abbrev pub sealed_of : Region → DescSealed → SealedPart
 sealed_of r s = record { name = s.name; base = r.base; length = r.length; seal = s.seal; bytes = s.bytes }
 
-abbrev pub shared_in : List Region → ℕ → SharedRow → SharedPart
+abbrev pub shared_in : List Region → ℕ → DescShared → SharedPart
 shared_in regions at s = record { name = s.name; base = base_at (drop at regions) 0; length = length_at (drop at regions) 0 }
 
-abbrev pub sealed_in : List Region → ℕ → SealedRow → SealedPart
+abbrev pub sealed_in : List Region → ℕ → DescSealed → SealedPart
 sealed_in regions at s = record {
   name = s.name;
   base = base_at (drop at regions) 0;
@@ -32,20 +32,20 @@ sealed_in regions at s = record {
   bytes = s.bytes;
 }
 
-abbrev pub thread_in : DescRow → List Region → ℕ → ThreadRow → ThreadPart
+abbrev pub thread_in : DescRow → List Region → ℕ → DescThread → ThreadPart
 thread_in d regions at t = thread_part (drop at regions) (compartment_export_named d t.entry) t
 
-pub shared_all : (regions : List Region) (at : ℕ) (ss : List SharedRow) → numbered (shared_in regions) at ss ≡ shared_parts (drop at regions) ss
+pub shared_all : (regions : List Region) (at : ℕ) (ss : List DescShared) → numbered (shared_in regions) at ss ≡ shared_parts (drop at regions) ss
 unfolding shared_parts
 shared_all regions at [] = refl
 shared_all regions at (s ∷ ss) = ap (λ l. shared_in regions at s ∷ l) (shared_all regions (at + 1) ss ∙ ap (λ rs. shared_parts rs ss) (sym (dropped at 1 regions)))
 
-pub sealed_all : (regions : List Region) (at : ℕ) (ss : List SealedRow) → numbered (sealed_in regions) at ss ≡ sealed_parts (drop at regions) ss
+pub sealed_all : (regions : List Region) (at : ℕ) (ss : List DescSealed) → numbered (sealed_in regions) at ss ≡ sealed_parts (drop at regions) ss
 unfolding sealed_parts
 sealed_all regions at [] = refl
 sealed_all regions at (s ∷ ss) = ap (λ l. sealed_in regions at s ∷ l) (sealed_all regions (at + 1) ss ∙ ap (λ rs. sealed_parts rs ss) (sym (dropped at 1 regions)))
 
-pub thread_all : (d : DescRow) (regions : List Region) (at : ℕ) (ts : List ThreadRow) → numbered (thread_in d regions) at ts ≡ thread_parts d (drop at regions) ts
+pub thread_all : (d : DescRow) (regions : List Region) (at : ℕ) (ts : List DescThread) → numbered (thread_in d regions) at ts ≡ thread_parts d (drop at regions) ts
 unfolding thread_parts
 thread_all d regions at [] = refl
 thread_all d regions at (t ∷ ts) = ap (λ l. thread_in d regions at t ∷ l) (thread_all d regions (at + 1) ts ∙ ap (λ rs. thread_parts d rs ts) (sym (dropped at 1 regions)))
@@ -90,10 +90,10 @@ pairs_pushed f size step entry at xs os k index number place d x p o front old m
 
 -- ---- parts
 
-abbrev own_in : DescRow → List Region → ℕ → ℕ → CompartmentRow → Assembled → List CompartmentPart
+abbrev own_in : DescRow → List Region → ℕ → ℕ → DescCompartment → Assembled → List CompartmentPart
 own_in d regions n at c o = compartment_part d n (drop at regions) (with_object c o) ∷ []
 
-own_pairs : (d : DescRow) (regions : List Region) (entry at : ℕ) (cs : List CompartmentRow) (os : List Assembled)
+own_pairs : (d : DescRow) (regions : List Region) (entry at : ℕ) (cs : List DescCompartment) (os : List Assembled)
     → compartment_parts d entry (drop at regions) (own_built cs os) ≡ pairs (own_in d regions) row_entries 3 entry at cs os
 unfolding compartment_parts
 own_pairs d regions entry at [] os = refl
@@ -102,7 +102,7 @@ own_pairs d regions entry at (c ∷ cs) (o ∷ os) =
     ap (λ l. compartment_part d entry (drop at regions) (with_object c o) ∷ l)
     (ap (λ rs. compartment_parts d (entry + row_entries c) rs (own_built cs os)) (dropped at 3 regions) ∙ own_pairs d regions (entry + row_entries c) (at + 3) cs os)
 
-pub own_part_pushed : (d : DescRow) (regions : List Region) (cs : List CompartmentRow) (os : List Assembled) (k index at entry : ℕ) (dc x : CompartmentRow) (dp o : Assembled) (old new : List CompartmentPart) (y : CompartmentPart)
+pub own_part_pushed : (d : DescRow) (regions : List Region) (cs : List DescCompartment) (os : List Assembled) (k index at entry : ℕ) (dc x : DescCompartment) (dp o : Assembled) (old new : List CompartmentPart) (y : CompartmentPart)
     → index ≡ k → at ≡ 3 * k → entry ≡ 1 + sum_of row_entries (take k cs) → old ≡ compartment_parts d 1 regions (own_built (take k cs) (take k os))
     → k < length cs → length cs ≡ length os → x ≡ get_or cs k dc → o ≡ get_or os index dp → y ≡ compartment_part d entry (drop at regions) (with_object x o) → new ≡ old ++ y ∷ []
     → new ≡ compartment_parts d 1 regions (own_built (take (k + 1) cs) (take (k + 1) os))
@@ -134,15 +134,15 @@ lent_part_pushed d regions entry first ls os k index at number dl x dp o old new
 
 -- ---- sizes, which ask for no entries and no places
 
-abbrev own_size : ℕ → ℕ → CompartmentRow → Assembled → List ℕ
+abbrev own_size : ℕ → ℕ → DescCompartment → Assembled → List ℕ
 own_size n at c o = compartment_code_size (with_object c o) ∷ (16 + 16 * length c.exports) ∷ max c.globals (length o.init) ∷ []
 
-own_size_pairs : (cs : List CompartmentRow) (os : List Assembled) → compartment_sizes (own_built cs os) ≡ pairs own_size (λ c. 0) 0 0 0 cs os
+own_size_pairs : (cs : List DescCompartment) (os : List Assembled) → compartment_sizes (own_built cs os) ≡ pairs own_size (λ c. 0) 0 0 0 cs os
 own_size_pairs [] os = refl
 own_size_pairs (c ∷ cs) [] = refl
 own_size_pairs (c ∷ cs) (o ∷ os) = ap (λ l. own_size 0 0 c o ++ l) (own_size_pairs cs os)
 
-pub own_pushed : (cs : List CompartmentRow) (os : List Assembled) (k index : ℕ) (dc x : CompartmentRow) (dp o : Assembled) (front old one two new : List ℕ) (a b e : ℕ)
+pub own_pushed : (cs : List DescCompartment) (os : List Assembled) (k index : ℕ) (dc x : DescCompartment) (dp o : Assembled) (front old one two new : List ℕ) (a b e : ℕ)
     → (index ≡ k) × (old ≡ front ++ compartment_sizes (own_built (take k cs) (take k os))) → k < length cs → length cs ≡ length os → x ≡ get_or cs k dc → o ≡ get_or os index dp
     → a ≡ compartment_code_size (with_object x o) → b ≡ 16 + 16 * length x.exports → e ≡ max x.globals (length o.init)
     → one ≡ old ++ a ∷ [] → two ≡ one ++ b ∷ [] → new ≡ two ++ e ∷ []
@@ -153,7 +153,7 @@ own_pushed cs os k index dc x dp o front old one two new a b e h low each is at 
     ∙ ap (λ l. l ++ e ∷ []) (append_assoc old (a ∷ []) (b ∷ [])) ∙ append_assoc old (a ∷ b ∷ []) (e ∷ []) in
     let made : three ≡ own_size 0 0 x o = ap₂ (λ m n. m ∷ n ∷ e ∷ []) code table ∙ ap (λ n. compartment_code_size (with_object x o) ∷ (16 + 16 * length x.exports) ∷ n ∷ []) globals in (
       ap (λ n. n + 1) h.0,
-      pairs_pushed own_size (λ c. 0) 0 0 0 cs os k index (0 + sum_of (λ (c : CompartmentRow). 0) (take k cs)) (0 + 0 * k) dc x dp o front old three new h.0 refl refl
+      pairs_pushed own_size (λ c. 0) 0 0 0 cs os k index (0 + sum_of (λ (c : DescCompartment). 0) (take k cs)) (0 + 0 * k) dc x dp o front old three new h.0 refl refl
           (h.1 ∙ ap (λ l. front ++ l) (own_size_pairs (take k cs) (take k os))) low each is at made all
           ∙ ap (λ l. front ++ l) (sym (own_size_pairs (take (k + 1) cs) (take (k + 1) os))),
     )

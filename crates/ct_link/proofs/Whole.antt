@@ -2,11 +2,11 @@
 use Rattle.std.proofs.Common.{ℕ, ◌≡◌, ◌+◌, ◌*◌, ◌<◌, List, [], ◌∷◌, length, drop, get_or, refl, sym, ap, ap₂, ◌∙◌, arith, add-zero}
 use Rattle.std.proofs.lemmas.List.{get_or-drop}
 use Rattle.def_layout.specs.declared.Region.{Region}
-use Rattle.def_layout.specs.Placement.{region}
+use Rattle.def_layout.specs.Placement.{region_from}
 use Rattle.def_image.specs.Parts.{PartsRow}
 use Rattle.def_image.specs.Sizes.{sum_of}
-use Rattle.def_desc.specs.Rows.{CompartmentRow, LibraryRow, DescRow}
-use Rattle.def_link.specs.Linked.{compartment_entries, base_at, compartment_parts, library_parts, shared_parts, sealed_parts, thread_parts, parts_of}
+use Rattle.def_desc.specs.Rows.{DescCompartment, LibraryRow, DescRow}
+use Rattle.def_link.specs.Linked.{built_compartment_entries, base_at, compartment_parts, library_parts, shared_parts, sealed_parts, thread_parts, parts_of}
 use Rattle.ct_asm.specs.Labels.{Assembled}
 use Rattle.ct_link.specs.declared.laid.Starts.{Starts}
 use Rattle.ct_link.specs.Laid.{parts_with, AreObjects}
@@ -14,7 +14,7 @@ use Rattle.ct_link.specs.Rows.{own_built, lent_built, row_entries}
 use Rattle.ct_link.specs.Starting.{AreSmallRows, AreStarts, AreFewStarts, parts_at}
 use Rattle.ct_link.proofs.Bounds.{are_own, are_lent, threads_few}
 
-own_length : (cs : List CompartmentRow) (os : List Assembled) → length cs ≡ length os → length (own_built cs os) ≡ length cs
+own_length : (cs : List DescCompartment) (os : List Assembled) → length cs ≡ length os → length (own_built cs os) ≡ length cs
 own_length [] os e = refl
 own_length (c ∷ cs) [] e = absurd (omega (arith, e))
 own_length (c ∷ cs) (o ∷ os) e = let rest = own_length cs os (omega (arith, e)) in omega (arith, rest)
@@ -24,7 +24,7 @@ lent_length [] os e = refl
 lent_length (l ∷ ls) [] e = absurd (omega (arith, e))
 lent_length (l ∷ ls) (o ∷ os) e = let rest = lent_length ls os (omega (arith, e)) in omega (arith, rest)
 
-own_entries : (cs : List CompartmentRow) (os : List Assembled) → length cs ≡ length os → sum_of compartment_entries (own_built cs os) ≡ sum_of row_entries cs
+own_entries : (cs : List DescCompartment) (os : List Assembled) → length cs ≡ length os → sum_of built_compartment_entries (own_built cs os) ≡ sum_of row_entries cs
 own_entries [] os e = refl
 own_entries (c ∷ cs) [] e = absurd (omega (arith, e))
 own_entries (c ∷ cs) (o ∷ os) e = ap (λ n. row_entries c + n) (own_entries cs os (omega (arith, e)))
@@ -82,9 +82,9 @@ parts_made d own lent regions heap s p h k is =
     let sealed : s.sealed ≡ 3 * length cs + length ls + length d.shared = omega (arith, x, shared) in
     let threads : s.threads ≡ 3 * length cs + length ls + length d.shared + length d.sealed = omega (arith, t, sealed) in
     let trusted : s.trusted ≡ 3 * length cs + length ls + length d.shared + length d.sealed + length d.threads = omega (arith, z, threads) in
-    let entry : s.entry ≡ 1 + sum_of compartment_entries cs = omega (arith, first, e) in
+    let entry : s.entry ≡ 1 + sum_of built_compartment_entries cs = omega (arith, first, e) in
     let base : base_at (drop s.trusted regions) 0 ≡ base_at regions (3 * length cs + length ls + length d.shared + length d.sealed + length d.threads) =
-    ap (λ (r : Region). r.base) (get_or-drop s.trusted regions 0 (region 0 0) ∙ ap (λ k. get_or regions k (region 0 0)) (add-zero s.trusted ∙ trusted)) in
+    ap (λ (r : Region). r.base) (get_or-drop s.trusted regions 0 (region_from 0 0) ∙ ap (λ k. get_or regions k (region_from 0 0)) (add-zero s.trusted ∙ trusted)) in
     is ∙ (λ i. record {
       version = d.version;
       sweep = d.sweep;

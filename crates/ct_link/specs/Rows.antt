@@ -4,8 +4,8 @@ use Rattle.std.specs.List.{AllByRecursion}
 use Rattle.def_profile.specs.declared.limits.TheConstants as most
 use Rattle.def_layout.specs.declared.Region.{Region}
 use Rattle.def_image.specs.Parts.{CodeRow as CodePart}
-use Rattle.def_desc.specs.Rows.{ExportRow, CompartmentRow, LibraryRow, DescRow}
-use Rattle.def_link.specs.Slots.{compartment_slots, compartment_gates}
+use Rattle.def_desc.specs.Rows.{ExportRow, DescCompartment, LibraryRow, DescRow}
+use Rattle.def_link.specs.Slots.{compartment_slots, compartment_gate_rows}
 use Rattle.def_link.specs.Linked.{BuiltCompartment, BuiltLibrary, compartments_with, libraries_with, compartment_slot_count}
 use Rattle.ct_asm.specs.Labels.{Assembled}
 use Rattle.ct_link_objects.specs.Objects.{built_of}
@@ -17,20 +17,20 @@ pub record IsSized (o : Assembled) : Type 0 where
   pub initial : length o.init ≤ most.MOST_BYTES
 
 -- owners with the objects of their code
-abbrev pub own_built : List CompartmentRow → List Assembled → List BuiltCompartment
+abbrev pub own_built : List DescCompartment → List Assembled → List BuiltCompartment
 own_built cs os = compartments_with cs (map built_of os)
 
 abbrev pub lent_built : List LibraryRow → List Assembled → List BuiltLibrary
 lent_built ls os = libraries_with ls (map built_of os)
 
-abbrev pub with_object : CompartmentRow → Assembled → BuiltCompartment
+abbrev pub with_object : DescCompartment → Assembled → BuiltCompartment
 with_object c o = record { row = c; built = built_of o }
 
 abbrev pub library_with_object : LibraryRow → Assembled → BuiltLibrary
 library_with_object l o = record { row = l; built = built_of o }
 
 -- rows whose lists and numbers are within their limits
-pub record IsSmallOwner (c : CompartmentRow) : Type 0 where
+pub record IsSmallOwner (c : DescCompartment) : Type 0 where
   pub globals : c.globals ≤ most.MOST_BYTES
   pub imports : length c.imports ≤ most.MOST_IMPORTS
   pub quotas : length c.quotas ≤ most.MOST_QUOTAS
@@ -44,7 +44,7 @@ pub record IsSmallLibrary (l : LibraryRow) : Type 0 where
   pub exports : length l.exports ≤ most.MOST_EXPORTS
 
 -- compartments, each with its object
-pub record AreOwn (cs : List CompartmentRow) (os : List Assembled) : Type 0 where
+pub record AreOwn (cs : List DescCompartment) (os : List Assembled) : Type 0 where
   pub rows : AllByRecursion IsSmallOwner cs
   pub objects : AllByRecursion IsSized os
   pub each : length cs ≡ length os
@@ -58,7 +58,7 @@ pub record AreLent (ls : List LibraryRow) (os : List Assembled) : Type 0 where
   pub few : length ls ≤ most.MOST_LIBRARIES
 
 -- how many entries a compartment's row has: code, globals, slots, exports
-abbrev pub row_entries : CompartmentRow → ℕ
+abbrev pub row_entries : DescCompartment → ℕ
 row_entries c = 2 + compartment_slot_count c + length c.exports
 
 abbrev pub library_row_entries : LibraryRow → ℕ
@@ -71,7 +71,7 @@ code_in d x entry region = record {
   base = region.base;
   length = region.length;
   slots = compartment_slots d x.row;
-  exports = compartment_gates x.built (entry + 2 + compartment_slot_count x.row) x.row;
+  exports = compartment_gate_rows x.built (entry + 2 + compartment_slot_count x.row) x.row;
   text = x.built.text;
 }
 

@@ -37,7 +37,7 @@ fn passes_capabilities(passes: Passes) -> bool
 
 /// The export of a name.
 fn gate(alloc: Global, name: &str, row: ExportRow) -> Result<Gate, AllocError>
-    ensures { IfOk result (λ x. x ≡ spec.gate name.now row) }
+    ensures { IfOk result (λ x. x ≡ spec.gate_row name.now row) }
 {
     let name = String::from_str(alloc, name)?;
     Ok(Gate { row, name })

@@ -9,7 +9,7 @@ use def_layout::Region;
 #[tactic(auto, using(crate::proofs::Places::place_past))]
 pub(crate) fn region_at(regions: &[Region], first: usize, past: usize) -> Region
     requires { first + past < 2 ^ 32 }
-    ensures { result ≡ get_or (drop first regions.now) past (spec.region 0 0) }
+    ensures { result ≡ get_or (drop first regions.now) past (spec.region_from 0 0) }
 {
     match regions.get(first + past) {
         Some(region) => *region,

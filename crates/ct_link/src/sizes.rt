@@ -5,7 +5,7 @@ ghost use Rattle.std.specs.Prelude.{◌≡◌, ◌+◌, ◌*◌, ◌≤◌, ◌+
 ghost use Rattle.std.specs.List.{AllByRecursion};
 ghost use Rattle.def_profile.specs.declared.limits.TheConstants.{MOST_FRAMES, MOST_THREADS_2};
 ghost use Rattle.def_desc.specs.Lawful.{IsLawfulSealed};
-ghost use Rattle.def_desc.specs.Rows.{SharedRow, SealedRow, ThreadRow};
+ghost use Rattle.def_desc.specs.Rows.{DescShared, DescSealed, DescThread};
 ghost use Rattle.def_image.specs.Sizes.{sum_of};
 ghost use Rattle.def_link.specs.Linked as spec;
 ghost use Rattle.ct_link.specs.Laid.{AreObjects, sizes_with};
@@ -99,7 +99,7 @@ fn add_libraries(
 
 fn add_shared(sizes: &mut Vec<u32>, all: &[Shared]) -> Result<(), AllocError>
     ensures { OnOk result
-        (sizes.new.items ≡ sizes.old.items ++ map (λ (s : SharedRow). s.size) all.now) }
+        (sizes.new.items ≡ sizes.old.items ++ map (λ (s : DescShared). s.size) all.now) }
 {
     for shared in all {
         sizes.push(shared.size)?;
@@ -111,7 +111,7 @@ fn add_shared(sizes: &mut Vec<u32>, all: &[Shared]) -> Result<(), AllocError>
 fn add_sealed(sizes: &mut Vec<u32>, all: &[Sealed]) -> Result<(), AllocError>
     requires { AllByRecursion IsLawfulSealed all.now }
     ensures { OnOk result
-        (sizes.new.items ≡ sizes.old.items ++ map (λ (s : SealedRow). length s.bytes) all.now) }
+        (sizes.new.items ≡ sizes.old.items ++ map (λ (s : DescSealed). length s.bytes) all.now) }
 {
     for sealed in all {
         sizes.push(sealed.bytes.len() as u32)?;
@@ -121,7 +121,7 @@ fn add_sealed(sizes: &mut Vec<u32>, all: &[Sealed]) -> Result<(), AllocError>
 
 fn add_stacks(sizes: &mut Vec<u32>, threads: &[Thread]) -> Result<(), AllocError>
     ensures { OnOk result
-        (sizes.new.items ≡ sizes.old.items ++ map (λ (t : ThreadRow). t.stack) threads.now) }
+        (sizes.new.items ≡ sizes.old.items ++ map (λ (t : DescThread). t.stack) threads.now) }
 {
     for thread in threads {
         sizes.push(thread.stack)?;
@@ -132,9 +132,9 @@ fn add_stacks(sizes: &mut Vec<u32>, threads: &[Thread]) -> Result<(), AllocError
 /// The size of the threads' areas, each with its saved registers and frames.
 #[tactic(auto, using(crate::proofs::Sums::sum_more, law_lists::proofs::Places::at_each))]
 fn areas_size(threads: &[Thread]) -> u32
-    requires frames { AllByRecursion (λ (t : ThreadRow). t.frames ≤ MOST_FRAMES) threads.now }
+    requires frames { AllByRecursion (λ (t : DescThread). t.frames ≤ MOST_FRAMES) threads.now }
     requires few { length threads.now ≤ MOST_THREADS_2 }
-    ensures { result ≡ sum_of spec.area_size threads.now }
+    ensures { result ≡ sum_of spec.saved_area_size threads.now }
 {
     let mut size = 0;
     for thread in threads {

@@ -6,13 +6,13 @@ use Rattle.std.proofs.lemmas.Option.{slice_get_within, get_or_from_slice_get}
 use Rattle.law_lists.proofs.Alls.{all_joined}
 use Rattle.law_lists.proofs.Places.{at_each}
 use Rattle.def_desc.specs.Lawful.{IsLawfulCompartment, IsLawfulLibrary}
-use Rattle.def_desc.specs.Rows.{ExportRow, LexportRow, CompartmentRow, LibraryRow, DescRow}
+use Rattle.def_desc.specs.Rows.{ExportRow, LexportRow, DescCompartment, LibraryRow, DescRow}
 use Rattle.def_link.specs.Owners.{Unit as OwnerUnit, numbered, compartment_unit, library_unit, units_of}
 use Rattle.ct_link_objects.specs.Objects.{files_of, IsCounted, IsLinkable}
 use Rattle.ct_link_objects.proofs.Counts.{one_file}
 use Rattle.ct_link_objects.proofs.Rows.{owners_counted}
 
-own_counted : (d : DescRow) (n : ℕ) (cs : List CompartmentRow) → n + length cs < 2 ^ 32 → AllByRecursion (IsLawfulCompartment d) cs → AllByRecursion IsCounted (numbered compartment_unit n cs)
+own_counted : (d : DescRow) (n : ℕ) (cs : List DescCompartment) → n + length cs < 2 ^ 32 → AllByRecursion (IsLawfulCompartment d) cs → AllByRecursion IsCounted (numbered compartment_unit n cs)
 own_counted d n [] few h = tt
 own_counted d n (c ∷ cs) few h =
     let exports = h.0.exports in

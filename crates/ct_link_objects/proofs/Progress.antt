@@ -4,7 +4,7 @@ use Rattle.std.specs.Prelude.{Ok, Err}
 use Rattle.std.proofs.lemmas.List.{take_all}
 use Rattle.def_link.specs.declared.LinkFault.{LinkFault}
 use Rattle.def_link.specs.declared.LinkFault.TheVariants as fault
-use Rattle.def_link.specs.Owners.{Unit as OwnerUnit, Built, unit_built, with_front, source_for, rest_of, all_built}
+use Rattle.def_link.specs.Owners.{Unit as OwnerUnit, Built, unit_built, built_before, source_for, rest_of, all_built}
 use Rattle.ct_asm.specs.Labels.{Assembled}
 use Rattle.ct_link_objects.specs.Objects.{file_of, files_of, IsBuilt, AreBuilt, RefusesLink}
 use Rattle.ct_link_objects.proofs.Walks.{take_one, cut_at, files_joined, prepended, built_joined, all_joined}
@@ -21,11 +21,11 @@ none_done us texts = record { taken = refl; built = record { built = []; is = re
 -- one unit alone
 alone : (u : OwnerUnit) (texts : List (List ℕ)) (b : Built) → unit_built u (source_for u.code.file texts) ≡ Ok b → all_built (u ∷ []) texts ≡ Ok (b ∷ [])
 unfolding all_built
-alone u texts b is = ap (λ o. with_front o (Ok [])) is
+alone u texts b is = ap (λ o. built_before o (Ok [])) is
 
 fails_at : (u : OwnerUnit) (us : List OwnerUnit) (texts : List (List ℕ)) (e : LinkFault) → unit_built u (source_for u.code.file texts) ≡ Err e → all_built (u ∷ us) texts ≡ Err e
 unfolding all_built
-fails_at u us texts e is = ap (λ o. with_front o (all_built us (rest_of u.code.file texts))) is
+fails_at u us texts e is = ap (λ o. built_before o (all_built us (rest_of u.code.file texts))) is
 
 -- the texts of one owner more
 pub one_taken : (us : List OwnerUnit) (k : ℕ) (u : OwnerUnit) → slice_get us k ≡ Some u → files_of (take (k + 1) us) ≡ files_of (take k us) + file_of u.code.file

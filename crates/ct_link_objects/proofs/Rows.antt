@@ -2,7 +2,7 @@
 use Rattle.std.proofs.Common.{ℕ, zero, suc, ◌≡◌, ◌+◌, ◌-◌, ◌<◌, ◌≤◌, List, [], ◌∷◌, length, get_or, Some, slice_get, refl, ap, ◌∙◌, arith}
 use Rattle.std.proofs.lemmas.List.{length-append, get_or_append_left, get_or-append_right}
 use Rattle.std.proofs.lemmas.Option.{slice_get-get_or}
-use Rattle.def_desc.specs.Rows.{CompartmentRow, LibraryRow, DescRow}
+use Rattle.def_desc.specs.Rows.{DescCompartment, LibraryRow, DescRow}
 use Rattle.def_link.specs.Owners.{numbered, compartment_unit, library_unit, units_of}
 
 numbered_length : {A B : Type 0} (f : ℕ → A → B) (n : ℕ) (xs : List A) → length (numbered f n xs) ≡ length xs
@@ -22,7 +22,7 @@ owners_counted d =
     let both = length-append (numbered compartment_unit 0 d.compartments) (numbered library_unit 0 d.libraries) in
     omega (arith, own, lent, both)
 
-pub own_at : (d : DescRow) (k : ℕ) (z : CompartmentRow) → k < length d.compartments
+pub own_at : (d : DescRow) (k : ℕ) (z : DescCompartment) → k < length d.compartments
     → slice_get (units_of d) k ≡ Some (compartment_unit k (get_or d.compartments k z))
 own_at d k z low =
     let own = numbered compartment_unit 0 d.compartments in

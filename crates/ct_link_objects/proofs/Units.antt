@@ -4,7 +4,7 @@ use Rattle.std.specs.Prelude.{Ok, Err, is_none, option_and_then}
 use Rattle.def_desc.specs.Rows.{AtRow}
 use Rattle.def_link.specs.declared.LinkFault.{LinkFault}
 use Rattle.def_link.specs.declared.LinkFault.TheVariants as fault
-use Rattle.def_link.specs.Owners.{Unit as OwnerUnit, Built, built, label_or, is_begin, begin_of, first_lost, has_stray_bytes, placed_or, checked, unit_built}
+use Rattle.def_link.specs.Owners.{Unit as OwnerUnit, Built, built, label_or, is_begin, begin_of, first_lost, has_stray_bytes, placed_or, unit_checked, unit_built}
 use Rattle.def_object.specs.Object.{text_offset}
 use Rattle.ct_asm.specs.Labels.{Assembled}
 use Rattle.ct_link_objects.specs.Objects.{built_of, HoldsBuilt, IsBuilt, RefusesLink}
@@ -38,11 +38,11 @@ stray_same u b o h = rw h.initial refl
 -- ---- what comes of an owner
 
 pub unit_fault : (u : OwnerUnit) (source : List ℕ) (e : LinkFault) → built u.owner u.slots u.code source ≡ Err e → unit_built u source ≡ Err e
-unit_fault u source e is = ap (checked u) is
+unit_fault u source e is = ap (unit_checked u) is
 
 unit_is : (u : OwnerUnit) (source : List ℕ) (o : Assembled) (h : IsBuilt (built u.owner u.slots u.code source) o) (lost : Option ℕ) → first_lost (built_of o) 0 u.exports ≡ lost
     → unit_built u source ≡ placed_or u.owner h.built lost
-unit_is u source o h lost is = ap (checked u) h.is ∙ ap (placed_or u.owner h.built) (sym (lost_same h.built o h.held 0 u.exports) ∙ is)
+unit_is u source o h lost is = ap (unit_checked u) h.is ∙ ap (placed_or u.owner h.built) (sym (lost_same h.built o h.held 0 u.exports) ∙ is)
 
 pub unit_lost : (u : OwnerUnit) (source : List ℕ) (o : Assembled) (n : ℕ) → IsBuilt (built u.owner u.slots u.code source) o → first_lost (built_of o) 0 u.exports ≡ Some n
     → unit_built u source ≡ Err (fault.Export u.owner n)

@@ -5,7 +5,7 @@ use Rattle.std.proofs.Math.Seq.{take-suc, drop-cons}
 use Rattle.std.proofs.lemmas.List.{take-append-drop}
 use Rattle.std.proofs.lemmas.Option.{slice_get_within, get_or_from_slice_get}
 use Rattle.def_link.specs.declared.LinkFault.{LinkFault}
-use Rattle.def_link.specs.Owners.{Unit as OwnerUnit, Built, unit_built, with_front, source_for, rest_of, all_built}
+use Rattle.def_link.specs.Owners.{Unit as OwnerUnit, Built, unit_built, built_before, source_for, rest_of, all_built}
 use Rattle.ct_asm.specs.Labels.{Assembled}
 use Rattle.ct_link_objects.specs.Objects.{file_of, files_of, AllHold}
 
@@ -41,7 +41,7 @@ unfoldable pub prepended : List Built → Result (List Built) LinkFault → Resu
 prepended bs (Err e) = Err e
 prepended bs (Ok cs) = Ok (bs ++ cs)
 
-front_prepended : (b : Built) (bs : List Built) (r : Result (List Built) LinkFault) → with_front (Ok b) (prepended bs r) ≡ prepended (b ∷ bs) r
+front_prepended : (b : Built) (bs : List Built) (r : Result (List Built) LinkFault) → built_before (Ok b) (prepended bs r) ≡ prepended (b ∷ bs) r
 unfolding prepended
 front_prepended b bs (Err e) = refl
 front_prepended b bs (Ok cs) = refl
@@ -62,15 +62,15 @@ built_joined (u ∷ us) vs sources bs e = by (unit_built u (source_for u.code.fi
     (λ cs h. built_joined us vs (rest_of u.code.file sources) cs h)
   where
     by : (o : Result Built LinkFault) → unit_built u (source_for u.code.file sources) ≡ o
-        → (r : Result (List Built) LinkFault) → all_built us (rest_of u.code.file sources) ≡ r → with_front o r ≡ Ok bs
+        → (r : Result (List Built) LinkFault) → all_built us (rest_of u.code.file sources) ≡ r → built_before o r ≡ Ok bs
         → ((cs : List Built) → all_built us (rest_of u.code.file sources) ≡ Ok cs → all_built (us ++ vs) (rest_of u.code.file sources) ≡ prepended cs (all_built vs (drop (files_of us) (rest_of u.code.file sources))))
-        → with_front (unit_built u (source_for u.code.file sources)) (all_built (us ++ vs) (rest_of u.code.file sources)) ≡ prepended bs (all_built vs (drop (file_of u.code.file + files_of us) sources))
+        → built_before (unit_built u (source_for u.code.file sources)) (all_built (us ++ vs) (rest_of u.code.file sources)) ≡ prepended bs (all_built vs (drop (file_of u.code.file + files_of us) sources))
     by (Err f) is r rest h so = absurd (let no : Err f ≡ Ok bs = h in cc)
     by (Ok b) is (Err f) rest h so = absurd (let no : Err f ≡ Ok bs = h in cc)
     by (Ok b) is (Ok cs) rest h so =
         let same : b ∷ cs ≡ bs = cc in
         let later = drop (files_of us) (rest_of u.code.file sources) in
-        ap₂ (λ o r. with_front o r) is (so cs rest) ∙ front_prepended b cs (all_built vs later)
+        ap₂ (λ o r. built_before o r) is (so cs rest) ∙ front_prepended b cs (all_built vs later)
         ∙ ap₂ (λ (l : List Built) (s : List (List ℕ)). prepended l (all_built vs s)) same (sym (left u.code.file (files_of us) sources))
 
 -- ---- objects

@@ -8,7 +8,7 @@ use Rattle.std.proofs.Math.Seq.{take_at, drop_at}
 use Rattle.std.proofs.lemmas.Bool.{eq-eqb}
 use Rattle.law_lists.proofs.Tests.{eq_tells, lt_tells}
 use Rattle.def_desc.specs.References.{export_name}
-use Rattle.def_desc.specs.Rows.{ExportRow, CompartmentRow, LexportRow, LibraryRow}
+use Rattle.def_desc.specs.Rows.{ExportRow, DescCompartment, LexportRow, LibraryRow}
 use Rattle.def_link.specs.Slots.{index_of, Exported, exported, Exporter, full_names, export_from}
 use Rattle.ct_link_slots.specs.Exporters.{exporter, library_exporter, after_point, after_owner}
 
@@ -70,7 +70,7 @@ owner_passed f name n xs k d low more =
     ]
 
 -- the index of a text among an owner's exports is e
-pub call_met : (text : List ℕ) (n e : ℕ) (cs : List CompartmentRow) (k : ℕ) (d : CompartmentRow) → k < length cs
+pub call_met : (text : List ℕ) (n e : ℕ) (cs : List DescCompartment) (k : ℕ) (d : DescCompartment) → k < length cs
     → e ≡ index_of text (map (export_name (get_or cs k d).name) (map (λ (x : ExportRow). x.name) (get_or cs k d).exports)) → e < length (get_or cs k d).exports
     → export_from text n (map exporter (drop k cs)) ≡ exported n e
 call_met text n e cs k d low is less =
@@ -78,7 +78,7 @@ call_met text n e cs k d low is less =
     let count = length-map c.exports (λ (x : ExportRow). x.name) in
     owner_met exporter text n cs k d low (omega (arith, count, is, less)) ∙ ap (exported n) (sym is)
 
-pub call_passed : (text : List ℕ) (n e : ℕ) (cs : List CompartmentRow) (k : ℕ) (d : CompartmentRow) → k < length cs
+pub call_passed : (text : List ℕ) (n e : ℕ) (cs : List DescCompartment) (k : ℕ) (d : DescCompartment) → k < length cs
     → e ≡ index_of text (map (export_name (get_or cs k d).name) (map (λ (x : ExportRow). x.name) (get_or cs k d).exports)) → length (get_or cs k d).exports ≤ e
     → export_from text n (map exporter (drop k cs)) ≡ export_from text (n + 1) (map exporter (drop (k + 1) cs))
 call_passed text n e cs k d low is more =
@@ -102,12 +102,12 @@ lent_passed text n e ls k d low is more =
     let count = length-map l.exports (λ (x : LexportRow). x.name) in
     owner_passed library_exporter text n ls k d low (omega (arith, count, is, more))
 
-pub call_next : (text : List ℕ) (cs : List CompartmentRow) (k owner e : ℕ) (whole : Exported) (d x : CompartmentRow) → (owner ≡ k) × (export_from text owner (map exporter (drop k cs)) ≡ whole)
+pub call_next : (text : List ℕ) (cs : List DescCompartment) (k owner e : ℕ) (whole : Exported) (d x : DescCompartment) → (owner ≡ k) × (export_from text owner (map exporter (drop k cs)) ≡ whole)
     → k < length cs → x ≡ get_or cs k d → e ≡ index_of text (map (export_name x.name) (map (λ (y : ExportRow). y.name) x.exports)) → length x.exports ≤ e
     → (owner + 1 ≡ k + 1) × (export_from text (owner + 1) (map exporter (drop (k + 1) cs)) ≡ whole)
 call_next text cs k owner e whole d x h low is index more =
-    let index_is = subst (λ (z : CompartmentRow). e ≡ index_of text (map (export_name z.name) (map (λ (y : ExportRow). y.name) z.exports))) is index in
-    let more_is = subst (λ (z : CompartmentRow). length z.exports ≤ e) is more in
+    let index_is = subst (λ (z : DescCompartment). e ≡ index_of text (map (export_name z.name) (map (λ (y : ExportRow). y.name) z.exports))) is index in
+    let more_is = subst (λ (z : DescCompartment). length z.exports ≤ e) is more in
     (ap (λ n. n + 1) h.0, sym (call_passed text owner e cs k d low index_is more_is) ∙ h.1)
 
 pub lent_next : (text : List ℕ) (ls : List LibraryRow) (k owner e : ℕ) (whole : Exported) (d x : LibraryRow) → (owner ≡ k) × (export_from text owner (map library_exporter (drop k ls)) ≡ whole)

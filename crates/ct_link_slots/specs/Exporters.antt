@@ -3,18 +3,18 @@
 use Rattle.std.specs.Prelude.{ℕ, ◌==◌, ◌<◌, ◌^◌, List, [], ◌∷◌, length, take, drop, bytes_eq, Option, Some, None, if◌then◌else◌}
 use Rattle.std.specs.List.{AllByRecursion}
 use Rattle.def_desc.specs.Named.{export_names, library_export_names}
-use Rattle.def_desc.specs.Rows.{CompartmentRow, LibraryRow, DescRow}
+use Rattle.def_desc.specs.Rows.{DescCompartment, LibraryRow, DescRow}
 use Rattle.def_link.specs.Slots.{Exporter}
 
 -- ---- owners by the names of their exports
 
-abbrev pub exporter : CompartmentRow → Exporter
+abbrev pub exporter : DescCompartment → Exporter
 exporter c = record { name = c.name; exports = export_names c }
 
 abbrev pub library_exporter : LibraryRow → Exporter
 library_exporter l = record { name = l.name; exports = library_export_names l }
 
-abbrev pub IsExporter : CompartmentRow → Type 0
+abbrev pub IsExporter : DescCompartment → Type 0
 IsExporter c = length c.exports < 2 ^ 32
 
 abbrev pub IsLibraryExporter : LibraryRow → Type 0

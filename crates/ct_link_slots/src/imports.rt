@@ -4,7 +4,7 @@ ghost use Rattle.std.specs.Prelude.{◌≡◌, ◌<◌, ◌^◌, codes, option_m
 ghost use Rattle.def_desc.specs.Names as name;
 ghost use Rattle.def_link.specs.Slots as spec;
 ghost use Rattle.def_words.specs.Permissions.{packed as spec_packed};
-ghost use Rattle.def_desc.specs.Reading.{rights_of};
+ghost use Rattle.def_desc.specs.Reading.{rights_of_text};
 ghost use Rattle.ct_link_slots.specs.Exporters.{AreCounted};
 ghost use Rattle.ct_desc_rows.specs.Named.{named};
 
@@ -35,7 +35,7 @@ pub(crate) fn switch_slot(alloc: Global) -> Result<Slot, AllocError>
 /// The bits of the rights that an import claims; none where it claims none.
 fn rights_in(rights: &Option<String>) -> u8
     ensures { result ≡ spec_packed (spec.granted
-        (rights_of (unwrap_or (option_map string_bytes rights.now) []))) }
+        (rights_of_text (unwrap_or (option_map string_bytes rights.now) []))) }
 {
     match rights {
         Some(text) => claimed(text.as_str()),

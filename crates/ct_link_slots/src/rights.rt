@@ -3,7 +3,7 @@
 ghost use Rattle.std.specs.Prelude.{◌≡◌, ◌<◌, ◌^◌, nat_eq};
 ghost use Rattle.std.specs.List.{list_any};
 ghost use Rattle.def_words.specs.Permissions.{packed as spec_packed};
-ghost use Rattle.def_desc.specs.Reading.{rights_of};
+ghost use Rattle.def_desc.specs.Reading.{rights_of_text};
 ghost use Rattle.def_link.specs.Slots as spec;
 
 use ct_perm::Perms;
@@ -32,7 +32,7 @@ fn has_letter(text: &[u8], letter: u8) -> bool
 
 /// What letters allow.
 fn letters(text: &str) -> Rights
-    ensures { result ≡ rights_of text.now }
+    ensures { result ≡ rights_of_text text.now }
 {
     let bytes = text.as_bytes();
     Rights {
@@ -56,7 +56,7 @@ fn granted(rights: &Rights) -> u32
 
 /// The bits of the rights that letters grant.
 pub(crate) fn claimed(text: &str) -> u8
-    ensures { result ≡ spec_packed (spec.granted (rights_of text.now)) }
+    ensures { result ≡ spec_packed (spec.granted (rights_of_text text.now)) }
 {
     packed(granted(&letters(text)))
 }

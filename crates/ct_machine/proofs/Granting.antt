@@ -324,9 +324,9 @@ module _ (i : Image) (e : Seen) (r : SchedRow) (k : DeviceStates) (pending : Boo
       let o : Option Object = tokens.key_of here (held_in 10) in
       let given : Cap = held_in 11 in
       subst (λ (q : Seen × Ran). Serves e.next q (tokens.token_open here t)) (sym same)
-      (serves_return e.next (sealed.by_key e t o (λ key. sealed.opens e t given (sealed.token_of e key given))) (tokens.by_key here t o (λ key. tokens.opens here t given (tokens.token_of here key given))) (omega arith)
-      (serves_by_key e.next o (λ key. sealed.opens e t given (sealed.token_of e key given)) (λ key. tokens.opens here t given (tokens.token_of here key given)) (omega arith)
-      (λ n. serves_opened given (tokens.token_of here n given))))
+      (serves_return e.next (sealed.by_key e t o (λ key. sealed.opens e t given (sealed.token_of e key given))) (tokens.by_key here t o (λ key. tokens.opens here t given (tokens.token_object here key given))) (omega arith)
+      (serves_by_key e.next o (λ key. sealed.opens e t given (sealed.token_of e key given)) (λ key. tokens.opens here t given (tokens.token_object here key given)) (omega arith)
+      (λ n. serves_opened given (tokens.token_object here n given))))
 
   -- ---- a token is freed
 
@@ -347,9 +347,9 @@ module _ (i : Image) (e : Seen) (r : SchedRow) (k : DeviceStates) (pending : Boo
       let o : Option Object = tokens.key_of here (held_in 11) in
       let given : Cap = held_in 12 in
       subst (λ (q : Seen × Ran). Serves e.next q (tokens.token_free i here t)) (sym same)
-      (serves_quota e.next (sealed.by_key e t o (λ key. sealed.frees_token e t quota (sealed.token_of e key given))) (tokens.by_key here t o (λ key. tokens.frees_token i here t quota (tokens.token_of here key given))) (omega arith)
-      (serves_by_key e.next o (λ key. sealed.frees_token e t quota (sealed.token_of e key given)) (λ key. tokens.frees_token i here t quota (tokens.token_of here key given)) (omega arith)
-      (λ n. serves_token_freed quota (tokens.token_of here n given))))
+      (serves_quota e.next (sealed.by_key e t o (λ key. sealed.frees_token e t quota (sealed.token_of e key given))) (tokens.by_key here t o (λ key. tokens.frees_token i here t quota (tokens.token_object here key given))) (omega arith)
+      (serves_by_key e.next o (λ key. sealed.frees_token e t quota (sealed.token_of e key given)) (λ key. tokens.frees_token i here t quota (tokens.token_object here key given)) (omega arith)
+      (λ n. serves_token_freed quota (tokens.token_object here n given))))
 
 -- ---- of an engine that is open, and keeps what a machine keeps
 

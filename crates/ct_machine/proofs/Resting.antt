@@ -21,7 +21,7 @@ use Rattle.def_step.specs.Devices.{DeviceStates}
 use Rattle.def_step.specs.Checks.{Check, first_failed}
 use Rattle.def_step.specs.Switch.{return_checks}
 use Rattle.def_step.specs.Routines as routine
-use Rattle.def_step.specs.Routines.{Traps, Leaves, checked, answered, answers, code, stops, waits, wakes, word_checks, sleep, wait, wake}
+use Rattle.def_step.specs.Routines.{Traps, Leaves, checked, answered, answers, code, stops, waits, threads_woken, word_checks, sleep, wait, wake}
 use Rattle.def_step.specs.Instructions.{ran}
 use Rattle.def_machine.specs.Platform.{Platform, MachineRow}
 use Rattle.ct_sched.specs.Sched as sched
@@ -190,7 +190,7 @@ module _ (i : Image) (e : Seen) (r : SchedRow) (k : DeviceStates) (pending : Boo
   -- ---- wake
 
   wakes_are : (address most : ℕ) → length (woken address most r.statuses) ≡ length r.statuses
-      → state_by ((answered_in e t (integer (woken_count address most r.statuses)))) (sched.with_statuses r (woken address most r.statuses)) pending k.states time c ≡ wakes here t address most
+      → state_by ((answered_in e t (integer (woken_count address most r.statuses)))) (sched.with_statuses r (woken address most r.statuses)) pending k.states time c ≡ threads_woken here t address most
   wakes_are address most many =
       let v : Cap = integer (woken_count address most r.statuses) in
       let there : with_statuses (set (with_statuses e.threads r.statuses) t (answered (thread here t) v)) (woken address most r.statuses)
@@ -209,11 +209,11 @@ module _ (i : Image) (e : Seen) (r : SchedRow) (k : DeviceStates) (pending : Boo
       let eleven = register_alike 11 in
       let address : ℕ = cap_address (register (thread here t) 10) in
       let most : ℕ = cap_address (register (thread here t) 11) in
-      came_service o e' (answered_in e t (integer (woken_count address most r.statuses))) r' (sched.with_statuses r (woken address most r.statuses)) (wake i here t) (wakes here t address most)
-      (checked_twice (return_checks (register (thread here t) 1)) (word_checks i here (register (thread here t) 10)) (Leaves (wakes here t address most) None)
-      ∙ ap (λ (x : Cap). by_trap (either (first_failed (return_checks x)) (first_failed (word_checks i here (register (thread here t) 10)))) (Leaves (wakes here t address most) None)) (sym (register_alike 1))
-      ∙ ap (λ (x : Cap). by_trap (either (first_failed (return_checks (register (engine.thread e t) 1))) (first_failed (word_checks i here x))) (Leaves (wakes here t address most) None)) (sym ten)
-      ∙ ap (λ (p : Option Trap). by_trap p (Leaves (wakes here t address most) None)) (sym trap))
+      came_service o e' (answered_in e t (integer (woken_count address most r.statuses))) r' (sched.with_statuses r (woken address most r.statuses)) (wake i here t) (threads_woken here t address most)
+      (checked_twice (return_checks (register (thread here t) 1)) (word_checks i here (register (thread here t) 10)) (Leaves (threads_woken here t address most) None)
+      ∙ ap (λ (x : Cap). by_trap (either (first_failed (return_checks x)) (first_failed (word_checks i here (register (thread here t) 10)))) (Leaves (threads_woken here t address most) None)) (sym (register_alike 1))
+      ∙ ap (λ (x : Cap). by_trap (either (first_failed (return_checks (register (engine.thread e t) 1))) (first_failed (word_checks i here x))) (Leaves (threads_woken here t address most) None)) (sym ten)
+      ∙ ap (λ (p : Option Trap). by_trap p (Leaves (threads_woken here t address most) None)) (sym trap))
       (now
       ∙ ap (λ (x : Cap). left_as o (answered_in e t (integer (woken_count (cap_address x) (cap_address (register (engine.thread e t) 11)) r.statuses)))) ten
       ∙ ap (λ (x : Cap). left_as o (answered_in e t (integer (woken_count address (cap_address x) r.statuses)))) eleven)

@@ -7,7 +7,7 @@ use Rattle.std.proofs.lemmas.List.Sums.{sum_by-cons}
 use Rattle.std.proofs.lemmas.Bool.{and_right}
 use Rattle.def_sched.specs.declared.Status.{Status}
 use Rattle.def_sched.specs.declared.Status.TheVariants.{Ready, Sleeping, Waiting, Ended}
-use Rattle.def_sched.specs.Statuses.{goes_on, is_ended, is_waiting, after_tick, status_of}
+use Rattle.def_sched.specs.Statuses.{runs_again, is_ended, is_waiting, after_tick, status_of}
 use Rattle.ct_entry.specs.declared.acts.End.TheVariants.{Finished, Idle}
 use Rattle.def_machine.specs.State.{State, Thread, nobody}
 use Rattle.def_machine.specs.Threads.{with_status, statuses_of, with_statuses, timed}
@@ -97,7 +97,7 @@ more_go x ts h = record {
   goes = and_right (is_ended x.status || is_waiting x.status) (none_goes_on ts) h.goes;
 }
 
-pub goes_with : (ts : List Thread) (ss : List Status) → length ss ≡ length ts → 0 < count_by goes_on ss → SomeGoes (with_statuses ts ss)
+pub goes_with : (ts : List Thread) (ss : List Status) → length ss ≡ length ts → 0 < count_by runs_again ss → SomeGoes (with_statuses ts ss)
 goes_with [] [] e some = absurd (omega (arith, some))
 goes_with [] (s ∷ ss) e some = absurd (omega (arith, e))
 goes_with (x ∷ ts) [] e some = absurd (omega (arith, e))
@@ -107,16 +107,16 @@ goes_with (x ∷ ts) (Waiting a ∷ ss) e some = more_go (with_status x (Waiting
 goes_with (x ∷ ts) (Ended ∷ ss) e some = more_go (with_status x Ended) (with_statuses ts ss) (goes_with ts ss (omega (arith, e)) (omega (arith, some)))
 
 -- who is ready goes on
-pub ready_goes : (ss : List Status) (t : ℕ) → status_of ss t ≡ Ready → 0 < count_by goes_on ss
+pub ready_goes : (ss : List Status) (t : ℕ) → status_of ss t ≡ Ready → 0 < count_by runs_again ss
 ready_goes [] t is = absurd (let clash : Ended ≡ Ready = is in cc)
 ready_goes (s ∷ ss) zero is =
-    let weight : Status → ℕ = λ q. cond (goes_on q) 1 0 in
-    let more : count_by goes_on (s ∷ ss) ≡ weight s + count_by goes_on ss = sum_by-cons weight s ss in
+    let weight : Status → ℕ = λ q. cond (runs_again q) 1 0 in
+    let more : count_by runs_again (s ∷ ss) ≡ weight s + count_by runs_again ss = sum_by-cons weight s ss in
     let one : weight s ≡ 1 = ap weight is in
     omega (arith, more, one)
 ready_goes (s ∷ ss) (suc t) is =
-    let weight : Status → ℕ = λ q. cond (goes_on q) 1 0 in
-    let more : count_by goes_on (s ∷ ss) ≡ weight s + count_by goes_on ss = sum_by-cons weight s ss in
+    let weight : Status → ℕ = λ q. cond (runs_again q) 1 0 in
+    let more : count_by runs_again (s ∷ ss) ≡ weight s + count_by runs_again ss = sum_by-cons weight s ss in
     let rest = ready_goes ss t is in
     omega (arith, more, rest)
 
@@ -125,12 +125,12 @@ pub record NoneGoes (ts : List Thread) : Type 0 where
   pub waits : all_ended ts ≡ false → one_waits ts ≡ true
   pub goes : none_goes_on ts ≡ true
 
-pub stays_with : (ts : List Thread) (ss : List Status) → length ss ≡ length ts → count_by goes_on ss ≡ 0 → NoneGoes (with_statuses ts ss)
+pub stays_with : (ts : List Thread) (ss : List Status) → length ss ≡ length ts → count_by runs_again ss ≡ 0 → NoneGoes (with_statuses ts ss)
 stays_with [] [] e none = record { waits = λ h. cc; goes = refl }
 stays_with [] (s ∷ ss) e none = absurd (omega (arith, e))
 stays_with (x ∷ ts) [] e none = absurd (omega (arith, e))
-stays_with (x ∷ ts) (Ready ∷ ss) e none = absurd (let more : count_by goes_on (Ready ∷ ss) ≡ 1 + count_by goes_on ss = sum_by-cons (λ (q : Status). cond (goes_on q) 1 0) Ready ss in omega (arith, more, none))
-stays_with (x ∷ ts) (Sleeping n ∷ ss) e none = absurd (let more : count_by goes_on (Sleeping n ∷ ss) ≡ 1 + count_by goes_on ss = sum_by-cons (λ (q : Status). cond (goes_on q) 1 0) (Sleeping n) ss in omega (arith, more, none))
+stays_with (x ∷ ts) (Ready ∷ ss) e none = absurd (let more : count_by runs_again (Ready ∷ ss) ≡ 1 + count_by runs_again ss = sum_by-cons (λ (q : Status). cond (runs_again q) 1 0) Ready ss in omega (arith, more, none))
+stays_with (x ∷ ts) (Sleeping n ∷ ss) e none = absurd (let more : count_by runs_again (Sleeping n ∷ ss) ≡ 1 + count_by runs_again ss = sum_by-cons (λ (q : Status). cond (runs_again q) 1 0) (Sleeping n) ss in omega (arith, more, none))
 stays_with (x ∷ ts) (Waiting a ∷ ss) e none = let rest = stays_with ts ss (omega (arith, e)) (omega (arith, none)) in record { waits = λ h. refl; goes = rest.goes }
 stays_with (x ∷ ts) (Ended ∷ ss) e none = let rest = stays_with ts ss (omega (arith, e)) (omega (arith, none)) in record { waits = rest.waits; goes = rest.goes }
 
@@ -144,7 +144,7 @@ module _ (s : State) (ts : List Thread) (ss : List Status) (is : s.threads ≡ w
   all_is : all_ended s.threads ≡ list_all is_ended ss
   all_is = ap all_ended is ∙ ended_with ts ss many
 
-  pub end_none : 0 < count_by goes_on ss → None ≡ end_of s
+  pub end_none : 0 < count_by runs_again ss → None ≡ end_of s
   end_none some =
       let h = goes_with ts ss many some in
       let over : all_ended s.threads ≡ false = ap all_ended is ∙ h.ended in
@@ -154,7 +154,7 @@ module _ (s : State) (ts : List Thread) (ss : List Status) (is : s.threads ≡ w
   pub end_finished : list_all is_ended ss ≡ true → Some Finished ≡ end_of s
   end_finished all = rw (all_is, all) refl
 
-  pub end_idle : count_by goes_on ss ≡ 0 → list_all is_ended ss ≡ false → Some Idle ≡ end_of s
+  pub end_idle : count_by runs_again ss ≡ 0 → list_all is_ended ss ≡ false → Some Idle ≡ end_of s
   end_idle none some =
       let h = stays_with ts ss many none in
       let over : all_ended s.threads ≡ false = all_is ∙ some in

@@ -20,12 +20,12 @@ pub trait Memory {
     fn size(&self) -> u32
         ensures { result ≡ 8 * length (granules self.now) };
 
-    /// The bytes at an offset as a number, the first byte lowest. The width is 1, 2 or 4.
+    /// The `width` bytes at an offset as a number, the first byte lowest. The width is 1, 2 or 4.
     fn load(&self, at: u32, width: u32) -> u32
         requires { IsAccess (8 * length (granules self.now)) at width }
         ensures { result ≡ loaded (granules self.now) at width };
 
-    /// Writes the low bytes of a value, the lowest first, and clears the tag of the granule that
+    /// Writes the `width` low bytes of a value at an offset, the lowest first, and clears the tag of the granule that
     /// it touches. The width is 1, 2 or 4.
     fn store(&mut self, at: u32, width: u32, value: u32)
         requires { IsAccess (8 * length (granules self.old)) at width }

@@ -8,7 +8,7 @@ use Rattle.std.proofs.lemmas.Grind.{flat_map-append}
 use Rattle.def_image.specs.Parts.{PartsRow}
 use Rattle.def_policy.specs.declared.PolicyFault.{PolicyFault}
 use Rattle.def_policy.specs.declared.PolicyFault.TheVariants.{At, NoMemory}
-use Rattle.def_policy.specs.Rules.{Rule, IsRule, ended, IsWord, line_of, spelled, words_of}
+use Rattle.def_policy.specs.Rules.{Rule, IsRule, spaced_words, IsWord, words_line, spelled_rule, words_of}
 use Rattle.def_policy.specs.Rulings.{Ruling, meant}
 use Rattle.def_policy.specs.Texts.{BeginsWithRule, IsPolicyCause, IsKnown, NamesUnknown, NoRuleLine, ReadsAsPolicy}
 use Rattle.ct_policy.specs.Forms.{form_of}
@@ -46,7 +46,7 @@ rule_begins text words rest r line found =
     let told : IsSaid words r = form_told words r found in
     record {
       rule = record { words = subst (λ ws. AllByRecursion IsWord ws) (sym told.words_are) line.are; formed = told.formed };
-      text_is = line.text_is ∙ ap (λ ws. line_of ws ++ rest) (sym told.words_are);
+      text_is = line.text_is ∙ ap (λ ws. words_line ws ++ rest) (sym told.words_are);
     }
 
 pub nameless : (p : PartsRow) (text : List ℕ) (r : Rule) (rest : List ℕ) → BeginsWithRule text r rest → meant p r ≡ None → NamesUnknown p text
@@ -54,16 +54,16 @@ nameless p text r rest begins none = record { next = r; rest = rest; begins = be
 
 -- ---- one more line
 
-ended_some : (ws : List (List ℕ)) → 0 < length (ended ws)
+ended_some : (ws : List (List ℕ)) → 0 < length (spaced_words ws)
 ended_some [] = omega arith
 ended_some (w ∷ ws) = omega arith
 
-line_some : (ws : List (List ℕ)) → 0 < length (line_of ws)
+line_some : (ws : List (List ℕ)) → 0 < length (words_line ws)
 line_some [] = omega arith
-line_some (w ∷ ws) = omega (arith, length-append w (ended ws), ended_some ws)
+line_some (w ∷ ws) = omega (arith, length-append w (spaced_words ws), ended_some ws)
 
-pub ended_long : (ws : List (List ℕ)) (rest : List ℕ) → length rest < length (line_of ws ++ rest)
-ended_long ws rest = omega (arith, length-append (line_of ws) rest, line_some ws)
+pub ended_long : (ws : List (List ℕ)) (rest : List ℕ) → length rest < length (words_line ws ++ rest)
+ended_long ws rest = omega (arith, length-append (words_line ws) rest, line_some ws)
 
 pub goes_on : (p : PartsRow) (text left rest : List ℕ) (old new : List Ruling) → Going p text old left → Takes p old new left rest → Going p text new rest
 goes_on p text left rest old new g t = record {
@@ -71,10 +71,10 @@ goes_on p text left rest old new g t = record {
   lines = All-push IsRule g.rules t.rule g.lines t.begins.rule;
   text_is =
       g.text_is
-      ∙ ap (λ x. flat_map spelled g.rules ++ x) t.begins.text_is
-      ∙ sym (append_assoc (flat_map spelled g.rules) (spelled t.rule) rest)
-      ∙ ap (λ x. (flat_map spelled g.rules ++ x) ++ rest) (sym (flat_map-cons spelled t.rule [] ∙ append-nil (spelled t.rule)))
-      ∙ ap (λ x. x ++ rest) (sym (flat_map-append spelled g.rules (t.rule ∷ [])));
+      ∙ ap (λ x. flat_map spelled_rule g.rules ++ x) t.begins.text_is
+      ∙ sym (append_assoc (flat_map spelled_rule g.rules) (spelled_rule t.rule) rest)
+      ∙ ap (λ x. (flat_map spelled_rule g.rules ++ x) ++ rest) (sym (flat_map-cons spelled_rule t.rule [] ∙ append-nil (spelled_rule t.rule)))
+      ∙ ap (λ x. x ++ rest) (sym (flat_map-append spelled_rule g.rules (t.rule ∷ [])));
   meant_are =
       map-append (meant p) g.rules (t.rule ∷ [])
       ∙ ap (λ x. x ++ meant p t.rule ∷ []) g.meant_are
@@ -111,7 +111,7 @@ fault_is p text left rulings (At number line) g r = record {
 }
 
 pub reads : (p : PartsRow) (text left : List ℕ) (rulings : List Ruling) → Going p text rulings left → length left ≤ 0 → ReadsAsPolicy p text rulings
-reads p text [] rulings g none = record { rules = g.rules; lines = g.lines; text_is = g.text_is ∙ append-nil (flat_map spelled g.rules); meant_are = g.meant_are }
+reads p text [] rulings g none = record { rules = g.rules; lines = g.lines; text_is = g.text_is ∙ append-nil (flat_map spelled_rule g.rules); meant_are = g.meant_are }
 reads p text (c ∷ cs) rulings g none = absurd (omega (arith, none))
 
 -- ---- what a line comes to

@@ -7,13 +7,13 @@ use Rattle.std.proofs.lemmas.Bool.{both_ways}
 use Rattle.law_lists.proofs.Tests.{both_left, eq_tells}
 use Rattle.law_script.proofs.Runs.{same_run, no_end}
 use Rattle.ct_script.proofs.Parts.{IsRun, run_is, run_whole, all_rest}
-use Rattle.def_policy.specs.Rules.{is_inner}
+use Rattle.def_policy.specs.Rules.{is_word_byte}
 use Rattle.ct_policy.specs.Words.{IsFirst, NoFirst, end_byte}
 
 abbrev pub place_of : List ℕ → ℕ
-place_of text = prefix_len is_inner text
+place_of text = prefix_len is_word_byte text
 
-pub end_fails : (last : Bool) → is_inner (end_byte last) ≡ false
+pub end_fails : (last : Bool) → is_word_byte (end_byte last) ≡ false
 end_fails true = refl
 end_fails false = refl
 
@@ -21,13 +21,13 @@ end_fails false = refl
 pub meets : (text word : List ℕ) (last : Bool) (rest : List ℕ) → place_of text < length text → IsFirst text word last rest
     → (take (place_of text) text ≡ word) × (get_or text (place_of text) 0 ≡ end_byte last) × (drop (suc (place_of text)) text ≡ rest)
 meets text word last rest inside first =
-    let run = run_is is_inner text inside in
-    same_run is_inner (take (place_of text) text) word (get_or text (place_of text) 0) (end_byte last) (drop (suc (place_of text)) text) rest
+    let run = run_is is_word_byte text inside in
+    same_run is_word_byte (take (place_of text) text) word (get_or text (place_of text) 0) (end_byte last) (drop (suc (place_of text)) text) rest
     run.passes first.is.inner run.fails (end_fails last) (sym run.whole ∙ first.text_is)
 
-some_place : (word more : List ℕ) → 0 < length word → list_all is_inner word ≡ true → 0 < place_of (word ++ more)
+some_place : (word more : List ℕ) → 0 < length word → list_all is_word_byte word ≡ true → 0 < place_of (word ++ more)
 some_place [] more some inner = absurd (omega (arith, some))
-some_place (c ∷ cs) more some inner = rw (both_left (is_inner c) (list_all is_inner cs) inner) (omega arith)
+some_place (c ∷ cs) more some inner = rw (both_left (is_word_byte c) (list_all is_word_byte cs) inner) (omega arith)
 
 pub no_front : (text : List ℕ) → place_of text ≡ 0 → NoFirst text
 no_front text none word last rest first =
@@ -35,7 +35,7 @@ no_front text none word last rest first =
 
 pub endless : (text : List ℕ) → length text ≤ place_of text → NoFirst text
 endless text long word last rest first =
-    both_ways (list_all is_inner text) (ap (λ t. list_all is_inner t) first.text_is ∙ no_end is_inner word (end_byte last) rest (end_fails last)) (run_whole is_inner text long)
+    both_ways (list_all is_word_byte text) (ap (λ t. list_all is_word_byte t) first.text_is ∙ no_end is_word_byte word (end_byte last) rest (end_fails last)) (run_whole is_word_byte text long)
 
 pub other_end : (text : List ℕ) → place_of text < length text → (get_or text (place_of text) 0 ≡ 32 → ⊥) → (get_or text (place_of text) 0 ≡ 10 → ⊥) → NoFirst text
 other_end text inside space feed word true rest first = feed (meets text word true rest inside first).1
@@ -58,8 +58,8 @@ pub first_is : (text : List ℕ) (k : ℕ) → k ≡ place_of text → 0 < k →
     → ((get_or text k 0 ≡ 32 → ⊥) → (get_or text k 0 ≡ 10 → ⊥) → ⊥)
     → IsFirst text (take k text) (get_or text k 0 == 10) (take (length text - (k + 1)) (drop (k + 1) text))
 first_is text k is some inside ends =
-    let run : IsRun is_inner text (place_of text) = run_is is_inner text (omega (arith, is, inside)) in
-    let here : IsRun is_inner text k = subst (λ n. IsRun is_inner text n) (sym is) run in
+    let run : IsRun is_word_byte text (place_of text) = run_is is_word_byte text (omega (arith, is, inside)) in
+    let here : IsRun is_word_byte text k = subst (λ n. IsRun is_word_byte text n) (sym is) run in
     subst (λ r. IsFirst text (take k text) (get_or text k 0 == 10) r) (sym (all_rest text k)) (record {
       is = record {
         some = omega (arith, some, inside, length-take-le k text (omega (arith, inside)));

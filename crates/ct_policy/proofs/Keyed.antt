@@ -18,7 +18,7 @@ use Rattle.def_policy.specs.declared.Resource.{Resource}
 use Rattle.def_policy.specs.declared.Resource.TheVariants as resource
 use Rattle.def_policy.specs.declared.Subject.{Subject}
 use Rattle.def_policy.specs.declared.Subject.TheVariants as subject
-use Rattle.def_policy.specs.Breaking.{breaking, breaking_from, breaks, breaks_by, counted, is_listed}
+use Rattle.def_policy.specs.Breaking.{breaking, breaking_from, breaks, breaks_by, counted, lists_owner}
 use Rattle.def_policy.specs.Resources.{imports}
 use Rattle.def_policy.specs.Rulings.{Ruling, ruling}
 use Rattle.ct_policy.specs.Keys.{IsIdle, all_limits, asked, key, key_by, key_of, owner_number, sort_of}
@@ -50,14 +50,14 @@ only_idle : (res : Resource) (n : ℕ) (owners : List Owner) (x : Entry) (g : Ga
 only_idle res n owners x g other =
     let free : (imports res x.kind && (x.of == n)) ≡ false = never (imports res x.kind && (x.of == n)) (λ held. other
     (import_key res x.kind x g (both_left (imports res x.kind) (x.of == n) held) ∙ ap (key (sort_of res)) (eqb-true x.of n (both_right (imports res x.kind) (x.of == n) held)))) in
-    record { counts = refl; holds = λ number sum. ap (λ b. b && not (is_listed owners x.owner)) free }
+    record { counts = refl; holds = λ number sum. ap (λ b. b && not (lists_owner owners x.owner)) free }
 
 disabled_idle : (owners : List Owner) (x : Entry) (g : Gate) → (key_of x g ≡ asked subject.Disabled → ⊥) → IsIdle (ruling subject.Disabled owners) x g
 disabled_idle owners x g other =
     let on : Bool = turns_interrupts_off g.posture in
     let free : (is_export x.kind && on) ≡ false = never (is_export x.kind && on) (λ held. other
     (export_key x.kind x g (both_left (is_export x.kind) on held) (both_right (is_export x.kind) on held))) in
-    record { counts = refl; holds = λ number sum. ap (λ b. b && not (is_listed owners x.owner)) free }
+    record { counts = refl; holds = λ number sum. ap (λ b. b && not (lists_owner owners x.owner)) free }
 
 quota_idle : (o : Owner) (n : ℕ) (owners : List Owner) (x : Entry) (g : Gate) → (key_of x g ≡ asked (subject.Quota o n) → ⊥) → IsIdle (ruling (subject.Quota o n) owners) x g
 quota_idle o n owners x g other =

@@ -2,7 +2,7 @@
 use Rattle.std.proofs.Common.{◌≡◌, ℕ, ◌≤◌, ◌++◌, List, [], ◌∷◌, Bool, true, false, refl, ap, sym, ◌∙◌, subst, arith, append_assoc, length, length-append}
 use Rattle.std.specs.List.{AllByRecursion}
 use Rattle.law_script.proofs.Runs.{same_run}
-use Rattle.def_policy.specs.Rules.{IsWord, ended, is_inner, line_of}
+use Rattle.def_policy.specs.Rules.{IsWord, spaced_words, is_word_byte, words_line}
 use Rattle.ct_policy.specs.Words.{IsFirst, IsLine, NoFirst, NoWords, end_byte}
 use Rattle.ct_policy.proofs.Firsts.{end_fails}
 
@@ -37,18 +37,18 @@ goes_on text left word rest words w first = record {
 }
 
 -- a first word, then the others
-ended_push : (ws : List (List ℕ)) (w rest : List ℕ) → ended (ws ++ w ∷ []) ++ rest ≡ 32 ∷ (spaced ws ++ (w ++ 10 ∷ rest))
+ended_push : (ws : List (List ℕ)) (w rest : List ℕ) → spaced_words (ws ++ w ∷ []) ++ rest ≡ 32 ∷ (spaced ws ++ (w ++ 10 ∷ rest))
 ended_push [] w rest = ap (λ t. 32 ∷ t) (append_assoc w (10 ∷ []) rest)
 ended_push (x ∷ xs) w rest =
     ap (λ t. 32 ∷ t)
-    (append_assoc x (ended (xs ++ w ∷ [])) rest
+    (append_assoc x (spaced_words (xs ++ w ∷ [])) rest
     ∙ ap (λ t. x ++ t) (ended_push xs w rest)
     ∙ sym (append_assoc x (32 ∷ spaced xs) (w ++ 10 ∷ rest)))
 
-line_push : (ws : List (List ℕ)) (w rest : List ℕ) → line_of (ws ++ w ∷ []) ++ rest ≡ spaced ws ++ (w ++ 10 ∷ rest)
+line_push : (ws : List (List ℕ)) (w rest : List ℕ) → words_line (ws ++ w ∷ []) ++ rest ≡ spaced ws ++ (w ++ 10 ∷ rest)
 line_push [] w rest = append_assoc w (10 ∷ []) rest
 line_push (x ∷ xs) w rest =
-    append_assoc x (ended (xs ++ w ∷ [])) rest
+    append_assoc x (spaced_words (xs ++ w ∷ [])) rest
     ∙ ap (λ t. x ++ t) (ended_push xs w rest)
     ∙ sym (append_assoc x (32 ∷ spaced xs) (w ++ 10 ∷ rest))
 
@@ -64,15 +64,15 @@ line_is text left word rest words w first = record {
 -- what follows the first word of a line
 abbrev after_first : List (List ℕ) → List ℕ → List ℕ
 after_first [] rest = rest
-after_first (w ∷ ws) rest = line_of (w ∷ ws) ++ rest
+after_first (w ∷ ws) rest = words_line (w ∷ ws) ++ rest
 
 abbrev is_last : List (List ℕ) → Bool
 is_last [] = true
 is_last (w ∷ ws) = false
 
-cut : (w : List ℕ) (ws : List (List ℕ)) (rest : List ℕ) → line_of (w ∷ ws) ++ rest ≡ w ++ end_byte (is_last ws) ∷ after_first ws rest
+cut : (w : List ℕ) (ws : List (List ℕ)) (rest : List ℕ) → words_line (w ∷ ws) ++ rest ≡ w ++ end_byte (is_last ws) ∷ after_first ws rest
 cut w [] rest = append_assoc w (10 ∷ []) rest
-cut w (v ∷ vs) rest = append_assoc w (ended (v ∷ vs)) rest
+cut w (v ∷ vs) rest = append_assoc w (spaced_words (v ∷ vs)) rest
 
 pub first_of : (text w : List ℕ) (ws : List (List ℕ)) (rest : List ℕ) → IsLine text (w ∷ ws) rest → IsFirst text w (is_last ws) (after_first ws rest)
 first_of text w ws rest line = record { is = line.are.0; text_is = line.text_is ∙ cut w ws rest }
@@ -86,7 +86,7 @@ pub record Ahead (words all : List (List ℕ)) (left rest : List ℕ) : Type 0 w
 first_same : (v : List ℕ) (vs : List (List ℕ)) (text left x : List ℕ) (xs : List (List ℕ)) (rest : List ℕ) → Within text (v ∷ vs) left → IsLine text (x ∷ xs) rest
     → (v ≡ x) × (32 ≡ end_byte (is_last xs)) × (spaced vs ++ left ≡ after_first xs rest)
 first_same v vs text left x xs rest w line =
-    same_run is_inner v x 32 (end_byte (is_last xs)) (spaced vs ++ left) (after_first xs rest) w.are.0.inner line.are.0.inner refl (end_fails (is_last xs))
+    same_run is_word_byte v x 32 (end_byte (is_last xs)) (spaced vs ++ left) (after_first xs rest) w.are.0.inner line.are.0.inner refl (end_fails (is_last xs))
     (sym (append_assoc v (32 ∷ spaced vs) left) ∙ sym w.text_is ∙ line.text_is ∙ cut x xs rest)
 
 pub ahead : (words : List (List ℕ)) (text left : List ℕ) (all : List (List ℕ)) (rest : List ℕ) → Within text words left → IsLine text all rest → Ahead words all left rest
@@ -127,7 +127,7 @@ no_end_left text left words w none = no_word text left words w (λ word last res
 both_same : (text w v : List ℕ) (ws vs : List (List ℕ)) (rest gone : List ℕ) → IsLine text (w ∷ ws) rest → IsLine text (v ∷ vs) gone
     → (w ≡ v) × (end_byte (is_last ws) ≡ end_byte (is_last vs)) × (after_first ws rest ≡ after_first vs gone)
 both_same text w v ws vs rest gone a b =
-    same_run is_inner w v (end_byte (is_last ws)) (end_byte (is_last vs)) (after_first ws rest) (after_first vs gone) a.are.0.inner b.are.0.inner (end_fails (is_last ws)) (end_fails (is_last vs))
+    same_run is_word_byte w v (end_byte (is_last ws)) (end_byte (is_last vs)) (after_first ws rest) (after_first vs gone) a.are.0.inner b.are.0.inner (end_fails (is_last ws)) (end_fails (is_last vs))
     (sym (cut w ws rest) ∙ sym a.text_is ∙ b.text_is ∙ cut v vs gone)
 
 pub same_words : (text : List ℕ) (ws vs : List (List ℕ)) (rest gone : List ℕ) → IsLine text ws rest → IsLine text vs gone → (ws ≡ vs) × (rest ≡ gone)

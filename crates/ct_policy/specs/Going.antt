@@ -3,7 +3,7 @@ use Rattle.std.specs.Prelude.{ℕ, ◌≡◌, ◌+◌, ◌≤◌, ◌++◌, ◌�
 use Rattle.def_image.specs.Parts.{PartsRow}
 use Rattle.def_policy.specs.declared.PolicyFault.{PolicyFault}
 use Rattle.def_policy.specs.declared.PolicyFault.TheVariants.{At, NoMemory}
-use Rattle.def_policy.specs.Rules.{Rule, IsRule, spelled}
+use Rattle.def_policy.specs.Rules.{Rule, IsRule, spelled_rule}
 use Rattle.def_policy.specs.Rulings.{Ruling, meant}
 use Rattle.def_policy.specs.Texts.{BeginsWithRule, BreaksPolicy}
 
@@ -25,6 +25,6 @@ pub record Going (p : PartsRow) (text : List ℕ) (rulings : List Ruling) (left 
   where
     pub rules : List Rule
     pub lines : All IsRule rules
-    pub text_is : text ≡ flat_map spelled rules ++ left
+    pub text_is : text ≡ flat_map spelled_rule rules ++ left
     pub meant_are : map (meant p) rules ≡ map (λ r. Some r) rulings
     pub short : length rulings + length left ≤ length text

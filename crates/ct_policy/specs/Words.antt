@@ -2,7 +2,7 @@
 use Rattle.std.specs.Prelude.{ℕ, ◌≡◌, ◌<◌, ◌++◌, ◌∷◌, Bool, List, length, map, if◌then◌else◌}
 use Rattle.std.specs.List.{AllByRecursion}
 use denote.Bor.{Bor}
-use Rattle.def_policy.specs.Rules.{IsWord, line_of}
+use Rattle.def_policy.specs.Rules.{IsWord, words_line}
 
 abbrev pub texts : List (Bor (List ℕ)) → List (List ℕ)
 texts ws = map (λ w. w.now) ws
@@ -23,7 +23,7 @@ NoFirst text = (word : List ℕ) (last : Bool) (rest : List ℕ) → IsFirst tex
 pub record IsLine (text : List ℕ) (words : List (List ℕ)) (rest : List ℕ) : Type 0 where
   pub some : 0 < length words
   pub are : AllByRecursion IsWord words
-  pub text_is : text ≡ line_of words ++ rest
+  pub text_is : text ≡ words_line words ++ rest
 
 abbrev pub NoWords : List ℕ → Type 0
 NoWords text = (words : List (List ℕ)) (rest : List ℕ) → IsLine text words rest → ⊥

@@ -4,7 +4,7 @@ ghost use Rattle.std.specs.Prelude.{ℕ, ◌≡◌, ◌≢◌, codes, ◌+◌, �
 ghost use Rattle.ct_entry.specs.declared.rows.Owner.TheVariants.{Trusted};
 ghost use Rattle.def_boot.specs.Gates.{entries_of};
 ghost use Rattle.def_policy.specs.Breaking.{breaking};
-ghost use Rattle.def_policy.specs.Denials.{Denies, Reaching, entry_line, entry_lines, path_line};
+ghost use Rattle.def_policy.specs.Denials.{Denies, Reaching, entry_line, entry_lines, denied_path_line};
 ghost use Rattle.ct_policy.specs.Gates.{AreGates};
 ghost use Rattle.ct_policy.specs.Keys.{IsIndex, Serves};
 ghost use Rattle.ct_policy.specs.Kept.{Adds, IsUntrusted};
@@ -139,7 +139,7 @@ fn add_entries(
 /// The line of a path.
 fn add_path(text: &mut String, line: u32, parts: &Parts, owners: &[Owner]) -> Result<(), NoMemory>
     ensures { OnOk result
-        (string_bytes text.new ≡ string_bytes text.old ++ path_line parts.now line owners.now) }
+        (string_bytes text.new ≡ string_bytes text.old ++ denied_path_line parts.now line owners.now) }
 {
     add_denied(text, line)?;
     text.push_str(" path")?;

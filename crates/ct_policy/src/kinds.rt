@@ -11,7 +11,7 @@ use def_policy::Resource;
 
 /// Whether an owner is one of these.
 pub(crate) fn is_listed(owners: &[Owner], owner: Owner) -> bool
-    ensures { result ≡ spec.is_listed owners.now owner }
+    ensures { result ≡ spec.lists_owner owners.now owner }
 {
     owners.iter().any(|x| same(*x, owner))
 }

@@ -5,7 +5,7 @@ ghost use Rattle.ct_entry.specs.declared.rows.Owner.TheVariants.{Trusted};
 ghost use Rattle.def_image.specs.Members.{compartment};
 ghost use Rattle.def_image.specs.Sound.{AreFew, Sound};
 ghost use Rattle.def_policy.specs.Names as spec;
-ghost use Rattle.def_policy.specs.Rules.{ended};
+ghost use Rattle.def_policy.specs.Rules.{spaced_words};
 ghost use Rattle.ct_policy.specs.Words.{texts};
 
 use ct_entries::export_number;
@@ -150,7 +150,7 @@ pub(crate) fn name_of(parts: &Parts, owner: Owner) -> &str
 pub fn add_names(text: &mut String, parts: &Parts, owners: &[Owner]) -> Result<(), NoMemory>
     ensures { OnOk result
         (string_bytes text.new ≡ string_bytes text.old
-        ++ ended (map (spec.name_of parts.now) owners.now)) }
+        ++ spaced_words (map (spec.name_of parts.now) owners.now)) }
 {
     for owner in owners {
         text.push(' ')?;

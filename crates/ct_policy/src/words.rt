@@ -2,7 +2,7 @@
 
 ghost use Rattle.std.specs.Prelude.{ℕ, ◌≡◌, ◌+◌, ◌<◌, ◌≤◌, ◌++◌, length, take, drop, IfOk, MatchOption, slice_index_or};
 ghost use Rattle.std.specs.List.{list_all, prefix_len};
-ghost use Rattle.def_policy.specs.Rules.{is_inner};
+ghost use Rattle.def_policy.specs.Rules.{is_word_byte};
 ghost use Rattle.ct_policy.specs.Words.{IsFirst, IsLine, NoFirst, NoWords, texts};
 
 use std::alloc::{AllocError, Global};
@@ -24,14 +24,14 @@ pub(crate) struct Line<'a> {
 
 /// An ASCII byte other than a space and a line feed.
 fn is_inner(byte: u8) -> bool
-    ensures { result ≡ is_inner byte }
+    ensures { result ≡ is_word_byte byte }
 {
     byte < 128 && (byte != b' ' && byte != b'\n')
 }
 
 /// How many bytes stand before the first that no word has.
 fn run_length(text: &[u8]) -> usize
-    ensures is { result ≡ prefix_len is_inner text.now }
+    ensures is { result ≡ prefix_len is_word_byte text.now }
     ensures within { result ≤ length text.now }
 {
     text.iter().take_while(|byte| is_inner(**byte)).count()

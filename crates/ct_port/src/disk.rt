@@ -77,7 +77,7 @@ fn read_file<R: Files>(
     ensures { IfOk result (λ v. length v.items ≤ limit + 1) }
 {
     match File::open(runtime, name) {
-        Ok(file) => read_front(alloc, file, limit + 1),
+        Ok(file) => read_front(alloc, file, limit),
         Err(error) => Err(cause_of(&error)),
     }
 }
@@ -94,15 +94,17 @@ fn cause_of(error: &io::Error) -> ReadError
     }
 }
 
-/// The first `most` bytes of a reader, or all that it has where these are fewer.
+/// The first `limit + 1` bytes of a reader, or all that it has where these are fewer.
 ///
 /// A read that a signal interrupts is tried again. `Failed`: a read failed. `NoMemory`: the bytes
 /// have no room in memory.
-pub fn read_front<F: Read + Drop>(alloc: Global, file: F, most: u64) -> Result<Vec<u8>, ReadError>
-    requires { most < 2 ^ 63 }
-    ensures size { IfOk result (λ v. length v.items ≤ most) }
-    ensures bytes { IfOk result (λ v. IfSome (F.remaining file) (λ all. v.items ≡ take most all)) }
+pub fn read_front<F: Read + Drop>(alloc: Global, file: F, limit: u64) -> Result<Vec<u8>, ReadError>
+    requires { limit < 2 ^ 62 }
+    ensures size { IfOk result (λ v. length v.items ≤ limit + 1) }
+    ensures bytes { IfOk result
+        (λ v. IfSome (F.remaining file) (λ all. v.items ≡ take (limit + 1) all)) }
 {
+    let most = limit + 1;
     let mut bytes = Vec::new(alloc);
     match file.take(most).read_to_end(&mut bytes) {
         Ok(_) => {

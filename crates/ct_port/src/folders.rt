@@ -2,7 +2,7 @@
 
 ghost use Rattle.std.specs.Prelude.{ℕ, ◌≡◌, ◌∷◌, [], ◌++◌, ◌≤◌, ◌^◌, List, MatchResult, OnOk, OnErr, Some, if◌then◌else◌, true, false};
 ghost use Rattle.std.specs.Str.{bytes_eq};
-ghost use Rattle.def_port.specs.Forms.{FolderRow, FailsAsTold, file_of, folder_view};
+ghost use Rattle.def_port.specs.Forms.{FolderRow, FailsAsTold, file_named, folder_view};
 ghost use Rattle.def_port.specs.Reads.{Reads, ReadFails};
 ghost use Rattle.def_port.specs.Told.{TellsSame};
 
@@ -53,8 +53,8 @@ impl FolderMem {
 
     /// Keeps a file under this name, in place of one that has it. A refusal changes nothing.
     pub fn add(&mut self, alloc: Global, name: &str, bytes: &[u8]) -> Result<(), NoMemory>
-        ensures ok { OnOk result ((n : List ℕ) → file_of self.new.files n
-            ≡ (if bytes_eq name.now n then Some bytes.now else file_of self.old.files n)) }
+        ensures ok { OnOk result ((n : List ℕ) → file_named self.new.files n
+            ≡ (if bytes_eq name.now n then Some bytes.now else file_named self.old.files n)) }
         ensures fails { self.new.fails ≡ self.old.fails }
         ensures calls { self.new.calls ≡ self.old.calls }
         ensures faults { self.new.faults ≡ self.old.faults }

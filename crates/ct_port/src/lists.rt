@@ -3,7 +3,7 @@
 ghost use Rattle.std.specs.Prelude.{ℕ, ◌≡◌, ◌+◌, ◌<◌, List, [], length, take, OnOk, OnErr, IfOk, ◌^◌, Some, None, MatchOption, option_map, if◌then◌else◌};
 ghost use Rattle.std.specs.Str.{bytes_eq};
 ghost use Rattle.def_port.specs.Told.{Call};
-ghost use Rattle.def_port.specs.Forms.{FileRow, IsFirstOf, file_of, is_listed};
+ghost use Rattle.def_port.specs.Forms.{FileRow, IsFirstOf, file_named, is_listed};
 ghost use Rattle.def_port.specs.Reads.{recorded};
 
 use std::alloc::{AllocError, Global};
@@ -44,7 +44,7 @@ impl Model for Reading {
 
 /// The bytes of the first file of this name.
 pub(crate) fn find<'a>(files: &'a [StoredFile], name: &str) -> Option<&'a [u8]>
-    ensures { option_map (λ v. v.now) result ≡ file_of files.now name.now }
+    ensures { option_map (λ v. v.now) result ≡ file_named files.now name.now }
 {
     for file in files {
         if file.name.as_str() == name {
@@ -56,7 +56,7 @@ pub(crate) fn find<'a>(files: &'a [StoredFile], name: &str) -> Option<&'a [u8]>
 
 /// The place of the first file of this name.
 fn position_of(files: &[StoredFile], name: &str) -> Option<usize>
-    ensures { MatchOption result (file_of files.now name.now ≡ None)
+    ensures { MatchOption result (file_named files.now name.now ≡ None)
         (λ i. IsFirstOf files.now name.now i) }
 {
     for i in 0..files.len() {
@@ -76,8 +76,8 @@ pub(crate) fn put(
     name: &str,
     bytes: &[u8],
 ) -> Result<(), AllocError>
-    ensures ok { OnOk result ((n : List ℕ) → file_of files.new.items n
-        ≡ (if bytes_eq name.now n then Some bytes.now else file_of files.old.items n)) }
+    ensures ok { OnOk result ((n : List ℕ) → file_named files.new.items n
+        ≡ (if bytes_eq name.now n then Some bytes.now else file_named files.old.items n)) }
     ensures err { OnErr result (files.new.items ≡ files.old.items) }
 {
     let bytes = Vec::from_slice(alloc, bytes)?;

@@ -3,7 +3,7 @@
 ghost use Rattle.std.specs.Prelude.{ℕ, ◌≡◌, ◌∷◌, [], ◌++◌, ◌+◌, ◌-◌, ◌^◌, min, length, take, List, MatchResult, OnOk, OnErr, if◌then◌else◌, true, false, IsTrue, IsOk, IfOk, ◌↔◌, ◌≤◌, Some, nat_le};
 ghost use Rattle.std.specs.Vec.{vec_capacity};
 ghost use Rattle.def_port.specs.Bytes.{AppendsPart};
-ghost use Rattle.def_port.specs.Forms.{SinkRow, sink_view, written, succeeds};
+ghost use Rattle.def_port.specs.Forms.{SinkRow, sink_view, sink_written, succeeds};
 ghost use Rattle.def_port.specs.Writes.{WriteAnswers};
 
 use crate::Sink;
@@ -86,7 +86,7 @@ impl Sink for SinkMem {
     #[tactic(auto, using(crate::proofs::Parts::part_of, crate::proofs::Parts::nothing_of))]
     fn write(&mut self, piece: &[u8]) -> Result<(), WriteFailed>
         ensures answer { WriteAnswers (sink_view self.old) (sink_view self.new) piece.now result }
-        ensures state { self.new ≡ written self.old piece.now }
+        ensures state { self.new ≡ sink_written self.old piece.now }
         ensures cause { IsOk result ↔ (succeeds self.old piece.now ≡ true) }
     {
         self.calls = self.calls.saturating_add(1);

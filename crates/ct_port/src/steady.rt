@@ -3,7 +3,7 @@
 ghost use Rattle.std.specs.Prelude.{ℕ, ◌≡◌, ◌+◌, ◌-◌, ◌≤◌, ◌^◌, min, length, List, [], MatchResult, OnOk, OnErr, IsOk, Some, None, if◌then◌else◌, true, false};
 ghost use Rattle.std.specs.Str.{bytes_eq};
 ghost use Rattle.def_port.specs.Told.{TellsSame};
-ghost use Rattle.def_port.specs.Forms.{SteadyRow, NeverFails, file_of, steady_sink, steady_view};
+ghost use Rattle.def_port.specs.Forms.{SteadyRow, NeverFails, file_named, steady_sink, steady_view};
 ghost use Rattle.def_port.specs.Reads.{Reads, ReadFails};
 ghost use Rattle.def_port.specs.Writes.{WriteAnswers};
 
@@ -43,8 +43,8 @@ impl SteadyFolder {
 
     /// Keeps a file under this name, in place of one that has it. A refusal changes nothing.
     pub fn add(&mut self, alloc: Global, name: &str, bytes: &[u8]) -> Result<(), NoMemory>
-        ensures ok { OnOk result ((n : List ℕ) → file_of self.new.files n
-            ≡ (if bytes_eq name.now n then Some bytes.now else file_of self.old.files n)) }
+        ensures ok { OnOk result ((n : List ℕ) → file_named self.new.files n
+            ≡ (if bytes_eq name.now n then Some bytes.now else file_named self.old.files n)) }
         ensures calls { self.new.calls ≡ self.old.calls }
         ensures err { OnErr result (self.new ≡ self.old) }
     {

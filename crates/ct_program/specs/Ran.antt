@@ -8,7 +8,7 @@ use Rattle.def_program.specs.Allowing.{IsAllowed}
 use Rattle.def_program.specs.Answers.{Answers}
 use Rattle.def_program.specs.Calls.{CallRecord, call_record}
 use Rattle.def_program.specs.Codes.{code_of}
-use Rattle.def_program.specs.Commands.{Command, form_of}
+use Rattle.def_program.specs.Commands.{Command, command_form}
 use Rattle.def_program.specs.Deciding.{IsDecided}
 use Rattle.def_program.specs.Licences.{IsLicensedCommand, StandFor}
 use Rattle.def_program.specs.Safe.{IsSafeCommand}
@@ -29,9 +29,9 @@ pub record IsCall (e : CallRecord) (s : Status) : Type 0 where
   pub sound : (asked : Command) (files : List (List ℕ)) (p : PartsRow)
       → StandFor asked files p → Sound p
   pub licensed : (asked : Command) (p : PartsRow)
-      → form_of e.words ≡ Some asked → Sound p → IsLicensedCommand asked p
+      → command_form e.words ≡ Some asked → Sound p → IsLicensedCommand asked p
   pub safe : (asked : Command) (p : PartsRow)
-      → form_of e.words ≡ Some asked → Sound p → IsSafeCommand asked p
+      → command_form e.words ≡ Some asked → Sound p → IsSafeCommand asked p
 
 -- the program ran on these words, over untold files
 pub record Ran (words : List (List ℕ)) (before after : SinkView) (s : Status) : Type 0 where

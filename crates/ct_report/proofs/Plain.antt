@@ -12,7 +12,7 @@ use Rattle.serde_json.specs.Written.{has_float, items_have_float}
 use Rattle.def_image.specs.Parts.{CodeRow, CompartmentRow, ThreadRow, PartsRow}
 use Rattle.def_report.specs.Edges.{edges}
 use Rattle.def_report.specs.Labels.{Label, labels_of}
-use Rattle.def_report.specs.Lines.{Line, data_of, export_line_data, line_data, numbered}
+use Rattle.def_report.specs.Lines.{Line, data_of, export_line_data, line_data, numbered_entries}
 use Rattle.def_report.specs.Report.{compartment_data, device_data, edge_data, library_data, thread_data, data_over}
 
 export_plain : (o : Owner) (l : Line) → has_float (export_line_data o l) ≡ false
@@ -35,12 +35,12 @@ data_plain Quota l = refl
 data_plain Key l = refl
 data_plain Export l = export_plain l.entry.owner l
 
-numbered_plain : (n : ℕ) (rs : List Entry) (ls : List Label) → items_have_float (items_of (numbered n rs ls)) ≡ false
+numbered_plain : (n : ℕ) (rs : List Entry) (ls : List Label) → items_have_float (items_of (numbered_entries n rs ls)) ≡ false
 numbered_plain n [] ls = refl
 numbered_plain n (r ∷ rs) [] = refl
 numbered_plain n (r ∷ rs) (l ∷ ls) =
     let line : Line = record { number = n; entry = r; label = l } in
-    or_from (has_float (line_data line)) (items_have_float (items_of (numbered (n + 1) rs ls))) (data_plain r.kind line) (numbered_plain (n + 1) rs ls)
+    or_from (has_float (line_data line)) (items_have_float (items_of (numbered_entries (n + 1) rs ls))) (data_plain r.kind line) (numbered_plain (n + 1) rs ls)
 
 compartments_plain : (cs : List CompartmentRow) → items_have_float (items_of (map compartment_data cs)) ≡ false
 compartments_plain [] = refl
@@ -74,7 +74,7 @@ report_plain p e = six_false
     (items_have_float (items_of (map compartment_data p.compartments)))
     (items_have_float (items_of (map device_data p.devices)))
     (items_have_float (items_of (map edge_data (edges e (length p.compartments)))))
-    (items_have_float (items_of (numbered 1 e.rows (labels_of p))))
+    (items_have_float (items_of (numbered_entries 1 e.rows (labels_of p))))
     (items_have_float (items_of (map library_data p.libraries)))
     (items_have_float (items_of (map (thread_data p) p.threads)))
     (compartments_plain p.compartments) (devices_plain p.devices) (edges_plain (edges e (length p.compartments)))

@@ -55,7 +55,7 @@ fn owned<'a>(owner: &'a str) -> Label<'a>
 
 /// The name of the first row with this number, or nothing.
 fn name_in(table: &[(&'static str, u32)], number: u32) -> &'static str
-    ensures { result.now ≡ spec.named (λ r. r.0.now) (λ r. r.1) number table.now }
+    ensures { result.now ≡ spec.name_by_number (λ r. r.0.now) (λ r. r.1) number table.now }
 {
     for (name, known) in table {
         if *known == number {

@@ -41,7 +41,7 @@ fn add_if(text: &mut String, has: bool, word: &str) -> Result<(), AllocError>
 fn add_names(text: &mut String, rights: u32, names: &[&str]) -> Result<(), AllocError>
     ensures { OnOk result
         (string_bytes text.new
-        ≡ spec.with_names (string_bytes text.old) rights (map (λ n. n.now) names.now)) }
+        ≡ spec.with_right_names (string_bytes text.old) rights (map (λ n. n.now) names.now)) }
 {
     let mut left = rights;
     for name in names {

@@ -12,7 +12,7 @@ use Rattle.def_sched.specs.declared.Status.TheVariants.{Ready, Sleeping, Waiting
 use Rattle.law_sched.proofs.Orders.{starts}
 use Rattle.def_sched.specs.Picks.{IsOrder, first_order}
 use Rattle.ct_sched.specs.Sched.{SchedRow, IsKept}
-use Rattle.def_sched.specs.Statuses.{goes_on, waits_for, after_wake, status_of, woken, woken_count}
+use Rattle.def_sched.specs.Statuses.{runs_again, waits_for, after_wake, status_of, woken, woken_count}
 
 -- ---- a list that is replaced from the front
 
@@ -120,13 +120,13 @@ all_woken a m xs now count h =
 -- ---- who goes on
 
 abbrev one_if : Status → ℕ
-one_if s = cond (goes_on s) 1 0
+one_if s = cond (runs_again s) 1 0
 
-going_more : (xs : List Status) (n : ℕ) → n < length xs → count_by goes_on (take (n + 1) xs) ≡ count_by goes_on (take n xs) + one_if (status_of xs n)
+going_more : (xs : List Status) (n : ℕ) → n < length xs → count_by runs_again (take (n + 1) xs) ≡ count_by runs_again (take n xs) + one_if (status_of xs n)
 going_more xs n inside =
-    elim (bool_tells (goes_on (status_of xs n))) [
-      | inl yes_here ↦ rw yes_here (count_by_more_yes goes_on xs n Ended inside yes_here)
-      | inr no_here ↦ rw no_here (omega (arith, count_by_more_no goes_on xs n Ended inside no_here))
+    elim (bool_tells (runs_again (status_of xs n))) [
+      | inl yes_here ↦ rw yes_here (count_by_more_yes runs_again xs n Ended inside yes_here)
+      | inr no_here ↦ rw no_here (omega (arith, count_by_more_no runs_again xs n Ended inside no_here))
     ]
 
 waiting_idles : (a : ℕ) (s : Status) → waits_for a s ≡ true → one_if s ≡ 0
@@ -151,31 +151,31 @@ part a m xs n inside =
           rw (it_stays a m xs n idle) (omega (arith, more))
     ]
 
-going_so_far : (a m : ℕ) (xs : List Status) (n : ℕ) → n ≤ length xs → count_by goes_on (map (after_wake a m xs) (range_with_len 0 n)) ≡ count_by goes_on (take n xs) + min m (waiting a xs n)
+going_so_far : (a m : ℕ) (xs : List Status) (n : ℕ) → n ≤ length xs → count_by runs_again (map (after_wake a m xs) (range_with_len 0 n)) ≡ count_by runs_again (take n xs) + min m (waiting a xs n)
 going_so_far a m xs zero le = omega arith
 going_so_far a m xs (suc n) le =
     let inside : n < length xs = omega (arith, le) in
     let next : suc n ≡ n + 1 = omega arith in
     let before = going_so_far a m xs n (omega (arith, le)) in
     let more = sum_by-map-range_with_len_more one_if (after_wake a m xs) 0 n n (omega arith) in
-    subst (λ k. count_by goes_on (map (after_wake a m xs) (range_with_len 0 k)) ≡ count_by goes_on (take k xs) + min m (waiting a xs k)) (sym next)
+    subst (λ k. count_by runs_again (map (after_wake a m xs) (range_with_len 0 k)) ≡ count_by runs_again (take k xs) + min m (waiting a xs k)) (sym next)
     (omega (arith, before, more, going_more xs n inside, part a m xs n inside))
 
-pub going_after : (a m : ℕ) (xs : List Status) → count_by goes_on (woken a m xs) ≡ count_by goes_on xs + woken_count a m xs
-going_after a m xs = going_so_far a m xs (length xs) (omega arith) ∙ ap (λ r. count_by goes_on r + min m (count_by (waits_for a) r)) (take-length xs)
+pub going_after : (a m : ℕ) (xs : List Status) → count_by runs_again (woken a m xs) ≡ count_by runs_again xs + woken_count a m xs
+going_after a m xs = going_so_far a m xs (length xs) (omega arith) ∙ ap (λ r. count_by runs_again r + min m (count_by (waits_for a) r)) (take-length xs)
 
-all_go : (xs : List Status) → All (λ s. goes_on s ≡ true) xs → (n : ℕ) → n ≤ length xs → count_by goes_on (take n xs) ≡ n
+all_go : (xs : List Status) → All (λ s. runs_again s ≡ true) xs → (n : ℕ) → n ≤ length xs → count_by runs_again (take n xs) ≡ n
 all_go xs go zero le = refl
 all_go xs go (suc n) le =
     let inside : n < length xs = omega (arith, le) in
     let next : suc n ≡ n + 1 = omega arith in
-    subst (λ k. count_by goes_on (take k xs) ≡ k) (sym next) (omega (arith, all_go xs go n (omega (arith, inside)), count_by_more_yes goes_on xs n Ended inside (go n Ended inside)))
+    subst (λ k. count_by runs_again (take k xs) ≡ k) (sym next) (omega (arith, all_go xs go n (omega (arith, inside)), count_by_more_yes runs_again xs n Ended inside (go n Ended inside)))
 
-pub all_going : (n : ℕ) → count_by goes_on (replicate n Ready) ≡ n
+pub all_going : (n : ℕ) → count_by runs_again (replicate n Ready) ≡ n
 all_going n =
     let size : length (replicate n Ready) ≡ n = length-replicate n Ready in
     let whole : take n (replicate n Ready) ≡ replicate n Ready = ap (λ k. take k (replicate n Ready)) (sym size) ∙ take-length (replicate n Ready) in
-    ap (λ r. count_by goes_on r) (sym whole) ∙ all_go (replicate n Ready) (λ k d inside. rw (get_or-replicate n k Ready d (omega (arith, inside, size))) refl) n (omega (arith, size))
+    ap (λ r. count_by runs_again r) (sym whole) ∙ all_go (replicate n Ready) (λ k d inside. rw (get_or-replicate n k Ready d (omega (arith, inside, size))) refl) n (omega (arith, size))
 
 -- ---- what a scheduler keeps
 
@@ -198,8 +198,8 @@ all_put a m len xs new is size =
     let all : len ≡ length new = size ∙ sym long in
     take-append-le len new (drop (length new) xs) (omega (arith, all)) ∙ ap (λ k. take k new) all ∙ take-length new ∙ is
 
-pub few_go : (a m : ℕ) (xs : List Status) → count_by goes_on xs + woken_count a m xs ≤ length xs
-few_go a m xs = omega (arith, going_after a m xs, count_by-le-length goes_on (woken a m xs), length-map-range_with_len (after_wake a m xs) 0 (length xs))
+pub few_go : (a m : ℕ) (xs : List Status) → count_by runs_again xs + woken_count a m xs ≤ length xs
+few_go a m xs = omega (arith, going_after a m xs, count_by-le-length runs_again (woken a m xs), length-map-range_with_len (after_wake a m xs) 0 (length xs))
 
 pub kept_by_wake : (s : SchedRow) (going a m : ℕ) → IsKept s going → IsKept (record s { statuses = woken a m s.statuses }) (going + woken_count a m s.statuses)
 kept_by_wake s going a m k =

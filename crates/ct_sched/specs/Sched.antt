@@ -1,7 +1,7 @@
 -- A scheduler as contracts see it.
 use Rattle.std.specs.Prelude.{ℕ, ◌≡◌, ◌<◌, ◌^◌, List, Option, Some, None, length, count_by}
 use Rattle.def_sched.specs.declared.Status.{Status}
-use Rattle.def_sched.specs.Statuses.{goes_on}
+use Rattle.def_sched.specs.Statuses.{runs_again}
 use Rattle.def_sched.specs.Picks.{IsOrder, moved_last}
 
 -- each thread's priority and status, thread 0 first, and the order of picks
@@ -24,4 +24,4 @@ pub record IsKept (s : SchedRow) (count : ℕ) : Type 0 where
   pub few : length s.statuses < 2 ^ 32
   pub priorities : length s.priorities ≡ length s.statuses
   pub order : IsOrder (length s.statuses) s.order
-  pub going : count ≡ count_by goes_on s.statuses
+  pub going : count ≡ count_by runs_again s.statuses

@@ -2,7 +2,7 @@
 
 ghost use Rattle.std.specs.Prelude.{ℕ, ◌≡◌, ◌↔◌, ◌<◌, ◌^◌, IsTrue, All, false, is_none, length, map, replicate, count_by, slice_set, IfOk, IfSome};
 ghost use Rattle.def_sched.specs.declared.Status.TheVariants.{Ready, Ended};
-ghost use Rattle.def_sched.specs.Statuses.{is_ready, status_of, goes_on, asleep, after_tick, awaiting, woken, woken_count};
+ghost use Rattle.def_sched.specs.Statuses.{is_ready, status_of, runs_again, asleep, after_tick, awaiting, woken, woken_count};
 ghost use Rattle.def_sched.specs.Picks.{pick, first_order};
 ghost use Rattle.ct_sched.specs.Sched.{SchedRow, with_statuses, after_pick};
 
@@ -159,7 +159,7 @@ impl Sched {
 
     /// How many threads are ready or sleep. Where there are none, no thread ever runs again.
     pub fn going(&self) -> u32
-        ensures { result ≡ count_by goes_on self.now.statuses }
+        ensures { result ≡ count_by runs_again self.now.statuses }
     {
         self.going
     }

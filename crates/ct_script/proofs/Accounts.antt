@@ -11,7 +11,7 @@ use Rattle.std.proofs.lemmas.Bool.{cases_order}
 use Rattle.ct_entry.specs.Listed.{DeviceRow}
 use Rattle.def_script.specs.declared.ScriptFault.{ScriptFault}
 use Rattle.def_script.specs.declared.ScriptFault.TheVariants.{At, NoMemory}
-use Rattle.def_script.specs.Script.{Row, IsScriptRow, IsScript, NoScriptLine, BreaksScript, IsScriptCause, ReadsAsScript, due, device_named, last_step, spelled}
+use Rattle.def_script.specs.Script.{Row, IsScriptRow, IsScript, NoScriptLine, BreaksScript, IsScriptCause, ReadsAsScript, due, input_device_named, last_step, spelled_row}
 use Rattle.law_script.proofs.Lines.{line_long}
 use Rattle.law_script.proofs.Scripts.{no_row}
 use Rattle.ct_script.specs.Lines.{LinesRow, Going, Takes, Late, Lost, IsRefusal, AreLines, NeverFalls, dues_of, last_of, step_of, given_of}
@@ -38,19 +38,19 @@ up_to_last rows k d order inside =
 
 -- ---- one more line
 
-text_more : (text left rest : List ℕ) (rows : List Row) (r : Row) → text ≡ flat_map spelled rows ++ left → left ≡ spelled r ++ rest → text ≡ flat_map spelled (rows ++ r ∷ []) ++ rest
+text_more : (text left rest : List ℕ) (rows : List Row) (r : Row) → text ≡ flat_map spelled_row rows ++ left → left ≡ spelled_row r ++ rest → text ≡ flat_map spelled_row (rows ++ r ∷ []) ++ rest
 text_more text left rest rows r whole first =
     whole
-    ∙ ap (λ t. flat_map spelled rows ++ t) first
-    ∙ sym (append_assoc (flat_map spelled rows) (spelled r) rest)
-    ∙ ap (λ t. (flat_map spelled rows ++ t) ++ rest) (sym (flat_map-cons spelled r [] ∙ append-nil (spelled r)))
-    ∙ ap (λ t. t ++ rest) (sym (flat_map-append spelled rows (r ∷ [])))
+    ∙ ap (λ t. flat_map spelled_row rows ++ t) first
+    ∙ sym (append_assoc (flat_map spelled_row rows) (spelled_row r) rest)
+    ∙ ap (λ t. (flat_map spelled_row rows ++ t) ++ rest) (sym (flat_map-cons spelled_row r [] ∙ append-nil (spelled_row r)))
+    ∙ ap (λ t. t ++ rest) (sym (flat_map-append spelled_row rows (r ∷ [])))
 
-script_more : (devices : List DeviceRow) (rows : List Row) (r : Row) → IsScript devices rows → IsScriptRow r → last_step rows ≤ r.step → IsSome (device_named devices r.name) → IsScript devices (rows ++ r ∷ [])
+script_more : (devices : List DeviceRow) (rows : List Row) (r : Row) → IsScript devices rows → IsScriptRow r → last_step rows ≤ r.step → IsSome (input_device_named devices r.name) → IsScript devices (rows ++ r ∷ [])
 script_more devices rows r is row order named = record {
   lines = All-push IsScriptRow rows r is.lines row;
   order = all_pairs_push NotLater rows r is.order (λ k d inside. omega (arith, up_to_last rows k d is.order inside, order));
-  named = All-push (λ x. IsSome (device_named devices x.name)) rows r is.named named;
+  named = All-push (λ x. IsSome (input_device_named devices x.name)) rows r is.named named;
 }
 
 pub goes_on : (devices : List DeviceRow) (text left rest : List ℕ) (old new : LinesRow) → Going devices text old left → Takes devices old new left rest → Going devices text new rest
@@ -112,7 +112,7 @@ pub reads : (devices : List DeviceRow) (text : List ℕ) (l : LinesRow) → Goin
 reads devices text l g = record {
   rows = g.rows;
   script = g.script;
-  text_is = g.text_is ∙ append-nil (flat_map spelled g.rows);
+  text_is = g.text_is ∙ append-nil (flat_map spelled_row g.rows);
   dues_are = ap (λ ss. dues_of ss l.givens) g.steps ∙ ap (λ gs. dues_of (map step_of g.rows) gs) g.givens ∙ made devices g.rows;
 }
 

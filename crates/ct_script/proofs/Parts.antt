@@ -9,7 +9,7 @@ use Rattle.law_lists.proofs.Tests.{bool_tells, both_left}
 use Rattle.def_texts.specs.Digits.{number_within}
 use Rattle.ct_texts.proofs.Numbers.{number_back, number_told}
 use Rattle.def_profile.specs.declared.limits.TheConstants.{MOST_STEPS}
-use Rattle.def_script.specs.Script.{Row, IsScriptRow, BeginsWithRow, NoScriptLine, is_inner}
+use Rattle.def_script.specs.Script.{Row, IsScriptRow, BeginsWithRow, NoScriptLine, is_field_byte}
 use Rattle.law_script.proofs.Runs.{same_run, same_number, no_end, number_inner}
 use Rattle.law_script.proofs.Lines.{unrolled, step_small, byte_small}
 use Rattle.ct_script.specs.Fields.{IsNumber, NoNumber, IsName, NoName, row_of}
@@ -52,7 +52,7 @@ run_whole p (x ∷ xs) long =
 -- ---- numbers
 
 abbrev pub place_of : List ℕ → ℕ
-place_of text = prefix_len is_inner text
+place_of text = prefix_len is_field_byte text
 
 number_small : (n : ℕ) → n < 2 ^ 32 → n < 2 ^ 64
 number_small n small = omega (arith, small)
@@ -66,27 +66,27 @@ no_small digits none n small is =
 pub small_is : (digits : List ℕ) (n : ℕ) → Some n ≡ number_within 4294967295 digits → decimal n ≡ digits
 small_is digits n some = (number_told 4294967295 digits n (sym some)).is
 
-pub endless : (text : List ℕ) (end : ℕ) → is_inner end ≡ false → length text ≤ place_of text → NoNumber text end
+pub endless : (text : List ℕ) (end : ℕ) → is_field_byte end ≡ false → length text ≤ place_of text → NoNumber text end
 endless text end ends long n rest is =
-    both_ways (list_all is_inner text) (ap (λ t. list_all is_inner t) is.text_is ∙ no_end is_inner (decimal n) end rest ends) (run_whole is_inner text long)
+    both_ways (list_all is_field_byte text) (ap (λ t. list_all is_field_byte t) is.text_is ∙ no_end is_field_byte (decimal n) end rest ends) (run_whole is_field_byte text long)
 
 -- where the number ends, if there is one
-meets : (text : List ℕ) (end n : ℕ) (rest : List ℕ) → is_inner end ≡ false → place_of text < length text → IsNumber text end n rest
+meets : (text : List ℕ) (end n : ℕ) (rest : List ℕ) → is_field_byte end ≡ false → place_of text < length text → IsNumber text end n rest
     → (take (place_of text) text ≡ decimal n) × (get_or text (place_of text) 0 ≡ end) × (drop (suc (place_of text)) text ≡ rest)
 meets text end n rest ends inside is =
-    let run = run_is is_inner text inside in
-    same_run is_inner (take (place_of text) text) (decimal n) (get_or text (place_of text) 0) end (drop (suc (place_of text)) text) rest
+    let run = run_is is_field_byte text inside in
+    same_run is_field_byte (take (place_of text) text) (decimal n) (get_or text (place_of text) 0) end (drop (suc (place_of text)) text) rest
     run.passes (number_inner n (number_small n is.small)) run.fails ends (sym run.whole ∙ is.text_is)
 
-pub other_end : (text : List ℕ) (end : ℕ) → is_inner end ≡ false → place_of text < length text → (get_or text (place_of text) 0 ≡ end → ⊥) → NoNumber text end
+pub other_end : (text : List ℕ) (end : ℕ) → is_field_byte end ≡ false → place_of text < length text → (get_or text (place_of text) 0 ≡ end → ⊥) → NoNumber text end
 other_end text end ends inside differs n rest is = differs (meets text end n rest ends inside is).1
 
-pub no_digits : (text : List ℕ) (end : ℕ) → is_inner end ≡ false → place_of text < length text → ((n : ℕ) → n < 2 ^ 32 → decimal n ≡ take (place_of text) text → ⊥) → NoNumber text end
+pub no_digits : (text : List ℕ) (end : ℕ) → is_field_byte end ≡ false → place_of text < length text → ((n : ℕ) → n < 2 ^ 32 → decimal n ≡ take (place_of text) text → ⊥) → NoNumber text end
 no_digits text end ends inside none n rest is = none n is.small (sym (meets text end n rest ends inside is).0)
 
 pub number_is : (text : List ℕ) (end n : ℕ) → n < 2 ^ 32 → place_of text < length text → get_or text (place_of text) 0 ≡ end → decimal n ≡ take (place_of text) text → IsNumber text end n (drop (suc (place_of text)) text)
 number_is text end n small inside here digits =
-    let run = run_is is_inner text inside in
+    let run = run_is is_field_byte text inside in
     record {
       small = small;
       text_is = run.whole ∙ ap (λ t. t ++ get_or text (place_of text) 0 ∷ drop (suc (place_of text)) text) (sym digits) ∙ ap (λ e. decimal n ++ e ∷ drop (suc (place_of text)) text) here;
@@ -96,7 +96,7 @@ number_is text end n small inside here digits =
 
 pub name_is : (text : List ℕ) → 0 < place_of text → place_of text < length text → get_or text (place_of text) 0 ≡ 32 → IsName text (take (place_of text) text) (drop (suc (place_of text)) text)
 name_is text some inside here =
-    let run = run_is is_inner text inside in
+    let run = run_is is_field_byte text inside in
     record {
       some = omega (arith, some, inside, length-take-le (place_of text) text (omega (arith, inside)));
       inner = run.passes;
@@ -117,20 +117,20 @@ name_read_at text k is some inside here =
 
 name_meets : (text name rest : List ℕ) → place_of text < length text → IsName text name rest → (take (place_of text) text ≡ name) × (get_or text (place_of text) 0 ≡ 32) × (drop (suc (place_of text)) text ≡ rest)
 name_meets text name rest inside is =
-    let run = run_is is_inner text inside in
-    same_run is_inner (take (place_of text) text) name (get_or text (place_of text) 0) 32 (drop (suc (place_of text)) text) rest
+    let run = run_is is_field_byte text inside in
+    same_run is_field_byte (take (place_of text) text) name (get_or text (place_of text) 0) 32 (drop (suc (place_of text)) text) rest
     run.passes is.inner run.fails refl (sym run.whole ∙ is.text_is)
 
-pub some_place : (name more : List ℕ) → 0 < length name → list_all is_inner name ≡ true → 0 < place_of (name ++ more)
+pub some_place : (name more : List ℕ) → 0 < length name → list_all is_field_byte name ≡ true → 0 < place_of (name ++ more)
 some_place [] more some inner = absurd (omega (arith, some))
-some_place (c ∷ cs) more some inner = rw (both_left (is_inner c) (list_all is_inner cs) inner) (omega arith)
+some_place (c ∷ cs) more some inner = rw (both_left (is_field_byte c) (list_all is_field_byte cs) inner) (omega arith)
 
 pub no_front : (text : List ℕ) → place_of text ≡ 0 → NoName text
 no_front text none name rest is = omega (arith, none, some_place name (32 ∷ rest) is.some is.inner, ap (λ t. place_of t) is.text_is)
 
 pub no_space : (text : List ℕ) → length text ≤ place_of text → NoName text
 no_space text long name rest is =
-    both_ways (list_all is_inner text) (ap (λ t. list_all is_inner t) is.text_is ∙ no_end is_inner name 32 rest refl) (run_whole is_inner text long)
+    both_ways (list_all is_field_byte text) (ap (λ t. list_all is_field_byte t) is.text_is ∙ no_end is_field_byte name 32 rest refl) (run_whole is_field_byte text long)
 
 pub other_byte : (text : List ℕ) → place_of text < length text → (get_or text (place_of text) 0 ≡ 32 → ⊥) → NoName text
 other_byte text inside other name rest is = other (name_meets text name rest inside is).1
@@ -176,7 +176,7 @@ no_name text n left some is none = record {
 
 name_read : (text : List ℕ) (n : ℕ) (left name more : List ℕ) (r : Row) (rest : List ℕ) → IsNumber text 32 n left → IsName left name more → BeginsWithRow text r rest → (name ≡ r.name) × (more ≡ decimal r.byte ++ 10 ∷ rest)
 name_read text n left name more r rest is called b =
-    let both = same_run is_inner name r.name 32 32 more (decimal r.byte ++ 10 ∷ rest) called.inner b.row.inner refl refl (sym called.text_is ∙ (step_read text n left r rest is b).1) in
+    let both = same_run is_field_byte name r.name 32 32 more (decimal r.byte ++ 10 ∷ rest) called.inner b.row.inner refl refl (sym called.text_is ∙ (step_read text n left r rest is b).1) in
     (both.0, both.2)
 
 pub no_byte : (text : List ℕ) (n : ℕ) (left name more : List ℕ) → 0 < length text → IsNumber text 32 n left → IsName left name more → NoNumber more 10 → NoScriptLine text

@@ -1,7 +1,7 @@
 -- The parts of a line at the front of a text.
 use Rattle.std.specs.Prelude.{ℕ, ◌≡◌, ◌<◌, ◌^◌, ◌++◌, ◌∷◌, true, List, length, decimal}
 use Rattle.std.specs.List.{list_all}
-use Rattle.def_script.specs.Script.{Row, is_inner}
+use Rattle.def_script.specs.Script.{Row, is_field_byte}
 
 -- a number before this end
 pub record IsNumber (text : List ℕ) (end number : ℕ) (rest : List ℕ) : Type 0 where
@@ -14,7 +14,7 @@ NoNumber text end = (n : ℕ) (rest : List ℕ) → IsNumber text end n rest →
 -- a name before a space
 pub record IsName (text name rest : List ℕ) : Type 0 where
   pub some : 0 < length name
-  pub inner : list_all is_inner name ≡ true
+  pub inner : list_all is_field_byte name ≡ true
   pub text_is : text ≡ name ++ 32 ∷ rest
 
 abbrev pub NoName : List ℕ → Type 0

@@ -4,7 +4,7 @@ use Rattle.ct_entry.specs.Listed.{DeviceRow}
 use Rattle.def_script.specs.declared.Given.{Given}
 use Rattle.def_script.specs.declared.ScriptFault.{ScriptFault}
 use Rattle.def_script.specs.declared.ScriptFault.TheVariants.{At, NoMemory}
-use Rattle.def_script.specs.Script.{Row, IsScript, Due, BeginsWithRow, NoScriptLine, due, device_named, spelled}
+use Rattle.def_script.specs.Script.{Row, IsScript, Due, BeginsWithRow, NoScriptLine, due, input_device_named, spelled_row}
 
 pub record LinesRow : Type 0 where
   pub steps : List ℕ
@@ -54,7 +54,7 @@ pub record Takes (devices : List DeviceRow) (old new : LinesRow) (left rest : Li
   pub row : Row
   pub begins : BeginsWithRow left row rest
   pub order : last_of old.steps ≤ row.step
-  pub named : IsSome (device_named devices row.name)
+  pub named : IsSome (input_device_named devices row.name)
   pub kept : new ≡ with_line old row.step (given_of devices row)
 
 -- a line begins what is left, whose step is less than the last
@@ -70,7 +70,7 @@ pub record Lost (devices : List DeviceRow) (steps left : List ℕ) : Type 0 wher
   pub rest : List ℕ
   pub begins : BeginsWithRow left next rest
   pub order : last_of steps ≤ next.step
-  pub unknown : device_named devices next.name ≡ None
+  pub unknown : input_device_named devices next.name ≡ None
 
 abbrev pub IsRefusal : List DeviceRow → LinesRow → List ℕ → ScriptFault → Type 0
 IsRefusal devices old left (At number line) =
@@ -84,7 +84,7 @@ pub record Going (devices : List DeviceRow) (text : List ℕ) (l : LinesRow) (le
   where
     pub rows : List Row
     pub script : IsScript devices rows
-    pub text_is : text ≡ flat_map spelled rows ++ left
+    pub text_is : text ≡ flat_map spelled_row rows ++ left
     pub steps : l.steps ≡ map step_of rows
     pub givens : l.givens ≡ map (given_of devices) rows
     pub short : length rows + length left ≤ length text

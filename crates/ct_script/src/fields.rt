@@ -2,7 +2,7 @@
 
 ghost use Rattle.std.specs.Prelude.{ℕ, ◌≡◌, ◌+◌, ◌<◌, ◌≤◌, ◌^◌, ◌++◌, ◌∷◌, length, take, drop, decimal, false, MatchOption, slice_index_or};
 ghost use Rattle.std.specs.List.{list_all, prefix_len};
-ghost use Rattle.def_script.specs.Script.{is_inner, NoScriptLine, BeginsWithRow};
+ghost use Rattle.def_script.specs.Script.{is_field_byte, NoScriptLine, BeginsWithRow};
 ghost use Rattle.ct_script.specs.Fields.{IsNumber, NoNumber, IsName, NoName, row_of};
 
 use ct_texts::number_of;
@@ -33,14 +33,14 @@ pub(crate) struct Line<'a> {
 
 /// Neither a space nor a line feed.
 fn is_inner(byte: u8) -> bool
-    ensures { result ≡ is_inner byte }
+    ensures { result ≡ is_field_byte byte }
 {
     byte != b' ' && byte != b'\n'
 }
 
 /// How many bytes stand before the first space or line feed.
 fn run_length(text: &[u8]) -> usize
-    ensures is { result ≡ prefix_len is_inner text.now }
+    ensures is { result ≡ prefix_len is_field_byte text.now }
     ensures within { result ≤ length text.now }
 {
     text.iter().take_while(|byte| is_inner(**byte)).count()
@@ -61,7 +61,7 @@ fn small_number_of(digits: &[u8]) -> Option<u32>
 /// The number before a space or a line feed, where that is the byte `end`.
 #[tactic(auto, using(crate::proofs::Parts::endless, crate::proofs::Parts::other_end, crate::proofs::Parts::no_digits, crate::proofs::Parts::number_is))]
 fn number_before(text: &[u8], end: u8) -> Option<Counted<'_>>
-    requires { is_inner end ≡ false }
+    requires { is_field_byte end ≡ false }
     ensures { MatchOption result (NoNumber text.now end)
         (λ c. IsNumber text.now end c.number c.rest.now) }
 {

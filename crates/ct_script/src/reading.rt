@@ -1,7 +1,7 @@
 //! The lines of a text, one after another.
 
 ghost use Rattle.std.specs.Prelude.{ℕ, ◌≡◌, ◌+◌, ◌<◌, ◌≤◌, ◌^◌, length, [], MatchResult};
-ghost use Rattle.def_script.specs.Script.{IsScriptCause, device_named, given_at, is_named};
+ghost use Rattle.def_script.specs.Script.{IsScriptCause, input_device_named, given_at, is_named};
 ghost use Rattle.ct_script.specs.Lines.{AreLines, Going, Takes, IsRefusal, dues_of, last_of, with_line};
 
 use crate::fields::first_line;
@@ -60,7 +60,7 @@ fn is_named(device: &Device, name: &[u8]) -> bool
 /// The device of this name to which bytes come.
 fn find_device(devices: &[Device], name: &[u8]) -> Option<u32>
     requires { length devices.now < 2 ^ 32 }
-    ensures { result ≡ device_named devices.now name.now }
+    ensures { result ≡ input_device_named devices.now name.now }
 {
     for (index, device) in devices.iter().enumerate() {
         if is_named(device, name) {

@@ -9,7 +9,7 @@ use Rattle.def_source.specs.declared.words.Head.{Head}
 use Rattle.def_source.specs.declared.words.Head.TheVariants as head
 use Rattle.def_source.specs.declared.words.Directive.{Directive}
 use Rattle.def_source.specs.declared.words.Directive.TheVariants as directive
-use Rattle.def_source.specs.Source.{Name, Row, ended, comma_at, open_at, close_at, name_at, number_at, target_at, register_of, register_at, register_comma, address_at, two_registers, three_registers, two_registers_number, two_registers_target, register_number, register_target, register_name, register_address, one_register, one_number, one_target, form_of, directive_form, head_of, directive_of, headed, directed, formed, statement_of, label_of, after_label, result_map, row_line, tokens_line, or_else}
+use Rattle.def_source.specs.Source.{Name, Row, ended, comma_at, open_at, close_at, name_at, number_at, target_at, register_of, register_at, register_comma, address_at, two_registers, three_registers, two_registers_number, two_registers_target, register_number, register_and_target, register_name, register_address, one_register, one_number, one_target, statement_form, directive_form, statement_head, directive_of, headed, directed, formed, statement_of, label_of, after_label, result_map, row_line, tokens_line, or_else}
 use Rattle.ct_source.specs.Runs.{shortened}
 
 -- what stands at the front of a row, if it does, has so many tokens
@@ -149,8 +149,8 @@ register_number_end ts h = no_more (λ p. p.1) 2 4 ts (register_comma ts) _ (reg
     (λ a h. no_more (λ p. p.1) 1 3 a.1 (number_at a.1) (λ n. ended n.1 (a.0, n.0)) (number_takes a.1) h
     (λ n h. not_ended n.1 (a.0, n.0) (omega (arith, h))))
 
-register_target_end : (ts : Row) → 6 < length ts → register_target ts ≡ None
-unfolding register_target
+register_target_end : (ts : Row) → 6 < length ts → register_and_target ts ≡ None
+unfolding register_and_target
 register_target_end ts h = no_more (λ p. p.1) 2 4 ts (register_comma ts) _ (register_comma_takes ts) h
     (λ a h. no_more (λ p. p.1) 1 3 a.1 (target_at a.1) (λ t. ended t.1 (a.0, t.0)) (target_takes a.1) h
     (λ t h. not_ended t.1 (a.0, t.0) (omega (arith, h))))
@@ -188,7 +188,7 @@ alone_end ts p h = not_ended ts p (omega (arith, h))
 neither : (a b : Option (Part Name)) → a ≡ None → b ≡ None → or_else a b ≡ None
 neither a b ea eb = ap (λ o. or_else o b) ea ∙ eb
 
-no_form : (h : Head) (ts : Row) → 6 < length ts → form_of h ts ≡ None
+no_form : (h : Head) (ts : Row) → 6 < length ts → statement_form h ts ≡ None
 no_form (head.Registers operation) ts l = none_mapped _ _ (three_registers_end ts l)
 no_form (head.Immediate operation) ts l = none_mapped _ _ (two_registers_number_end ts l)
 no_form (head.Upper operation) ts l = none_mapped _ _ (register_number_end ts l)
@@ -231,7 +231,7 @@ long_directive s None ts us h k = refl
 long_directive s (Some d) ts us h k = ap (formed s) (no_directive d ts h ∙ sym (no_directive d us k))
 
 long_statement : (s : Section) (t : Token Name) (ts us : Row) → 6 < length ts → 6 < length us → statement_of s (t ∷ ts) ≡ statement_of s (t ∷ us)
-long_statement s (token.Name n) ts us h k = long_head s (head_of n) ts us h k
+long_statement s (token.Name n) ts us h k = long_head s (statement_head n) ts us h k
 long_statement s (token.Directive n) ts us h k = long_directive s (directive_of n) ts us h k
 long_statement s (token.Number n) ts us h k = refl
 long_statement s token.Comma ts us h k = refl

@@ -34,7 +34,7 @@ pub(crate) fn is_letter(c: u8) -> bool
 }
 
 fn is_name_byte(c: u8) -> bool
-    ensures { result ≡ source.is_name_byte c }
+    ensures { result ≡ source.is_symbol_byte c }
 {
     is_letter(c) || c.is_ascii_digit()
 }
@@ -61,7 +61,7 @@ pub(crate) fn digit(c: u8) -> u8
 
 /// Whether a piece is a name: a letter, then letters and digits, at most 64 in all.
 pub(crate) fn is_name(piece: &[u8]) -> bool
-    ensures { result ≡ source.is_name piece.now }
+    ensures { result ≡ source.is_symbol piece.now }
 {
     match piece {
         [] => false,
@@ -70,7 +70,7 @@ pub(crate) fn is_name(piece: &[u8]) -> bool
 }
 
 fn are_name_bytes(text: &[u8]) -> bool
-    ensures { result ≡ list_all source.is_name_byte text.now }
+    ensures { result ≡ list_all source.is_symbol_byte text.now }
 {
     text.iter().all(|c| is_name_byte(*c))
 }

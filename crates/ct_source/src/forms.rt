@@ -27,7 +27,7 @@ fn alone<'a>(row: &[Token<&'a [u8]>], part: Part<&'a [u8]>) -> Option<Part<&'a [
 
 fn registers<'a>(operation: RegisterOperation, row: &[Token<&'a [u8]>]) -> Option<Part<&'a [u8]>>
     ensures { option_map part_view result
-        ≡ source.form_of (head.Registers operation) (row_view row.now) }
+        ≡ source.statement_form (head.Registers operation) (row_view row.now) }
 {
     let (rd, rs1, rs2) = three_registers(row)?;
     Some(Part::Registers {
@@ -40,7 +40,7 @@ fn registers<'a>(operation: RegisterOperation, row: &[Token<&'a [u8]>]) -> Optio
 
 fn immediate<'a>(operation: ImmediateOperation, row: &[Token<&'a [u8]>]) -> Option<Part<&'a [u8]>>
     ensures { option_map part_view result
-        ≡ source.form_of (head.Immediate operation) (row_view row.now) }
+        ≡ source.statement_form (head.Immediate operation) (row_view row.now) }
 {
     let (rd, rs1, number) = two_registers_number(row)?;
     Some(Part::Immediate {
@@ -53,7 +53,7 @@ fn immediate<'a>(operation: ImmediateOperation, row: &[Token<&'a [u8]>]) -> Opti
 
 fn upper<'a>(operation: UpperOperation, row: &[Token<&'a [u8]>]) -> Option<Part<&'a [u8]>>
     ensures { option_map part_view result
-        ≡ source.form_of (head.Upper operation) (row_view row.now) }
+        ≡ source.statement_form (head.Upper operation) (row_view row.now) }
 {
     let (rd, number) = register_number(row)?;
     Some(Part::Upper {
@@ -65,7 +65,7 @@ fn upper<'a>(operation: UpperOperation, row: &[Token<&'a [u8]>]) -> Option<Part<
 
 fn store<'a>(operation: StoreOperation, row: &[Token<&'a [u8]>]) -> Option<Part<&'a [u8]>>
     ensures { option_map part_view result
-        ≡ source.form_of (head.Store operation) (row_view row.now) }
+        ≡ source.statement_form (head.Store operation) (row_view row.now) }
 {
     let (rs2, number, rs1) = register_address(row)?;
     Some(Part::Store {
@@ -78,7 +78,7 @@ fn store<'a>(operation: StoreOperation, row: &[Token<&'a [u8]>]) -> Option<Part<
 
 fn branch<'a>(operation: BranchOperation, row: &[Token<&'a [u8]>]) -> Option<Part<&'a [u8]>>
     ensures { option_map part_view result
-        ≡ source.form_of (head.Branch operation) (row_view row.now) }
+        ≡ source.statement_form (head.Branch operation) (row_view row.now) }
 {
     let (rs1, rs2, target) = two_registers_target(row)?;
     Some(Part::Branch {
@@ -91,84 +91,84 @@ fn branch<'a>(operation: BranchOperation, row: &[Token<&'a [u8]>]) -> Option<Par
 
 fn source<'a>(operation: SourceOperation, row: &[Token<&'a [u8]>]) -> Option<Part<&'a [u8]>>
     ensures { option_map part_view result
-        ≡ source.form_of (head.Source operation) (row_view row.now) }
+        ≡ source.statement_form (head.Source operation) (row_view row.now) }
 {
     let (rd, rs1) = two_registers(row)?;
     Some(Part::Source { operation, rd, rs1 })
 }
 
 fn jal<'a>(row: &[Token<&'a [u8]>]) -> Option<Part<&'a [u8]>>
-    ensures { option_map part_view result ≡ source.form_of head.Jal (row_view row.now) }
+    ensures { option_map part_view result ≡ source.statement_form head.Jal (row_view row.now) }
 {
     let (rd, target) = register_target(row)?;
     Some(Part::Jal { rd, target })
 }
 
 fn moved<'a>(row: &[Token<&'a [u8]>]) -> Option<Part<&'a [u8]>>
-    ensures { option_map part_view result ≡ source.form_of head.Move (row_view row.now) }
+    ensures { option_map part_view result ≡ source.statement_form head.Move (row_view row.now) }
 {
     let (rd, rs) = two_registers(row)?;
     Some(Part::Move { rd, rs })
 }
 
 fn jump<'a>(row: &[Token<&'a [u8]>]) -> Option<Part<&'a [u8]>>
-    ensures { option_map part_view result ≡ source.form_of head.Jump (row_view row.now) }
+    ensures { option_map part_view result ≡ source.statement_form head.Jump (row_view row.now) }
 {
     let target = one_target(row)?;
     Some(Part::Jump { target })
 }
 
 fn jump_and_link<'a>(row: &[Token<&'a [u8]>]) -> Option<Part<&'a [u8]>>
-    ensures { option_map part_view result ≡ source.form_of head.JumpAndLink (row_view row.now) }
+    ensures { option_map part_view result ≡ source.statement_form head.JumpAndLink (row_view row.now) }
 {
     let (rd, target) = register_target(row)?;
     Some(Part::JumpAndLink { rd, target })
 }
 
 fn jump_register<'a>(row: &[Token<&'a [u8]>]) -> Option<Part<&'a [u8]>>
-    ensures { option_map part_view result ≡ source.form_of head.JumpRegister (row_view row.now) }
+    ensures { option_map part_view result ≡ source.statement_form head.JumpRegister (row_view row.now) }
 {
     let rs = one_register(row)?;
     Some(Part::JumpRegister { rs })
 }
 
 fn if_zero<'a>(row: &[Token<&'a [u8]>]) -> Option<Part<&'a [u8]>>
-    ensures { option_map part_view result ≡ source.form_of head.IfZero (row_view row.now) }
+    ensures { option_map part_view result ≡ source.statement_form head.IfZero (row_view row.now) }
 {
     let (rs, target) = register_target(row)?;
     Some(Part::IfZero { rs, target })
 }
 
 fn if_not_zero<'a>(row: &[Token<&'a [u8]>]) -> Option<Part<&'a [u8]>>
-    ensures { option_map part_view result ≡ source.form_of head.IfNotZero (row_view row.now) }
+    ensures { option_map part_view result ≡ source.statement_form head.IfNotZero (row_view row.now) }
 {
     let (rs, target) = register_target(row)?;
     Some(Part::IfNotZero { rs, target })
 }
 
 fn load_immediate<'a>(row: &[Token<&'a [u8]>]) -> Option<Part<&'a [u8]>>
-    ensures { option_map part_view result ≡ source.form_of head.LoadImmediate (row_view row.now) }
+    ensures { option_map part_view result ≡ source.statement_form head.LoadImmediate (row_view row.now) }
 {
     let (rd, number) = register_number(row)?;
     Some(Part::LoadImmediate { rd, number })
 }
 
 fn import<'a>(row: &[Token<&'a [u8]>]) -> Option<Part<&'a [u8]>>
-    ensures { option_map part_view result ≡ source.form_of head.Import (row_view row.now) }
+    ensures { option_map part_view result ≡ source.statement_form head.Import (row_view row.now) }
 {
     let (rd, name) = register_name(row)?;
     Some(Part::Import { rd, name })
 }
 
 fn text_address<'a>(row: &[Token<&'a [u8]>]) -> Option<Part<&'a [u8]>>
-    ensures { option_map part_view result ≡ source.form_of head.TextAddress (row_view row.now) }
+    ensures { option_map part_view result ≡ source.statement_form head.TextAddress (row_view row.now) }
 {
     let (rd, label) = register_name(row)?;
     Some(Part::TextAddress { rd, label })
 }
 
 fn global_address<'a>(row: &[Token<&'a [u8]>]) -> Option<Part<&'a [u8]>>
-    ensures { option_map part_view result ≡ source.form_of head.GlobalAddress (row_view row.now) }
+    ensures { option_map part_view result ≡ source.statement_form head.GlobalAddress (row_view row.now) }
 {
     let (rd, label) = register_name(row)?;
     Some(Part::GlobalAddress { rd, label })
@@ -176,7 +176,7 @@ fn global_address<'a>(row: &[Token<&'a [u8]>]) -> Option<Part<&'a [u8]>>
 
 fn load<'a>(operation: LoadOperation, row: &[Token<&'a [u8]>]) -> Option<Part<&'a [u8]>>
     ensures { option_map part_view result
-        ≡ source.form_of (head.Load operation) (row_view row.now) }
+        ≡ source.statement_form (head.Load operation) (row_view row.now) }
 {
     let (rd, number, rs1) = register_address(row)?;
     Some(Part::Load {
@@ -218,7 +218,7 @@ fn register_jump<'a>(row: &[Token<&'a [u8]>]) -> Option<Part<&'a [u8]>>
 
 /// The statement of a word and the tokens after it, if they are one of its operand forms.
 pub(crate) fn form<'a>(head: Head, row: &[Token<&'a [u8]>]) -> Option<Part<&'a [u8]>>
-    ensures { option_map part_view result ≡ source.form_of head (row_view row.now) }
+    ensures { option_map part_view result ≡ source.statement_form head (row_view row.now) }
 {
     match head {
         Head::Registers(operation) => registers(operation, row),

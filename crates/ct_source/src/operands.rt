@@ -180,10 +180,10 @@ pub(crate) fn register_number<'a>(row: &[Token<&'a [u8]>]) -> Option<(u32, Numbe
 }
 
 /// `rd, target`, and nothing after it.
-#[tactic(auto, unfolding(def_source::specs::Source::register_target))]
+#[tactic(auto, unfolding(def_source::specs::Source::register_and_target))]
 pub(crate) fn register_target<'a>(row: &[Token<&'a [u8]>]) -> Option<(u32, Target<&'a [u8]>)>
     ensures { option_map (λ o. (o.0, target_view o.1)) result
-        ≡ source.register_target (row_view row.now) }
+        ≡ source.register_and_target (row_view row.now) }
 {
     let (a, rest) = register_comma(row)?;
     let (target, rest) = target_at(rest)?;

@@ -27,9 +27,9 @@ pub(crate) fn directive(name: &[u8]) -> Option<Directive>
 }
 
 /// What a statement of text begins with, by its word.
-#[tactic(auto, unfolding(def_source::specs::Source::head_of))]
+#[tactic(auto, unfolding(def_source::specs::Source::statement_head))]
 pub(crate) fn head(name: &[u8]) -> Option<Head>
-    ensures { result ≡ source.head_of name.now }
+    ensures { result ≡ source.statement_head name.now }
 {
     find(&HEADS, name)
 }

@@ -3,7 +3,7 @@ use Rattle.std.proofs.Common.{◌≡◌, ℕ, ◌+◌, ◌<◌, ◌≤◌, ◌^�
 use Rattle.std.specs.List.{AllByRecursion}
 use Rattle.std.proofs.lemmas.List.{append-nil}
 use Rattle.def_port.specs.Told.{Told, FolderView}
-use Rattle.def_desc.specs.Rows.{CodeRow, CompartmentRow, LibraryRow, DescRow}
+use Rattle.def_desc.specs.Rows.{DescCode, DescCompartment, LibraryRow, DescRow}
 use Rattle.def_desc.specs.WellFormed.{WellFormed}
 use Rattle.def_link.specs.Owners.{compartment_unit, library_unit, numbered, units_of}
 use Rattle.def_program.specs.Answers.{Read, contents}
@@ -20,10 +20,10 @@ one_more : (file : Option (List ℕ)) (rest : List (List ℕ)) → length (with_
 one_more None rest = omega arith
 one_more (Some name) rest = omega arith
 
-own_names : (i : ℕ) (cs : List CompartmentRow) (ls : List CodeRow) → length (files_in (map (λ (c : CompartmentRow). c.code) cs ++ ls)) ≡ files_of (numbered compartment_unit i cs) + length (files_in ls)
+own_names : (i : ℕ) (cs : List DescCompartment) (ls : List DescCode) → length (files_in (map (λ (c : DescCompartment). c.code) cs ++ ls)) ≡ files_of (numbered compartment_unit i cs) + length (files_in ls)
 own_names i [] ls = omega arith
 own_names i (c ∷ cs) ls =
-    let first = one_more c.code.file (files_in (map (λ (x : CompartmentRow). x.code) cs ++ ls)) in
+    let first = one_more c.code.file (files_in (map (λ (x : DescCompartment). x.code) cs ++ ls)) in
     let rest = own_names (i + 1) cs ls in
     omega (arith, first, rest)
 

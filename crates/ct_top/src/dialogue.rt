@@ -4,7 +4,7 @@ ghost use Rattle.std.specs.Prelude.{◌≡◌, ◌<◌, ◌^◌, [], ℕ, IfOk, 
 ghost use Rattle.def_link.specs.Linked.{linked};
 ghost use Rattle.def_program.specs.declared.Status.TheVariants as status;
 ghost use Rattle.def_program.specs.Answers.{Answers};
-ghost use Rattle.def_program.specs.Commands.{form_of, generated_by};
+ghost use Rattle.def_program.specs.Commands.{command_form, generated_by};
 ghost use Rattle.def_program.specs.Calls.{call_record};
 ghost use Rattle.def_program.specs.Turns.{OfImage, OfLinked, OfNumber};
 ghost use Rattle.ct_link_objects.specs.Objects.{IsLinkable};
@@ -171,7 +171,7 @@ pub(crate) fn perform<F: Folder, S: Sink>(
     sink: &mut S,
 ) -> Status
     requires { IsShort form.now.task }
-    ensures { (words : List (List ℕ)) → form_of words ≡ Some (command_of form.now)
+    ensures { (words : List (List ℕ)) → command_form words ≡ Some (command_of form.now)
         → Answers (call_record words (F.shows folder.old) (F.shows folder.new)
         (S.shows sink.old) (S.shows sink.new)) result }
 {
@@ -185,7 +185,7 @@ pub(crate) fn perform<F: Folder, S: Sink>(
 fn of_files<F: Folder, S: Sink>(alloc: Global, form: &Form, folder: &mut F, sink: &mut S) -> Status
     requires short { IsShort form.now.task }
     requires reads { generated_by (command_of form.now) ≡ None }
-    ensures { (words : List (List ℕ)) → form_of words ≡ Some (command_of form.now)
+    ensures { (words : List (List ℕ)) → command_form words ≡ Some (command_of form.now)
         → Answers (call_record words (F.shows folder.old) (F.shows folder.new)
         (S.shows sink.old) (S.shows sink.new)) result }
 {

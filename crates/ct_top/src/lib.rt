@@ -13,7 +13,7 @@ ghost use Rattle.def_image.specs.Parts.{PartsRow};
 ghost use Rattle.def_image.specs.Sound.{Sound};
 ghost use Rattle.def_program.specs.Allowing.{IsAllowed};
 ghost use Rattle.def_program.specs.Answers.{Answers};
-ghost use Rattle.def_program.specs.Commands.{Command, form_of as form_in};
+ghost use Rattle.def_program.specs.Commands.{Command, command_form as form_in};
 ghost use Rattle.def_program.specs.Calls.{call_record};
 ghost use Rattle.def_program.specs.Licences.{IsLicensedCommand, StandFor};
 ghost use Rattle.def_program.specs.Safe.{IsSafeCommand};

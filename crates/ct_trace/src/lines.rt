@@ -158,7 +158,7 @@ fn add_off(line: &mut Line, step: u32, off: &Option<Owned>)
     }
 }
 
-/// What a step did, counted from 1: no line, one or two.
+/// The lines of what a step did, the step counted from 1: none, one or two.
 #[tactic(auto, unfolding(def_trace::specs::Trace::trace_line))]
 pub fn line(happened: &Happened, step: u32) -> Line
     ensures { result.bytes ≡ spec.trace_line step happened.now }

@@ -22,7 +22,7 @@ pub(crate) fn add_number(line: &mut Line, number: u32)
 /// A number after a word.
 pub(crate) fn add_after(line: &mut Line, word: &str, number: u32)
     requires { length line.old.bytes + length word.now + 10 ≤ 192 }
-    ensures bytes { line.new.bytes ≡ line.old.bytes ++ spec.after word.now number }
+    ensures bytes { line.new.bytes ≡ line.old.bytes ++ spec.word_then_number word.now number }
     ensures size { length line.new.bytes ≤ length line.old.bytes + length word.now + 10 }
 {
     line.push_str(word);

@@ -9,11 +9,11 @@ use Rattle.def_memory.specs.Granules.{plain, cap_in}
 use Rattle.def_machine.specs.State.{Frame}
 
 -- the two words of a granule
-abbrev pub low_word : Cap → ℕ
-low_word c = c.word % 2 ^ 32
+abbrev pub low_half : Cap → ℕ
+low_half c = c.word % 2 ^ 32
 
-abbrev pub high_word : Cap → ℕ
-high_word c = c.word / 2 ^ 32
+abbrev pub high_half : Cap → ℕ
+high_half c = c.word / 2 ^ 32
 
 -- ---- a frame
 
@@ -24,16 +24,16 @@ frame_place area j = area + AREA_HEAD / GRANULE + FRAME_SIZE / GRANULE * j
 -- The frame that begins at granule k keeps the caller's registers, the number of its own export, and the caller's
 -- compartment, top and mark. Its own compartment, top and mark are its thread's, or stand in the frame above it.
 abbrev pub frame_export : List Granule → ℕ → ℕ
-frame_export gs k = low_word (cap_in gs (k + 5))
+frame_export gs k = low_half (cap_in gs (k + 5))
 
 abbrev pub caller_actor : List Granule → ℕ → ℕ
-caller_actor gs k = high_word (cap_in gs (k + 5))
+caller_actor gs k = high_half (cap_in gs (k + 5))
 
 abbrev pub caller_top : List Granule → ℕ → ℕ
-caller_top gs k = low_word (cap_in gs (k + 6))
+caller_top gs k = low_half (cap_in gs (k + 6))
 
 abbrev pub caller_handling : List Granule → ℕ → Bool
-caller_handling gs k = low_word (cap_in gs (k + 7)) == 1
+caller_handling gs k = low_half (cap_in gs (k + 7)) == 1
 
 abbrev pub frame_at : List Granule → ℕ → ℕ → ℕ → Bool → Frame
 frame_at gs k actor top handling = record {

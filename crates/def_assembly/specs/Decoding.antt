@@ -6,7 +6,7 @@ use Rattle.def_source.specs.Source.{Name, Statements}
 use Rattle.def_source.specs.declared.parts.Part.{Part}
 use Rattle.def_source.specs.declared.parts.Part.TheVariants as part
 use Rattle.def_object.specs.declared.Place.{Place}
-use Rattle.def_object.specs.Object.{Labels, word_bytes, instructions_at, bytes_at, offset, advanced}
+use Rattle.def_object.specs.Object.{Labels, word_bytes, instructions_at, bytes_at, offset, place_after}
 
 -- the bytes are the words of these instructions in order, and each word decodes to its instruction
 abbrev pub Decodes : List Instr → List ℕ → Type 0
@@ -36,4 +36,4 @@ Says labels slots at q =
 abbrev pub AllSay : Labels → List Name → Place → Statements → Type 0
 AllSay labels slots p [] = Unit {0}
 AllSay labels slots p (s ∷ ss) =
-    Says labels slots (offset p) s.part × AllSay labels slots (advanced p s.part) ss
+    Says labels slots (offset p) s.part × AllSay labels slots (place_after p s.part) ss

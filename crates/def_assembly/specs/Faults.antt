@@ -7,7 +7,7 @@ use Rattle.def_source.specs.declared.parts.Part.{Part}
 use Rattle.def_source.specs.declared.parts.Section.{Section}
 use Rattle.def_source.specs.declared.parts.Section.TheVariants as section
 use Rattle.def_source.specs.declared.parts.Token.TheVariants as token
-use Rattle.def_source.specs.Source.{Name, Row, is_ascii, before_comment, pieces, token_of, line_tokens, after_label, head_of, directive_of, form_of, directive_form, in_section, numbers_fit, registers_exist, line_of, lines_of, section_after}
+use Rattle.def_source.specs.Source.{Name, Row, is_ascii, before_comment, pieces, token_of, line_tokens, after_label, statement_head, directive_of, statement_form, directive_form, in_section, numbers_fit, registers_exist, line_of, lines_of, section_after}
 
 -- a piece that is no token
 abbrev pub HasUnread : List (List ℕ) → Type 0
@@ -21,21 +21,21 @@ IsUnread line = (list_all is_ascii line ≡ false) ⊎ HasUnread (pieces (before
 -- A2: a first token that is no word of a statement
 abbrev pub is_unknown : Row → Bool
 is_unknown [] = false
-is_unknown (token.Name n ∷ ts) = is_none (head_of n)
+is_unknown (token.Name n ∷ ts) = is_none (statement_head n)
 is_unknown (token.Directive n ∷ ts) = is_none (directive_of n)
 is_unknown _ = true
 
 -- a first token that is a word of a statement
 abbrev pub is_known : Row → Bool
 is_known [] = false
-is_known (token.Name n ∷ ts) = is_some (head_of n)
+is_known (token.Name n ∷ ts) = is_some (statement_head n)
 is_known (token.Directive n ∷ ts) = is_some (directive_of n)
 is_known _ = false
 
 -- the statement of a row, if it has a form, whatever its numbers and wherever it stands
 abbrev pub form_in : Row → Option (Part Name)
 form_in [] = None
-form_in (token.Name n ∷ ts) = option_and_then (λ h. form_of h ts) (head_of n)
+form_in (token.Name n ∷ ts) = option_and_then (λ h. statement_form h ts) (statement_head n)
 form_in (token.Directive n ∷ ts) = option_and_then (λ d. directive_form d ts) (directive_of n)
 form_in _ = None
 

@@ -28,9 +28,9 @@ abbrev pub onward : Thread → Result Effect Trap → Thread
 onward w (Ok d) = jumped w d.pcc d.posture d.to d.value
 onward w (Err t) = w
 
-abbrev pub after : MemoryAndDevices → Thread → List Instr → Thread
-after p w [] = w
-after p w (i ∷ is) = after p (onward w (effect p w i)) is
+abbrev pub after_instructions : MemoryAndDevices → Thread → List Instr → Thread
+after_instructions p w [] = w
+after_instructions p w (i ∷ is) = after_instructions p (onward w (effect p w i)) is
 
 -- a thread with sixteen registers, the first of them zero, and one of them that may be written
 pub record MayWrite (w : Thread) (rd : ℕ) : Type 0 where

@@ -17,16 +17,16 @@ abbrev pub section_at : Statements → ℕ → Section
 section_at all k = section_past section.Text (take k all)
 
 -- of the first k statements, the lengths of those that stand in a section, added up
-abbrev pub total : (ℕ → Section) → (ℕ → ℕ) → Section → ℕ → ℕ
-total stands sizes s zero = 0
-total stands sizes s (suc k) =
-    total stands sizes s k + (if same_section (stands k) s then sizes k else 0)
+abbrev pub total_before : (ℕ → Section) → (ℕ → ℕ) → Section → ℕ → ℕ
+total_before stands sizes s zero = 0
+total_before stands sizes s (suc k) =
+    total_before stands sizes s k + (if same_section (stands k) s then sizes k else 0)
 
 -- the lengths of statements: a statement's length goes by what it is and, where it aligns, by how
 -- many bytes of its section stand before it
 pub record AreSizes (all : Statements) (sizes : ℕ → ℕ) : Type 0 where
   pub each : (k : ℕ) (x : Statement Name) → slice_get all k ≡ Some x
-      → sizes k ≡ size_at x.part (total (section_at all) sizes (section_at all k) k)
+      → sizes k ≡ size_at x.part (total_before (section_at all) sizes (section_at all k) k)
 
 -- statement k is a label of that name, and none before it is
 pub record IsFirst (all : Statements) (name : Name) (k : ℕ) : Type 0 where
@@ -40,4 +40,4 @@ pub record IsFirst (all : Statements) (name : Name) (k : ℕ) : Type 0 where
 pub record IsPlaced (all : Statements) (sizes : ℕ → ℕ) (name : Name) (l : Label) : Type 0 where
   pub first : IsFirst all name l.index
   pub stands : l.section ≡ section_at all l.index
-  pub value : l.offset ≡ total (section_at all) sizes l.section l.index
+  pub value : l.offset ≡ total_before (section_at all) sizes l.section l.index

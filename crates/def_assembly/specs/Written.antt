@@ -44,32 +44,32 @@ AreWritten (o ∷ p ∷ os) ts =
     × ((ts ≡ front ++ token.Comma ∷ rest) × AreOperandTokens o front × AreWritten (p ∷ os) rest))
 
 -- the operands of a statement, in the order in which they stand
-abbrev pub operands : Part Name → List Operand
-operands (part.Word n) = Numbered n ∷ []
-operands (part.Byte n) = Numbered n ∷ []
-operands (part.Zero n) = Numbered n ∷ []
-operands (part.Align n) = Numbered n ∷ []
-operands (part.Registers operation rd rs1 rs2) = Register rd ∷ Register rs1 ∷ Register rs2 ∷ []
-operands (part.Immediate operation rd rs1 n) = Register rd ∷ Register rs1 ∷ Numbered n ∷ []
-operands (part.Upper operation rd n) = Register rd ∷ Numbered n ∷ []
-operands (part.Load operation rd n rs1) = Register rd ∷ Address n rs1 ∷ []
-operands (part.RegisterJump rd n rs1) = Register rd ∷ Address n rs1 ∷ []
-operands (part.JumpCapability rd rs1) = Register rd ∷ Register rs1 ∷ []
-operands (part.Store operation rs2 n rs1) = Register rs2 ∷ Address n rs1 ∷ []
-operands (part.Branch operation rs1 rs2 t) = Register rs1 ∷ Register rs2 ∷ Towards t ∷ []
-operands (part.Jal rd t) = Register rd ∷ Towards t ∷ []
-operands (part.Source operation rd rs1) = Register rd ∷ Register rs1 ∷ []
-operands (part.Move rd rs) = Register rd ∷ Register rs ∷ []
-operands (part.Jump t) = Towards t ∷ []
-operands (part.JumpAndLink rd t) = Register rd ∷ Towards t ∷ []
-operands (part.JumpRegister rs) = Register rs ∷ []
-operands (part.IfZero rs t) = Register rs ∷ Towards t ∷ []
-operands (part.IfNotZero rs t) = Register rs ∷ Towards t ∷ []
-operands (part.LoadImmediate rd n) = Register rd ∷ Numbered n ∷ []
-operands (part.Import rd name) = Register rd ∷ Named name ∷ []
-operands (part.TextAddress rd label) = Register rd ∷ Named label ∷ []
-operands (part.GlobalAddress rd label) = Register rd ∷ Named label ∷ []
-operands _ = []
+abbrev pub written_operands : Part Name → List Operand
+written_operands (part.Word n) = Numbered n ∷ []
+written_operands (part.Byte n) = Numbered n ∷ []
+written_operands (part.Zero n) = Numbered n ∷ []
+written_operands (part.Align n) = Numbered n ∷ []
+written_operands (part.Registers operation rd rs1 rs2) = Register rd ∷ Register rs1 ∷ Register rs2 ∷ []
+written_operands (part.Immediate operation rd rs1 n) = Register rd ∷ Register rs1 ∷ Numbered n ∷ []
+written_operands (part.Upper operation rd n) = Register rd ∷ Numbered n ∷ []
+written_operands (part.Load operation rd n rs1) = Register rd ∷ Address n rs1 ∷ []
+written_operands (part.RegisterJump rd n rs1) = Register rd ∷ Address n rs1 ∷ []
+written_operands (part.JumpCapability rd rs1) = Register rd ∷ Register rs1 ∷ []
+written_operands (part.Store operation rs2 n rs1) = Register rs2 ∷ Address n rs1 ∷ []
+written_operands (part.Branch operation rs1 rs2 t) = Register rs1 ∷ Register rs2 ∷ Towards t ∷ []
+written_operands (part.Jal rd t) = Register rd ∷ Towards t ∷ []
+written_operands (part.Source operation rd rs1) = Register rd ∷ Register rs1 ∷ []
+written_operands (part.Move rd rs) = Register rd ∷ Register rs ∷ []
+written_operands (part.Jump t) = Towards t ∷ []
+written_operands (part.JumpAndLink rd t) = Register rd ∷ Towards t ∷ []
+written_operands (part.JumpRegister rs) = Register rs ∷ []
+written_operands (part.IfZero rs t) = Register rs ∷ Towards t ∷ []
+written_operands (part.IfNotZero rs t) = Register rs ∷ Towards t ∷ []
+written_operands (part.LoadImmediate rd n) = Register rd ∷ Numbered n ∷ []
+written_operands (part.Import rd name) = Register rd ∷ Named name ∷ []
+written_operands (part.TextAddress rd label) = Register rd ∷ Named label ∷ []
+written_operands (part.GlobalAddress rd label) = Register rd ∷ Named label ∷ []
+written_operands _ = []
 
 -- what the first word of a statement says; labels and directives have none
 abbrev pub head_by : Part Name → Option Head
@@ -109,7 +109,7 @@ directive_by _ = None
 
 -- the statement begins with such a word, and the tokens after it are its operands
 abbrev pub WritesStatement : Head → Row → Part Name → Type 0
-WritesStatement h ts p = (head_by p ≡ Some h) × AreWritten (operands p) ts
+WritesStatement h ts p = (head_by p ≡ Some h) × AreWritten (written_operands p) ts
 
 abbrev pub WritesDirective : Directive → Row → Part Name → Type 0
-WritesDirective d ts p = (directive_by p ≡ Some d) × AreWritten (operands p) ts
+WritesDirective d ts p = (directive_by p ≡ Some d) × AreWritten (written_operands p) ts

@@ -54,8 +54,8 @@ platform_of p = record { image = image_of p; bases = bases_of p }
 -- ---- a thread at its start
 
 -- the export that it enters, its number, and the address of its code
-abbrev pub entered : PartsRow → ThreadRow → Option GateRow
-entered p t = slice_get (compartment p t.compartment).code.exports t.export
+abbrev pub entered_export : PartsRow → ThreadRow → Option GateRow
+entered_export p t = slice_get (compartment p t.compartment).code.exports t.export
 
 abbrev pub entry_number : PartsRow → ThreadRow → ℕ
 entry_number p t = gate_number p t.compartment t.export
@@ -63,8 +63,8 @@ entry_number p t = gate_number p t.compartment t.export
 abbrev pub offset_of : Option GateRow → ℕ
 offset_of x = unwrap_or (option_map (λ (x : GateRow). x.row.offset) x) 0
 
-abbrev pub entry_address : PartsRow → ThreadRow → ℕ
-entry_address p t = text_base (compartment p t.compartment).code + offset_of (entered p t)
+abbrev pub thread_entry_address : PartsRow → ThreadRow → ℕ
+thread_entry_address p t = text_base (compartment p t.compartment).code + offset_of (entered_export p t)
 
 abbrev pub gate_is_disabled : Option GateRow → Bool
 gate_is_disabled None = false
@@ -72,7 +72,7 @@ gate_is_disabled (Some x) = turns_interrupts_off x.row.posture
 
 abbrev pub first_posture : PartsRow → ThreadRow → Posture
 first_posture p t =
-    if gate_is_disabled (entered p t) then record { off = true; source = entry_number p t }
+    if gate_is_disabled (entered_export p t) then record { off = true; source = entry_number p t }
     else interrupts_on
 
 -- one frame, whose caller is nobody
@@ -80,7 +80,7 @@ abbrev pub first_frame : PartsRow → ThreadRow → Frame
 first_frame p t = outermost t.compartment (entry_number p t) (t.stack + t.stack_length)
 
 abbrev pub first_pcc : PartsRow → ThreadRow → Cap
-first_pcc p t = with_address (boot_cap_of p (code_number p t.compartment)) (entry_address p t)
+first_pcc p t = with_address (boot_cap_of p (code_number p t.compartment)) (thread_entry_address p t)
 
 -- the return sentry in c1, the stack at its top in c2, the globals in c3
 abbrev pub first_registers : PartsRow → ℕ → ThreadRow → List Cap

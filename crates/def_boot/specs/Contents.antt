@@ -16,15 +16,15 @@ use Rattle.def_boot.specs.Made.{boot_cap_of, return_sentry}
 -- ---- at an offset of a region, a multiple of 8
 
 -- eight bytes from an offset, as a little-endian number; past the end they read as zero
-abbrev pub byte_of : List ℕ → ℕ → ℕ
-byte_of bytes at = get_or bytes at 0
+abbrev pub byte_or_zero : List ℕ → ℕ → ℕ
+byte_or_zero bytes at = get_or bytes at 0
 
 abbrev pub word_from_bytes : List ℕ → ℕ → ℕ
 word_from_bytes bytes at =
-    byte_of bytes at + byte_of bytes (at + 1) * 2 ^ 8 + byte_of bytes (at + 2) * 2 ^ 16
-    + byte_of bytes (at + 3) * 2 ^ 24
-    + byte_of bytes (at + 4) * 2 ^ 32 + byte_of bytes (at + 5) * 2 ^ 40
-    + byte_of bytes (at + 6) * 2 ^ 48 + byte_of bytes (at + 7) * 2 ^ 56
+    byte_or_zero bytes at + byte_or_zero bytes (at + 1) * 2 ^ 8 + byte_or_zero bytes (at + 2) * 2 ^ 16
+    + byte_or_zero bytes (at + 3) * 2 ^ 24
+    + byte_or_zero bytes (at + 4) * 2 ^ 32 + byte_or_zero bytes (at + 5) * 2 ^ 40
+    + byte_or_zero bytes (at + 6) * 2 ^ 48 + byte_or_zero bytes (at + 7) * 2 ^ 56
 
 -- the slots, whose entries are numbered from `first`, then the text
 abbrev pub code_content : PartsRow → ℕ → CodeRow → ℕ → Cap
@@ -102,18 +102,18 @@ abbrev pub is_heap : PartsRow → ℕ → Bool
 is_heap p x = nat_le p.heap x && nat_lt x (p.ram + p.size)
 
 -- of the trusted region the first granule alone is as boot made it
-abbrev pub part_of : Holder → ℕ → Region
-part_of (CodeOf o) k = Fixed
-part_of (TableOf b) k = Fixed
-part_of (GlobalsOf b) k = Globals b
-part_of (SharedOf n) k = Shared n
-part_of (SealedOf n) k = Bare
-part_of (StackOf t) k = Stack t
-part_of TrustedPart k = if k == 0 then Fixed else Bare
+abbrev pub region_part : Holder → ℕ → Region
+region_part (CodeOf o) k = Fixed
+region_part (TableOf b) k = Fixed
+region_part (GlobalsOf b) k = Globals b
+region_part (SharedOf n) k = Shared n
+region_part (SealedOf n) k = Bare
+region_part (StackOf t) k = Stack t
+region_part TrustedPart k = if k == 0 then Fixed else Bare
 
 abbrev pub part_at : PartsRow → Option RegionRow → ℕ → Region
 part_at p None x = if is_heap p x then HeapRam else Bare
-part_at p (Some r) x = part_of r.holder (x - r.base)
+part_at p (Some r) x = region_part r.holder (x - r.base)
 
 unfoldable pub part : PartsRow → ℕ → Region
 part p x = part_at p (region_at p x) x

@@ -22,29 +22,29 @@ abbrev pub native_address : ℕ → ℕ
 native_address n = NATIVE_BASE + NATIVE_UNIT * n
 
 -- A slot that stands at this address, by its kind. A quota's range is its own slot, a key's the one type that it opens.
-abbrev pub slot_row : PartsRow → Owner → ℕ → ImportRow → SlotKind → Entry
-slot_row p o at r slot.Service =
+abbrev pub slot_entry : PartsRow → Owner → ℕ → ImportRow → SlotKind → Entry
+slot_entry p o at r slot.Service =
     row o kind.Service (native_address r.first) NATIVE_LENGTH (rights_of r) r.first
-slot_row p o at r slot.Device =
+slot_entry p o at r slot.Device =
     row o kind.Device (device_base p r.first) DEVICE_SIZE (rights_of r) r.first
-slot_row p o at r slot.Shared =
+slot_entry p o at r slot.Shared =
     row o kind.Shared (shared p r.first).base (shared p r.first).length (rights_of r) r.first
-slot_row p o at r slot.Sealed =
+slot_entry p o at r slot.Sealed =
     row o kind.Sealed (sealed p r.first).base (sealed p r.first).length (rights_of r) r.first
-slot_row p o at r slot.Call =
+slot_entry p o at r slot.Call =
     row o kind.Call (gate_address (compartment p r.first) r.second) TABLE_ROW (rights_of r)
     (gate_number p r.first r.second)
-slot_row p o at r slot.Library =
+slot_entry p o at r slot.Library =
     row o kind.Library (library p r.first).base (library p r.first).length (rights_of r)
     (library_gate_number p r.first r.second)
-slot_row p o at r slot.Quota =
+slot_entry p o at r slot.Quota =
     record (row o kind.Quota at SLOT_SIZE (rights_of r) 0) { limit = r.first }
-slot_row p o at r slot.Key = row o kind.Key r.first 1 (rights_of r) 0
+slot_entry p o at r slot.Key = row o kind.Key r.first 1 (rights_of r) 0
 
 -- the first of them stands at this address
 abbrev pub slot_rows : PartsRow → Owner → ℕ → List SlotRow → List Entry
 slot_rows p o at [] = []
-slot_rows p o at (s ∷ ss) = slot_row p o at s.row s.row.kind ∷ slot_rows p o (at + SLOT_SIZE) ss
+slot_rows p o at (s ∷ ss) = slot_entry p o at s.row s.row.kind ∷ slot_rows p o (at + SLOT_SIZE) ss
 
 -- ---- owners
 

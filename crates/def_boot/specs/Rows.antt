@@ -12,7 +12,7 @@ use Rattle.def_reach.specs.Roots.{root_of, gate_for, listed_root, no_root, no_ga
 use Rattle.def_image.specs.declared.ImportRow.{ImportRow}
 use Rattle.def_image.specs.Parts.{SlotRow, GateRow, CodeRow, CompartmentRow, ThreadRow, PartsRow}
 use Rattle.def_image.specs.Members.{gate_address, code_number, globals_number, library_number, stack_number, gate_number, library_gate_number}
-use Rattle.def_boot.specs.Entries.{slot_row, code_row, globals_row, export_row, library_export_row, stack_row}
+use Rattle.def_boot.specs.Entries.{slot_entry, code_row, globals_row, export_row, library_export_row, stack_row}
 use Rattle.def_boot.specs.Gates.{gate, gates_of, entries_of}
 use Rattle.def_boot.specs.Made.{boot_cap_of, entry_cap, return_sentry}
 
@@ -27,7 +27,7 @@ pub record HasRow (p : PartsRow) (n : ℕ) (r : Entry) (g : Gate) : Type 0 where
 
 -- slot j of an owner whose code this is
 abbrev pub slot_row_at : PartsRow → Owner → CodeRow → ℕ → ImportRow → Entry
-slot_row_at p o c j r = slot_row p o (c.base + SLOT_SIZE * j) r r.kind
+slot_row_at p o c j r = slot_entry p o (c.base + SLOT_SIZE * j) r r.kind
 
 -- a compartment's slots come after its code and globals, a library's after its code
 abbrev pub slot_number : PartsRow → ℕ → ℕ → ℕ

@@ -24,8 +24,8 @@ abbrev pub InSealed : SealedRow → ℕ → Type 0
 InSealed s = IsFrom s.base (s.base + length s.bytes)
 
 -- of the first n members of a list
-abbrev pub OfFirst : {A : Type 0} → (A → ℕ → Type 0) → List A → ℕ → ℕ → Type 0
-OfFirst {A = A} In xs n x = (i : ℕ) × (i < n) × (y : A) × (slice_get xs i ≡ Some y) × In y x
+abbrev pub InFirst : {A : Type 0} → (A → ℕ → Type 0) → List A → ℕ → ℕ → Type 0
+InFirst {A = A} In xs n x = (i : ℕ) × (i < n) × (y : A) × (slice_get xs i ≡ Some y) × In y x
 
 -- of any member
 abbrev pub OfAny : {A : Type 0} → (A → ℕ → Type 0) → List A → ℕ → Type 0

@@ -34,8 +34,8 @@ abbrev pub all_painted : List Chunk → List Chunk
 all_painted cs = map painted_chunk cs
 
 -- the free chunk at an offset, of this size, gets this link; where there is none nothing is written
-abbrev pub linked : List Granule → ℕ → ℕ → ℕ → ℕ → ℕ → List Granule
-linked gs ram base before size next =
+abbrev pub with_link : List Granule → ℕ → ℕ → ℕ → ℕ → ℕ → List Granule
+with_link gs ram base before size next =
     cond (nat_eq before NO_CHUNK) gs
     (stored_cap gs (base + before - ram) (plain (size + next * 2 ^ 32)))
 

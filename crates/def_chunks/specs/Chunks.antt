@@ -17,9 +17,9 @@ pub record Chunk : Type 0 where
 abbrev pub is_free : Chunk → Bool
 is_free c = nat_eq c.state FREE
 
-abbrev pub total : List Chunk → ℕ
-total [] = 0
-total (c ∷ cs) = c.size + total cs
+abbrev pub total_size : List Chunk → ℕ
+total_size [] = 0
+total_size (c ∷ cs) = c.size + total_size cs
 
 -- where the first free one of these chunks begins, from the heap's first address; `next` where none is free
 abbrev pub first_free : ℕ → ℕ → List Chunk → ℕ → ℕ

@@ -5,7 +5,7 @@ use Rattle.def_memory.specs.declared.Granule.{Granule}
 use Rattle.def_chunks.specs.declared.heads.TheConstants.{LIVE, NO_CHUNK}
 use Rattle.def_chunks.specs.declared.rows.Range.{Range}
 use Rattle.def_chunks.specs.declared.rows.Gap.{Gap}
-use Rattle.def_chunks.specs.Chunks.{Chunk, is_free, total, first_free}
+use Rattle.def_chunks.specs.Chunks.{Chunk, is_free, total_size, first_free}
 use Rattle.def_chunks.specs.Tiles.{chunks}
 use Rattle.def_chunks.specs.Changes.{gap}
 
@@ -29,7 +29,7 @@ pub record IsLastFree (xs : List Chunk) (before size : ℕ) : Type 0 where
   pub whole : xs ≡ above ++ chunk ∷ used
   pub is : is_free chunk ≡ true
   pub others : NoFree used
-  pub link : before ≡ total above
+  pub link : before ≡ total_size above
   pub size_is : size ≡ chunk.size
 
 -- that one, or none is free
@@ -42,7 +42,7 @@ pub record ChunkStands (r : Range) (gs : List Granule) (at : ℕ) : Type 0 where
   pub chunk : Chunk
   pub below : List Chunk
   pub whole : chunks r gs ≡ above ++ chunk ∷ below
-  pub place : at ≡ r.base + total above
+  pub place : at ≡ r.base + total_size above
 
 -- a free one of this size does, and this is the next one
 pub record FreeStands (r : Range) (gs : List Granule) (at size next : ℕ) : Type 0 where

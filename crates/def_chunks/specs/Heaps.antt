@@ -17,21 +17,21 @@ use Rattle.def_chunks.specs.Tiles.{chunks, TilesSettled}
 
 -- what the table has for a used chunk of a quota that begins at an offset: never zero, and it tells which of the two
 -- granules of these 16 bytes it begins at
-abbrev pub name_of : ℕ → ℕ → ℕ
-name_of quota offset = 1 + 2 * quota + offset / 8 % 2
+abbrev pub chunk_name : ℕ → ℕ → ℕ
+chunk_name quota offset = 1 + 2 * quota + offset / 8 % 2
 
-abbrev pub name_at : List ℕ → ℕ → ℕ
-name_at names offset = slice_index_or names (offset / SLOT) 0
+abbrev pub object_name_at : List ℕ → ℕ → ℕ
+object_name_at names offset = slice_index_or names (offset / SLOT) 0
 
 -- a used chunk begins at this offset, a multiple of 8
-abbrev pub is_named : List ℕ → ℕ → Bool
-is_named names offset =
-    not (nat_eq (name_at names offset) 0)
-    && nat_eq ((name_at names offset - 1) % 2) (offset / 8 % 2)
+abbrev pub begins_used_chunk : List ℕ → ℕ → Bool
+begins_used_chunk names offset =
+    not (nat_eq (object_name_at names offset) 0)
+    && nat_eq ((object_name_at names offset - 1) % 2) (offset / 8 % 2)
 
 -- and this is its quota
 abbrev pub quota_named : List ℕ → ℕ → ℕ
-quota_named names offset = (name_at names offset - 1) / 2
+quota_named names offset = (object_name_at names offset - 1) / 2
 
 -- a used chunk begins at this address
 abbrev pub is_used_at : ℕ → ℕ → List Chunk → Bool
@@ -106,7 +106,7 @@ pub record Laid (h : HeapRow) (gs : List Granule) : Type 0 where
   pub settled : TilesSettled h.range gs
   pub slots : length h.names ≡ h.range.length / SLOT
   pub named : (o : ℕ) → o % 8 ≡ 0
-      → is_named h.names o ≡ is_used_at (h.range.base + o) h.range.base (chunks h.range gs)
+      → begins_used_chunk h.names o ≡ is_used_at (h.range.base + o) h.range.base (chunks h.range gs)
   pub quotas : Each (λ r. r.quota < length h.accounts) (objects_of h gs)
   pub few : length h.accounts ≤ 32767
   pub charged : (q : ℕ) → (account h q).charged ≡ charges q (objects_of h gs)

@@ -4,7 +4,7 @@ use Rattle.def_words.specs.declared.Cap.{Cap}
 use Rattle.def_memory.specs.declared.Granule.{Granule}
 use Rattle.def_chunks.specs.declared.heads.TheConstants.{FREE, NO_CHUNK}
 use Rattle.def_chunks.specs.declared.rows.Range.{Range}
-use Rattle.def_chunks.specs.Chunks.{Chunk, total, first_free, head_at, head_in, Lays, AreChunks, NoneTouch}
+use Rattle.def_chunks.specs.Chunks.{Chunk, total_size, first_free, head_at, head_in, Lays, AreChunks, NoneTouch}
 
 -- the chunk that a head is of
 abbrev pub chunk_of : Cap → Chunk
@@ -35,7 +35,7 @@ pub record TiledBy (r : Range) (gs : List Granule) (cs : List Chunk) : Type 0 wh
   pub inside : r.base + r.length ≤ r.ram + 8 * length gs
   pub lays : Lays gs r.ram r.base r.base cs NO_CHUNK
   pub are : AreChunks cs
-  pub size : total cs ≡ r.length
+  pub size : total_size cs ≡ r.length
   pub first : r.first ≡ first_free r.base r.base cs NO_CHUNK
 
 -- the chunks that are read there do; free ones may touch

@@ -5,5 +5,5 @@ use Rattle.def_memory.specs.declared.Granule.{Granule}
 use Rattle.def_machine.specs.State.{State, granule}
 
 -- granule k with another capability; its mark stays
-abbrev pub holding : State → ℕ → Cap → Granule
-holding s k c = record { cap = c; mark = (granule s k).mark }
+abbrev pub granule_holding : State → ℕ → Cap → Granule
+granule_holding s k c = record { cap = c; mark = (granule s k).mark }

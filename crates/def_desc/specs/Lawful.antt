@@ -20,7 +20,7 @@ use Rattle.def_desc.specs.declared.tables.Form.TheVariants as form
 use Rattle.def_desc.specs.Limits.{characters}
 use Rattle.def_desc.specs.Tables.{service_of}
 use Rattle.def_desc.specs.References.{target_of, rights_fit, export_name}
-use Rattle.def_desc.specs.Rows.{Target, CodeRow, SharedRow, SealedRow, ImportRow, QuotaRow, ExportRow, CompartmentRow, LimportRow, LexportRow, LibraryRow, ThreadRow, DescRow}
+use Rattle.def_desc.specs.Rows.{Target, DescCode, DescShared, DescSealed, ImportRow, QuotaRow, ExportRow, DescCompartment, LimportRow, LexportRow, LibraryRow, DescThread, DescRow}
 use Rattle.def_desc.specs.Named.{device_names, shared_names, sealed_names, owner_names, slot_names, export_names, library_slot_names, library_export_names}
 
 -- ---- names
@@ -39,7 +39,7 @@ pub record AreNames (names : List (List ℕ)) : Type 0 where
 
 -- a text is `owner.export`, of a compartment
 pub record IsCallImport (d : DescRow) (text : List ℕ) : Type 0 where
-  pub owner : CompartmentRow
+  pub owner : DescCompartment
   pub gate : ExportRow
   pub listed : Has d.compartments owner
   pub exported : Has owner.exports gate
@@ -87,10 +87,10 @@ pub record IsLawfulDevice (r : Ram) (x : DeviceRow) : Type 0 where
   pub ram : IsAway x.base DEVICE_SIZE r.base (r.base + r.size)
   pub native : IsAway x.base DEVICE_SIZE NATIVE_BASE NATIVE_END
 
-abbrev pub IsLawfulShared : SharedRow → Type 0
+abbrev pub IsLawfulShared : DescShared → Type 0
 IsLawfulShared s = IsWithin 1 most.MOST_BYTES s.size
 
-pub record IsLawfulSealed (s : SealedRow) : Type 0 where
+pub record IsLawfulSealed (s : DescSealed) : Type 0 where
   pub seal : IsWithin FIRST_KEY_TYPE LAST_KEY_TYPE s.seal
   pub few : IsWithin 1 most.MOST_BYTES (length s.bytes)
   pub bytes : AllByRecursion (λ b. b < 256) s.bytes
@@ -98,7 +98,7 @@ pub record IsLawfulSealed (s : SealedRow) : Type 0 where
 -- ---- owners
 
 -- words, or the name of a file
-pub record IsLawfulCode (c : CodeRow) : Type 0 where
+pub record IsLawfulCode (c : DescCode) : Type 0 where
   pub words : AllByRecursion (λ w. w < 2 ^ 32) c.words
   pub few : length c.words ≤ most.MOST_BYTES / 4
   pub file : (name : List ℕ) → c.file ≡ Some name → IsWithin 1 most.MOST_FILE_NAME (characters name)
@@ -108,7 +108,7 @@ pub record IsLawfulExport (x : ExportRow) : Type 0 where
   pub args : x.args ≤ most.MOST_ARGUMENTS
   pub stack : x.stack ≤ most.MOST_STACK
 
-pub record IsLawfulCompartment (d : DescRow) (c : CompartmentRow) : Type 0 where
+pub record IsLawfulCompartment (d : DescRow) (c : DescCompartment) : Type 0 where
   pub code : IsLawfulCode c.code
   pub globals : c.globals ≤ most.MOST_BYTES
   pub slots : AreNames (slot_names c)
@@ -130,7 +130,7 @@ pub record IsLawfulLibrary (d : DescRow) (l : LibraryRow) : Type 0 where
   pub exports : length l.exports ≤ most.MOST_EXPORTS
   pub import : AllByRecursion (λ (x : LimportRow). IsLent d x.library) l.imports
 
-pub record IsLawfulThread (d : DescRow) (t : ThreadRow) : Type 0 where
+pub record IsLawfulThread (d : DescRow) (t : DescThread) : Type 0 where
   pub entry : IsCallImport d t.entry
   pub priority : t.priority ≤ most.MOST_PRIORITY
   pub stack : IsWithin LEAST_STACK most.MOST_STACK t.stack
@@ -139,7 +139,7 @@ pub record IsLawfulThread (d : DescRow) (t : ThreadRow) : Type 0 where
 
 -- ---- the whole
 
-pub record AreFew (d : DescRow) : Type 0 where
+pub record AreFewParts (d : DescRow) : Type 0 where
   pub devices : length d.devices ≤ most.MOST_DEVICES
   pub shared : length d.shared ≤ most.MOST_OBJECTS
   pub sealed : length d.sealed ≤ most.MOST_OBJECTS
@@ -158,7 +158,7 @@ pub record IsLawful (d : DescRow) : Type 0 where
   pub version : IsWithin 1 last_version d.version
   pub sweep : IsWithin (least_sweep d.version) (most_sweep d.version) d.sweep
   pub quantum : IsWithin 1 most.MOST_QUANTUM d.quantum
-  pub few : AreFew d
+  pub few : AreFewParts d
   pub ram : IsLawfulRam d.version d.ram
   pub devices : AreNames (device_names d)
   pub shared : AreNames (shared_names d)

@@ -13,14 +13,14 @@ use Rattle.def_desc.specs.declared.faults.PartWord.{PartWord}
 use Rattle.def_desc.specs.declared.faults.PartWord.TheVariants as part
 use Rattle.def_desc.specs.declared.tables.Shape.{Shape}
 use Rattle.def_desc.specs.declared.tables.Shape.TheVariants as shape
-use Rattle.def_desc.specs.Members.{number_of, number_or, text_of, text_at, list_at, list_in}
+use Rattle.def_desc.specs.Members.{natural_of, number_or, text_value, text_at, list_at, list_in}
 use Rattle.def_desc.specs.Tables.{Member, members_of}
 use Rattle.def_desc.specs.Walk.{Spot}
 
 -- ---- what stands at a member
 
-abbrev pub number_in : Data → ℕ
-number_in d = unwrap_or (number_of d) 0
+abbrev pub number_or_zero : Data → ℕ
+number_or_zero d = unwrap_or (natural_of d) 0
 
 -- the characters of a text: the bytes of UTF-8 that don't go on with a character
 abbrev pub characters : List ℕ → ℕ
@@ -37,12 +37,12 @@ keeps_code d = nat_le (length (list_at (codes "words") d)) (MOST_BYTES / 4) && k
 abbrev pub keeps : Shape → Data → Bool
 keeps shape.Text d = true
 keeps (shape.Among choice) d = true
-keeps (shape.Number low high) d = is_in_range low high (number_in d)
+keeps (shape.Number low high) d = is_in_range low high (number_or_zero d)
 keeps (shape.Multiple low high) d =
-    is_in_range low high (number_in d) && number_in d % REGION_UNIT == 0
+    is_in_range low high (number_or_zero d) && number_or_zero d % REGION_UNIT == 0
 keeps (shape.List most) d = nat_le (length (list_in (as_array d))) most
 keeps shape.Object d = true
-keeps (shape.Bytes least most) d = is_in_range least most (length (text_of d) / 2)
+keeps (shape.Bytes least most) d = is_in_range least most (length (text_value d) / 2)
 keeps shape.Offset d = true
 keeps shape.Code d = keeps_code d
 
@@ -78,7 +78,7 @@ keeps_ram version d =
 abbrev pub keeps_more : PartWord → Spot → Bool
 keeps_more part.Firmware s = keeps_version (version_of s.value) s.value
 keeps_more part.Ram s = keeps_ram (version_of s.owner) s.value
-keeps_more part.Key s = is_in_range FIRST_KEY_TYPE LAST_KEY_TYPE (number_in s.value)
+keeps_more part.Key s = is_in_range FIRST_KEY_TYPE LAST_KEY_TYPE (number_or_zero s.value)
 keeps_more _ s = true
 
 abbrev pub keeps_limits : Spot → Bool

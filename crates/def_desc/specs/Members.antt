@@ -4,14 +4,14 @@ use Rattle.serde_json.specs.Data.{Data, null, Items, no_items, item, Members, no
 use Rattle.serde_json.specs.Find.{get, as_str, as_number, as_u64, as_array, as_object}
 
 -- a number is an integer of 0 to 2^64 - 1, written without point, exponent and sign
-abbrev pub number_of : Data → Option ℕ
-number_of d = option_and_then as_u64 (as_number d)
+abbrev pub natural_of : Data → Option ℕ
+natural_of d = option_and_then as_u64 (as_number d)
 
 abbrev pub text_at : List ℕ → Data → Option (List ℕ)
 text_at key d = option_and_then as_str (get key d)
 
-abbrev pub number_at : List ℕ → Data → Option ℕ
-number_at key d = option_and_then number_of (get key d)
+abbrev pub number_member : List ℕ → Data → Option ℕ
+number_member key d = option_and_then natural_of (get key d)
 
 abbrev pub list_of : Items → List Data
 list_of no_items = []
@@ -26,8 +26,8 @@ abbrev pub list_at : List ℕ → Data → List Data
 list_at key d = list_in (option_and_then as_array (get key d))
 
 -- a member is there, of whatever kind
-abbrev pub has : List ℕ → Data → Bool
-has key d = is_some (get key d)
+abbrev pub has_key : List ℕ → Data → Bool
+has_key key d = is_some (get key d)
 
 abbrev pub has_text : List ℕ → Data → Bool
 has_text key d = is_some (text_at key d)
@@ -40,11 +40,11 @@ abbrev pub text_or : List ℕ → Data → List ℕ
 text_or key d = unwrap_or (text_at key d) []
 
 abbrev pub number_or : ℕ → List ℕ → Data → ℕ
-number_or default key d = unwrap_or (number_at key d) default
+number_or default key d = unwrap_or (number_member key d) default
 
 -- the text that a value is, or the empty text
-abbrev pub text_of : Data → List ℕ
-text_of d = unwrap_or (as_str d) []
+abbrev pub text_value : Data → List ℕ
+text_value d = unwrap_or (as_str d) []
 
 -- the keys of an object
 abbrev pub names_in : Members → List (List ℕ)

@@ -102,12 +102,12 @@ rights_fit_at s = rights_fit_in s.place.part s.value
 -- ---- F9: a service that isn't listed
 
 -- a service that is listed, of those that are taken
-abbrev pub is_taken : Option ℕ → Bool
-is_taken None = false
-is_taken (Some n) = nat_le n last_service
+abbrev pub is_service_taken : Option ℕ → Bool
+is_service_taken None = false
+is_service_taken (Some n) = nat_le n last_service
 
 abbrev pub is_served : Form → List ℕ → Bool
-is_served form.Service name = is_taken (service_of name)
+is_served form.Service name = is_service_taken (service_of name)
 is_served _ name = true
 
 abbrev pub target_is_served : Option Target → Bool

@@ -7,7 +7,7 @@ use Rattle.def_desc.specs.declared.tables.Form.{Form}
 use Rattle.def_desc.specs.declared.tables.Passes.{Passes}
 
 -- code: its words, or the name of the file that holds its source
-pub record CodeRow : Type 0 where
+pub record DescCode : Type 0 where
   pub words : List ℕ
   pub file : Option (List ℕ)
 
@@ -16,11 +16,11 @@ pub record AtRow : Type 0 where
   pub label : Option (List ℕ)
   pub offset : ℕ
 
-pub record SharedRow : Type 0 where
+pub record DescShared : Type 0 where
   pub name : List ℕ
   pub size : ℕ
 
-pub record SealedRow : Type 0 where
+pub record DescSealed : Type 0 where
   pub name : List ℕ
   pub seal : ℕ
   pub bytes : List ℕ
@@ -49,9 +49,9 @@ pub record ExportRow : Type 0 where
   pub passes : Passes
 
 -- keys are the numbers of their types
-pub record CompartmentRow : Type 0 where
+pub record DescCompartment : Type 0 where
   pub name : List ℕ
-  pub code : CodeRow
+  pub code : DescCode
   pub globals : ℕ
   pub imports : List ImportRow
   pub quotas : List QuotaRow
@@ -69,11 +69,11 @@ pub record LexportRow : Type 0 where
 
 pub record LibraryRow : Type 0 where
   pub name : List ℕ
-  pub code : CodeRow
+  pub code : DescCode
   pub imports : List LimportRow
   pub exports : List LexportRow
 
-pub record ThreadRow : Type 0 where
+pub record DescThread : Type 0 where
   pub name : List ℕ
   pub entry : List ℕ
   pub priority : ℕ
@@ -87,11 +87,11 @@ pub record DescRow : Type 0 where
   pub ram : Ram
   pub quantum : ℕ
   pub devices : List DeviceRow
-  pub shared : List SharedRow
-  pub sealed : List SealedRow
-  pub compartments : List CompartmentRow
+  pub shared : List DescShared
+  pub sealed : List DescSealed
+  pub compartments : List DescCompartment
   pub libraries : List LibraryRow
-  pub threads : List ThreadRow
+  pub threads : List DescThread
 
 -- what an import names: by which member, and the text there
 pub record Target : Type 0 where

@@ -52,8 +52,8 @@ inner_lists part.Compartment = map (λ r. inner r.0 r.1.now) OF_COMPARTMENT
 inner_lists part.Library = map (λ r. inner r.0 r.1.now) OF_LIBRARY
 inner_lists _ = []
 
-unfoldable pub kind_of : List ℕ → Option DeviceKind
-kind_of text = says (λ r. r.0.now) (λ r. r.1) text DEVICE_KINDS
+unfoldable pub device_kind_named : List ℕ → Option DeviceKind
+device_kind_named text = says (λ r. r.0.now) (λ r. r.1) text DEVICE_KINDS
 
 unfoldable pub posture_of : List ℕ → Option Mode
 posture_of text = says (λ r. r.0.now) (λ r. r.1) text POSTURES

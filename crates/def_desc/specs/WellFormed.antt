@@ -14,12 +14,12 @@ use Rattle.def_desc.specs.Limits.{keeps_limits}
 use Rattle.def_desc.specs.References.{refers_at, rights_fit_at, is_served_at}
 use Rattle.def_desc.specs.Addresses.{address_fault}
 
-abbrev pub place_of : Spot → Place
-place_of s = s.place
+abbrev pub spot_place : Spot → Place
+spot_place s = s.place
 
 -- the first place of the walk at which a test fails
 abbrev pub first_failing : (Spot → Bool) → List Spot → Option Place
-first_failing test ss = option_map place_of (find (λ s. not (test s)) ss)
+first_failing test ss = option_map spot_place (find (λ s. not (test s)) ss)
 
 abbrev pub fault : ℕ → Place → Fault
 fault number place = record { number = number; place = place }
@@ -53,8 +53,8 @@ abbrev pub WellFormed : List ℕ → DescRow → Type 0
 WellFormed bytes rows = (d : Data) × (IsText bytes d × (fault_of d ≡ None) × (rows ≡ description_of d))
 
 -- F1: the bytes are no JSON text
-abbrev pub text_fault : Fault
-text_fault = fault 1 (place part.Firmware 0 0)
+abbrev pub json_fault : Fault
+json_fault = fault 1 (place part.Firmware 0 0)
 
 abbrev pub IsNoText : List ℕ → Type 0
 IsNoText bytes = IsUtf8 bytes → read bytes ≡ None
@@ -62,4 +62,4 @@ IsNoText bytes = IsUtf8 bytes → read bytes ≡ None
 -- the bytes have this fault: the least number that holds, at its first place
 abbrev pub IsFaulty : List ℕ → Fault → Type 0
 IsFaulty bytes f =
-    ((f ≡ text_fault) × IsNoText bytes) ⊎ ((d : Data) × (IsText bytes d × (fault_of d ≡ Some f)))
+    ((f ≡ json_fault) × IsNoText bytes) ⊎ ((d : Data) × (IsText bytes d × (fault_of d ≡ Some f)))

@@ -8,25 +8,25 @@ use Rattle.serde_json.specs.Written.{compact_text}
 use Rattle.def_gen.specs.declared.TheConstants.{RAM_BASE, RAM_SIZE, QUANTUM, PORT_BASE, QUOTA, ARGUMENTS, EXPORT_STACK, PRIORITY, THREAD_STACK}
 use Rattle.def_gen.specs.Numbers.{count_of, chosen, globals_of, passes_data, is_last}
 
-abbrev pub num : ℕ → Data
-num n = number (unsigned n)
+abbrev pub number_data : ℕ → Data
+number_data n = number (unsigned n)
 
-abbrev pub list : List Data → Data
-list ds = array (items_of ds)
+abbrev pub array_data : List Data → Data
+array_data ds = array (items_of ds)
 
 -- ---- names
 
 -- of compartment i
-abbrev pub compartment_name : ℕ → List ℕ
-compartment_name i = codes "n" ++ decimal i
+abbrev pub name_of_compartment : ℕ → List ℕ
+name_of_compartment i = codes "n" ++ decimal i
 
 -- of its source
 abbrev pub file_name : ℕ → List ℕ
-file_name i = compartment_name i ++ codes ".s"
+file_name i = name_of_compartment i ++ codes ".s"
 
 -- of its export
-abbrev pub entry_name : ℕ → List ℕ
-entry_name i = compartment_name i ++ codes ".go"
+abbrev pub name_of_entry : ℕ → List ℕ
+name_of_entry i = name_of_compartment i ++ codes ".go"
 
 -- ---- compartments
 
@@ -46,84 +46,84 @@ service_import name = object
 abbrev pub next_import : ℕ → Data
 next_import i = object
     (member (codes "as") (string (codes "next"))
-    (member (codes "call") (string (entry_name (i + 1))) no_members))
+    (member (codes "call") (string (name_of_entry (i + 1))) no_members))
 
 -- the last one calls none
 abbrev pub next_imports : Bool → ℕ → List Data
 next_imports last i = if last then [] else next_import i ∷ []
 
-abbrev pub imports : Bool → ℕ → List Data
-imports last i =
+abbrev pub import_objects : Bool → ℕ → List Data
+import_objects last i =
     port_import ∷ service_import (codes "allocate") ∷ service_import (codes "free")
     ∷ next_imports last i
 
 abbrev pub quota : Data
 quota = object
-    (member (codes "limit") (num QUOTA)
+    (member (codes "limit") (number_data QUOTA)
     (member (codes "name") (string (codes "q")) no_members))
 
 abbrev pub data_export : Data
 data_export = object
-    (member (codes "args") (num ARGUMENTS)
+    (member (codes "args") (number_data ARGUMENTS)
     (member (codes "at") (string (codes "go"))
     (member (codes "name") (string (codes "go"))
     (member (codes "passes") (string (codes "data"))
-    (member (codes "stack") (num EXPORT_STACK) no_members)))))
+    (member (codes "stack") (number_data EXPORT_STACK) no_members)))))
 
 abbrev pub capability_export : Data
 capability_export = object
-    (member (codes "args") (num ARGUMENTS)
+    (member (codes "args") (number_data ARGUMENTS)
     (member (codes "at") (string (codes "go"))
     (member (codes "name") (string (codes "go"))
-    (member (codes "stack") (num EXPORT_STACK) no_members))))
+    (member (codes "stack") (number_data EXPORT_STACK) no_members))))
 
 abbrev pub export : Bool → Data
 export passes = if passes then data_export else capability_export
 
-abbrev pub code : ℕ → Data
-code i = object (member (codes "file") (string (file_name i)) no_members)
+abbrev pub code_object : ℕ → Data
+code_object i = object (member (codes "file") (string (file_name i)) no_members)
 
 -- compartment i, which is the last one or not, and whose calls pass data alone or not
 abbrev pub compartment_with : Bool → Bool → ℕ → ℕ → Data
 compartment_with last passes globals i = object
-    (member (codes "code") (code i)
-    (member (codes "exports") (list (export passes ∷ []))
-    (member (codes "globals") (num globals)
-    (member (codes "imports") (list (imports last i))
-    (member (codes "name") (string (compartment_name i))
-    (member (codes "quotas") (list (quota ∷ [])) no_members))))))
+    (member (codes "code") (code_object i)
+    (member (codes "exports") (array_data (export passes ∷ []))
+    (member (codes "globals") (number_data globals)
+    (member (codes "imports") (array_data (import_objects last i))
+    (member (codes "name") (string (name_of_compartment i))
+    (member (codes "quotas") (array_data (quota ∷ [])) no_members))))))
 
 -- compartment i of so many, by its number y
 abbrev pub compartment_by : ℕ → ℕ → ℕ → Data
 compartment_by count y i = compartment_with (is_last count i) (passes_data y) (globals_of y) i
 
-abbrev pub compartment : ℕ → ℕ → Data
-compartment seed i = compartment_by (count_of seed) (chosen seed i) i
+abbrev pub compartment_object : ℕ → ℕ → Data
+compartment_object seed i = compartment_by (count_of seed) (chosen seed i) i
 
 unfoldable pub compartments : ℕ → List Data
-compartments seed = map (compartment seed) (range_with_len 0 (count_of seed))
+compartments seed = map (compartment_object seed) (range_with_len 0 (count_of seed))
 
 -- ---- the firmware
 
 abbrev pub port : Data
 port = object
-    (member (codes "base") (num PORT_BASE)
+    (member (codes "base") (number_data PORT_BASE)
     (member (codes "kind") (string (codes "uart"))
     (member (codes "name") (string (codes "uart0")) no_members)))
 
 abbrev pub ram : Data
 ram = object
-    (member (codes "base") (num RAM_BASE)
-    (member (codes "size") (num RAM_SIZE) no_members))
+    (member (codes "base") (number_data RAM_BASE)
+    (member (codes "size") (number_data RAM_SIZE) no_members))
 
 -- a thread enters the first compartment, and has a frame for each and one more
 abbrev pub thread_json : ℕ → List ℕ → Data
 thread_json count name = object
-    (member (codes "entry") (string (entry_name 0))
-    (member (codes "frames") (num (count + 1))
+    (member (codes "entry") (string (name_of_entry 0))
+    (member (codes "frames") (number_data (count + 1))
     (member (codes "name") (string name)
-    (member (codes "priority") (num PRIORITY)
-    (member (codes "stack") (num THREAD_STACK) no_members)))))
+    (member (codes "priority") (number_data PRIORITY)
+    (member (codes "stack") (number_data THREAD_STACK) no_members)))))
 
 abbrev pub threads : ℕ → List Data
 threads count = thread_json count (codes "a") ∷ thread_json count (codes "b") ∷ []
@@ -132,15 +132,15 @@ threads count = thread_json count (codes "a") ∷ thread_json count (codes "b") 
 abbrev pub firmware_over : ℕ → Data → Data
 firmware_over count owners = object
     (member (codes "compartments") owners
-    (member (codes "devices") (list (port ∷ []))
+    (member (codes "devices") (array_data (port ∷ []))
     (member (codes "firmware") (string (codes "demo"))
-    (member (codes "quantum") (num QUANTUM)
+    (member (codes "quantum") (number_data QUANTUM)
     (member (codes "ram") ram
-    (member (codes "threads") (list (threads count)) no_members))))))
+    (member (codes "threads") (array_data (threads count)) no_members))))))
 
 -- the firmware that is generated from a number
 unfoldable pub firmware : ℕ → Data
-firmware seed = firmware_over (count_of seed) (list (compartments seed))
+firmware seed = firmware_over (count_of seed) (array_data (compartments seed))
 
 -- its description: the value's compact text
 unfoldable pub description : ℕ → List ℕ

@@ -22,26 +22,26 @@ exports_of (Some c) = length c.exports
 abbrev pub code_in : List CompartmentRow → ℕ → Option CodeRow
 code_in cs b = slice_get (map (λ (c : CompartmentRow). c.code) cs) b
 
-abbrev pub is_named : PartsRow → ImportRow → SlotKind → Bool
-is_named p r Service = true
-is_named p r Device = nat_lt r.first (length p.devices)
-is_named p r Shared = nat_lt r.first (length p.shared)
-is_named p r Sealed = nat_lt r.first (length p.sealed)
-is_named p r Call = nat_lt r.second (exports_of (code_in p.compartments r.first))
-is_named p r Library = nat_lt r.second (exports_of (slice_get p.libraries r.first))
-is_named p r Quota = true
-is_named p r Key = true
+abbrev pub is_slot_named : PartsRow → ImportRow → SlotKind → Bool
+is_slot_named p r Service = true
+is_slot_named p r Device = nat_lt r.first (length p.devices)
+is_slot_named p r Shared = nat_lt r.first (length p.shared)
+is_slot_named p r Sealed = nat_lt r.first (length p.sealed)
+is_slot_named p r Call = nat_lt r.second (exports_of (code_in p.compartments r.first))
+is_slot_named p r Library = nat_lt r.second (exports_of (slice_get p.libraries r.first))
+is_slot_named p r Quota = true
+is_slot_named p r Key = true
 
 -- ---- the order of slots
 
 -- imports stand before quotas, and these before keys
-abbrev pub class_of : SlotKind → ℕ
-class_of Quota = 1
-class_of Key = 2
-class_of _ = 0
+abbrev pub slot_class : SlotKind → ℕ
+slot_class Quota = 1
+slot_class Key = 2
+slot_class _ = 0
 
 abbrev pub comes_before : ImportRow → SlotRow → Bool
-comes_before r s = nat_lt (class_of r.kind) (class_of s.row.kind)
+comes_before r s = nat_lt (slot_class r.kind) (slot_class s.row.kind)
 
 abbrev pub is_service : SlotKind → Bool
 is_service Service = true
@@ -54,18 +54,18 @@ is_switch r = is_service r.kind && r.first == SWITCH
 abbrev pub is_reserved : ImportRow → Bool
 is_reserved r = is_service r.kind && (r.first == SWITCH || r.first == RETURN)
 
-abbrev pub is_astray : PartsRow → List SlotRow → ImportRow → Bool
-is_astray p earlier r =
-    not (is_named p r r.kind) || is_reserved r || list_any (comes_before r) earlier
+abbrev pub is_import_astray : PartsRow → List SlotRow → ImportRow → Bool
+is_import_astray p earlier r =
+    not (is_slot_named p r r.kind) || is_reserved r || list_any (comes_before r) earlier
 
 -- ---- what is asked
 
 abbrev pub slot_asked : PartsRow → ℕ → List SlotRow → SlotRow → List Check
-slot_asked p at earlier s = check at (is_astray p earlier s.row) ∷ []
+slot_asked p at earlier s = check at (is_import_astray p earlier s.row) ∷ []
 
 -- the first slot of a compartment is the switch
 abbrev pub is_own_astray : PartsRow → List SlotRow → ImportRow → Bool
-is_own_astray p earlier r = if length earlier == 0 then not (is_switch r) else is_astray p earlier r
+is_own_astray p earlier r = if length earlier == 0 then not (is_switch r) else is_import_astray p earlier r
 
 abbrev pub own_slot_asked : PartsRow → ℕ → List SlotRow → SlotRow → List Check
 own_slot_asked p at earlier s = check at (is_own_astray p earlier s.row) ∷ []
@@ -78,11 +78,11 @@ abbrev pub library_asked : PartsRow → ℕ → List CodeRow → CodeRow → Lis
 library_asked p at earlier c = walked (slot_asked p) (λ s. ENTRY) (at + LIBRARY_HEAD) [] c.slots
 
 -- a thread enters an export of a compartment
-abbrev pub enters : PartsRow → ThreadRow → Bool
-enters p t = nat_lt t.export (exports_of (code_in p.compartments t.compartment))
+abbrev pub enters_export : PartsRow → ThreadRow → Bool
+enters_export p t = nat_lt t.export (exports_of (code_in p.compartments t.compartment))
 
 abbrev pub thread_asked : PartsRow → ℕ → List ThreadRow → ThreadRow → List Check
-thread_asked p at earlier t = check (at + 40) (not (enters p t)) ∷ []
+thread_asked p at earlier t = check (at + 40) (not (enters_export p t)) ∷ []
 
 -- the sizes of parts are those of their fields
 abbrev pub part_size : CompartmentRow → ℕ

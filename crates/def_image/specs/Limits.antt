@@ -20,23 +20,23 @@ use Rattle.def_image.specs.Checks.{check, walked}
 
 -- ---- names: 32 bytes, of which the name is what stands before the first zero
 
-abbrev pub name_of : List ℕ → List ℕ
-name_of [] = []
-name_of (b ∷ bs) = if b == 0 then [] else b ∷ name_of bs
+abbrev pub name_in_field : List ℕ → List ℕ
+name_in_field [] = []
+name_in_field (b ∷ bs) = if b == 0 then [] else b ∷ name_in_field bs
 
 abbrev pub are_zeros : List ℕ → Bool
 are_zeros bytes = list_all (λ b. b == 0) bytes
 
 -- it has the form of a name, isn't repeated, and is what is wanted here; zeros pad it
-abbrev pub named : ℕ → Bool → Bool → List ℕ → List Check
-named at repeated unwanted field =
-    check at (not (is_name (name_of field)) || repeated || unwanted)
-    ∷ check (at + length (name_of field)) (not (are_zeros (drop (length (name_of field)) field)))
+abbrev pub checks_of_name : ℕ → Bool → Bool → List ℕ → List Check
+checks_of_name at repeated unwanted field =
+    check at (not (is_name (name_in_field field)) || repeated || unwanted)
+    ∷ check (at + length (name_in_field field)) (not (are_zeros (drop (length (name_in_field field)) field)))
     ∷ []
 
 -- it is none of those seen
 unfoldable pub name_checks : ℕ → Bool → List (List ℕ) → List ℕ → List Check
-name_checks at unwanted seen field = named at (among (name_of field) seen) unwanted field
+name_checks at unwanted seen field = checks_of_name at (among (name_in_field field) seen) unwanted field
 
 -- ---- the header
 
@@ -75,17 +75,17 @@ header_limits r = count_limits r ++ number_limits r
 
 -- ---- devices and objects
 
-abbrev pub device_name : RawDevice → List ℕ
-device_name d = name_of d.name
+abbrev pub raw_device_name : RawDevice → List ℕ
+raw_device_name d = name_in_field d.name
 
 unfoldable pub device_limits : ℕ → List RawDevice → RawDevice → List Check
 device_limits at earlier d =
-    name_checks at false (map device_name earlier) d.name
+    name_checks at false (map raw_device_name earlier) d.name
     ++ check (at + 32) (outside 1 3 d.kind)
     ∷ []
 
 abbrev pub shared_name : RawShared → List ℕ
-shared_name s = name_of s.name
+shared_name s = name_in_field s.name
 
 unfoldable pub shared_limits : ℕ → List RawShared → RawShared → List Check
 shared_limits at earlier s =
@@ -94,7 +94,7 @@ shared_limits at earlier s =
     ∷ []
 
 abbrev pub sealed_name : RawSealed → List ℕ
-sealed_name s = name_of s.name
+sealed_name s = name_in_field s.name
 
 -- so many bytes don't fit an object of this length
 abbrev pub overfilled : ℕ → ℕ → Bool
@@ -114,11 +114,11 @@ sealed_limits at earlier s =
 
 -- ---- rows of 16 bytes
 
-abbrev pub byte_at : List ℕ → ℕ → ℕ
-byte_at row k = get_or row k 0
+abbrev pub byte_in : List ℕ → ℕ → ℕ
+byte_in row k = get_or row k 0
 
-abbrev pub number_at : List ℕ → ℕ → ℕ
-number_at row k = from_le_bytes w32 (take 4 (drop k row))
+abbrev pub number_field : List ℕ → ℕ → ℕ
+number_field row k = from_le_bytes w32 (take 4 (drop k row))
 
 -- the first number of an import row, by its kind: a service's number, a quota's limit, a key's type
 abbrev pub misnumbered : ℕ → ℕ → Bool
@@ -135,12 +135,12 @@ has_second kind = kind == 5 || kind == 6
 -- kind, rights, two zero bytes, three numbers
 unfoldable pub row_limits : ℕ → List ℕ → List Check
 row_limits at row =
-    check at (outside 1 8 (byte_at row 0))
-    ∷ check (at + 1) (nat_lt 63 (byte_at row 1))
+    check at (outside 1 8 (byte_in row 0))
+    ∷ check (at + 1) (nat_lt 63 (byte_in row 1))
     ∷ check (at + 2) (not (are_zeros (take 2 (drop 2 row))))
-    ∷ check (at + 4) (misnumbered (byte_at row 0) (number_at row 4))
-    ∷ check (at + 8) (not (has_second (byte_at row 0)) && not (number_at row 8 == 0))
-    ∷ check (at + 12) (not (number_at row 12 == 0))
+    ∷ check (at + 4) (misnumbered (byte_in row 0) (number_field row 4))
+    ∷ check (at + 8) (not (has_second (byte_in row 0)) && not (number_field row 8 == 0))
+    ∷ check (at + 12) (not (number_field row 12 == 0))
     ∷ []
 
 -- what an export of a compartment or a library may ask for, at most, and its least posture
@@ -164,28 +164,28 @@ library_bounds = record { stack = 0; args = 0; posture = 1; passes = 1 }
 -- offset in the text, stack, arguments, posture, passing, a zero byte, entry number
 unfoldable pub gate_limits : Bounds → ℕ → ℕ → ℕ → List ℕ → List Check
 gate_limits b text entry at row =
-    check at (not (number_at row 0 % 4 == 0) || nat_le text (number_at row 0))
-    ∷ check (at + 4) (nat_lt b.stack (number_at row 4))
-    ∷ check (at + 8) (nat_lt b.args (byte_at row 8))
-    ∷ check (at + 9) (outside b.posture 3 (byte_at row 9))
-    ∷ check (at + 10) (outside 1 b.passes (byte_at row 10))
-    ∷ check (at + 11) (not (byte_at row 11 == 0))
-    ∷ check (at + 12) (not (number_at row 12 == entry))
+    check at (not (number_field row 0 % 4 == 0) || nat_le text (number_field row 0))
+    ∷ check (at + 4) (nat_lt b.stack (number_field row 4))
+    ∷ check (at + 8) (nat_lt b.args (byte_in row 8))
+    ∷ check (at + 9) (outside b.posture 3 (byte_in row 9))
+    ∷ check (at + 10) (outside 1 b.passes (byte_in row 10))
+    ∷ check (at + 11) (not (byte_in row 11 == 0))
+    ∷ check (at + 12) (not (number_field row 12 == entry))
     ∷ []
 
 -- ---- slots and exports
 
 abbrev pub entry_name : RawEntry → List ℕ
-entry_name e = name_of e.name
+entry_name e = name_in_field e.name
 
 -- the name that a key's slot must have, by the key's type
-abbrev pub key_name : ℕ → List ℕ
-key_name kind =
+abbrev pub key_slot_name : ℕ → List ℕ
+key_slot_name kind =
     if kind == 13 then codes "key13" else if kind == 14 then codes "key14" else if kind == 15 then codes "key15" else []
 
 abbrev pub is_unnamed_key : RawEntry → Bool
 is_unnamed_key s =
-    (byte_at s.row 0 == 8) && not (bytes_eq (entry_name s) (key_name (number_at s.row 4)))
+    (byte_in s.row 0 == 8) && not (bytes_eq (entry_name s) (key_slot_name (number_field s.row 4)))
 
 abbrev pub switch_name : List ℕ
 switch_name = codes "switch"
@@ -214,16 +214,16 @@ export_limits b text entry at earlier x =
 -- ---- compartments and libraries
 
 abbrev pub compartment_name : RawCompartment → List ℕ
-compartment_name c = name_of c.code.name
+compartment_name c = name_in_field c.code.name
 
 abbrev pub library_name : RawCode → List ℕ
-library_name c = name_of c.name
+library_name c = name_in_field c.name
 
-abbrev pub compartment_entries : RawCompartment → ℕ
-compartment_entries c = compartment_count c.code.slots c.code.exports
+abbrev pub raw_compartment_entries : RawCompartment → ℕ
+raw_compartment_entries c = compartment_count c.code.slots c.code.exports
 
-abbrev pub library_entries : RawCode → ℕ
-library_entries c = library_count c.slots c.exports
+abbrev pub raw_library_entries : RawCode → ℕ
+raw_library_entries c = library_count c.slots c.exports
 
 -- slots and text fit the region; text is words
 abbrev pub code_limits : ℕ → RawCode → List Check
@@ -275,7 +275,7 @@ compartment_limits_by entry at seen c =
 
 abbrev pub compartment_limits : ℕ → List RawCompartment → RawCompartment → List Check
 compartment_limits at earlier c =
-    compartment_limits_by (1 + sum_of compartment_entries earlier) at (map compartment_name earlier)
+    compartment_limits_by (1 + sum_of raw_compartment_entries earlier) at (map compartment_name earlier)
     c
 
 -- the numbers of a library's head
@@ -285,8 +285,8 @@ library_numbers at c =
     ∷ check (at + 48) (nat_lt most.MOST_EXPORTS (length c.exports))
     ∷ []
 
-abbrev pub library_gates : ℕ → ℕ → RawCode → List Check
-library_gates entry at c =
+abbrev pub library_gate_checks : ℕ → ℕ → RawCode → List Check
+library_gate_checks entry at c =
     exports_limits library_bounds (entry + 1 + length c.slots)
     (at + LIBRARY_HEAD + entries_size c.slots) c
 
@@ -296,22 +296,22 @@ library_limits_by entry at seen c =
     ++ code_limits at c
     ++ library_numbers at c
     ++ slots_limits (at + LIBRARY_HEAD) c
-    ++ library_gates entry at c
+    ++ library_gate_checks entry at c
 
 -- the number of the first library's first entry
 abbrev pub first_library_entry : RawImage → ℕ
-first_library_entry r = 1 + sum_of compartment_entries r.compartments
+first_library_entry r = 1 + sum_of raw_compartment_entries r.compartments
 
 -- after the compartments, with whose names theirs are one space
 abbrev pub library_limits : RawImage → ℕ → List RawCode → RawCode → List Check
 library_limits r at earlier c =
-    library_limits_by (first_library_entry r + sum_of library_entries earlier) at
+    library_limits_by (first_library_entry r + sum_of raw_library_entries earlier) at
     (map compartment_name r.compartments ++ map library_name earlier) c
 
 -- ---- threads
 
 abbrev pub thread_name : RawThread → List ℕ
-thread_name t = name_of t.name
+thread_name t = name_in_field t.name
 
 unfoldable pub thread_limits_by : ℕ → List (List ℕ) → RawThread → List Check
 thread_limits_by at seen t =
@@ -321,11 +321,11 @@ thread_limits_by at seen t =
     ∷ check (at + 52) (outside 1 most.MOST_FRAMES t.frames)
     ∷ []
 
-abbrev pub owner_names : RawImage → List (List ℕ)
-owner_names r = map compartment_name r.compartments ++ map library_name r.libraries
+abbrev pub raw_owner_names : RawImage → List (List ℕ)
+raw_owner_names r = map compartment_name r.compartments ++ map library_name r.libraries
 
 abbrev pub thread_limits : RawImage → ℕ → List RawThread → RawThread → List Check
-thread_limits r at earlier t = thread_limits_by at (owner_names r ++ map thread_name earlier) t
+thread_limits r at earlier t = thread_limits_by at (raw_owner_names r ++ map thread_name earlier) t
 
 -- ---- all
 

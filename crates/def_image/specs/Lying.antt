@@ -16,15 +16,15 @@ abbrev pub is_even : ℕ → Bool
 is_even n = n % REGION_UNIT == 0
 
 -- an address lies in both ranges, each given by its base and length; in an empty one lies none
-abbrev pub meets : ℕ → ℕ → ℕ → ℕ → Bool
-meets a m b n = nat_lt 0 m && nat_lt 0 n && nat_lt a (b + n) && nat_lt b (a + m)
+abbrev pub overlaps : ℕ → ℕ → ℕ → ℕ → Bool
+overlaps a m b n = nat_lt 0 m && nat_lt 0 n && nat_lt a (b + n) && nat_lt b (a + m)
 
 -- the range in which native routines stand
-abbrev pub meets_native : ℕ → ℕ → Bool
-meets_native a m = meets a m NATIVE_BASE (NATIVE_END - NATIVE_BASE)
+abbrev pub overlaps_native : ℕ → ℕ → Bool
+overlaps_native a m = overlaps a m NATIVE_BASE (NATIVE_END - NATIVE_BASE)
 
 abbrev pub meets_region : RegionRow → RegionRow → Bool
-meets_region r q = meets r.base r.length q.base q.length
+meets_region r q = overlaps r.base r.length q.base q.length
 
 abbrev pub is_in_ram : PartsRow → RegionRow → Bool
 is_in_ram p r = nat_le p.ram r.base && nat_le (r.base + r.length) (p.ram + p.size)
@@ -36,12 +36,12 @@ is_laid p earlier r =
     && (rounded_of r.base (r.base + r.length)).exact
     && not (list_any (meets_region r) earlier)
 
-abbrev pub trusted_end : PartsRow → ℕ
-trusted_end p = (trusted_region p).base + (trusted_region p).length
+abbrev pub trusted_region_end : PartsRow → ℕ
+trusted_region_end p = (trusted_region p).base + (trusted_region p).length
 
 -- the heap begins in RAM, or at its end, and after the trusted region
 abbrev pub is_heap_laid : PartsRow → Bool
-is_heap_laid p = is_even p.heap && nat_le p.heap (p.ram + p.size) && nat_le (trusted_end p) p.heap
+is_heap_laid p = is_even p.heap && nat_le p.heap (p.ram + p.size) && nat_le (trusted_region_end p) p.heap
 
 -- a region whose base stands after the heap's: laid, and below the heap
 abbrev pub is_laid_below : PartsRow → List RegionRow → RegionRow → Bool
@@ -51,21 +51,21 @@ is_laid_below p earlier r =
 abbrev pub region_asked : PartsRow → ℕ → List RegionRow → RegionRow → List Check
 region_asked p at earlier r = check r.place (not (is_laid_below p earlier r)) ∷ []
 
-abbrev pub meets_device : ℕ → DeviceRow → Bool
-meets_device base d = meets base DEVICE_SIZE d.base DEVICE_SIZE
+abbrev pub overlaps_device : ℕ → DeviceRow → Bool
+overlaps_device base d = overlaps base DEVICE_SIZE d.base DEVICE_SIZE
 
 abbrev pub is_device_laid : PartsRow → List DeviceRow → DeviceRow → Bool
 is_device_laid p earlier d =
-    is_even d.base && not (meets d.base DEVICE_SIZE p.ram p.size)
-    && not (meets_native d.base DEVICE_SIZE)
-    && not (list_any (meets_device d.base) earlier)
+    is_even d.base && not (overlaps d.base DEVICE_SIZE p.ram p.size)
+    && not (overlaps_native d.base DEVICE_SIZE)
+    && not (list_any (overlaps_device d.base) earlier)
 
 abbrev pub device_asked : PartsRow → ℕ → List DeviceRow → DeviceRow → List Check
 device_asked p at earlier d = check (at + 36) (not (is_device_laid p earlier d)) ∷ []
 
 unfoldable pub region_checks : PartsRow → List Check
 region_checks p =
-    check 36 (meets_native p.ram p.size)
+    check 36 (overlaps_native p.ram p.size)
     ∷ check 44 (not (is_laid p [] (trusted_region p)))
     ∷ check 48 (not (is_heap_laid p))
     ∷ walked (device_asked p) (λ d. DEVICE) (header_size p.version) [] p.devices

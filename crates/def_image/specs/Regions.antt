@@ -29,8 +29,8 @@ pub record RegionRow : Type 0 where
   pub base : ℕ
   pub length : ℕ
 
-abbrev pub region : Holder → ℕ → ℕ → ℕ → RegionRow
-region holder place base length = record {
+abbrev pub region_row : Holder → ℕ → ℕ → ℕ → RegionRow
+region_row holder place base length = record {
   holder = holder;
   place = place;
   base = base;
@@ -61,35 +61,35 @@ trusted_length p = region_length (trusted_size p.threads)
 abbrev pub shared_regions : ℕ → ℕ → List SharedRow → List RegionRow
 shared_regions at n [] = []
 shared_regions at n (s ∷ ss) =
-    region (SharedOf n) (at + 32) s.base s.length ∷ shared_regions (at + SHARED) (n + 1) ss
+    region_row (SharedOf n) (at + 32) s.base s.length ∷ shared_regions (at + SHARED) (n + 1) ss
 
 abbrev pub sealed_regions : ℕ → ℕ → List SealedRow → List RegionRow
 sealed_regions at n [] = []
 sealed_regions at n (s ∷ ss) =
-    region (SealedOf n) (at + 32) s.base s.length
+    region_row (SealedOf n) (at + 32) s.base s.length
     ∷ sealed_regions (at + sealed_size (raw_sealed s)) (n + 1) ss
 
 abbrev pub compartment_regions : ℕ → ℕ → List CompartmentRow → List RegionRow
 compartment_regions at b [] = []
 compartment_regions at b (c ∷ cs) =
-    region (CodeOf (Compartment b)) (at + 32) c.code.base c.code.length
-    ∷ region (TableOf b) (at + 44) c.table (table_length c)
-    ∷ region (GlobalsOf b) (at + 48) c.globals c.globals_length
+    region_row (CodeOf (Compartment b)) (at + 32) c.code.base c.code.length
+    ∷ region_row (TableOf b) (at + 44) c.table (table_length c)
+    ∷ region_row (GlobalsOf b) (at + 48) c.globals c.globals_length
     ∷ compartment_regions (at + compartment_size (raw_compartment c)) (b + 1) cs
 
 abbrev pub library_regions : ℕ → ℕ → List CodeRow → List RegionRow
 library_regions at l [] = []
 library_regions at l (c ∷ cs) =
-    region (CodeOf (Library l)) (at + 32) c.base c.length
+    region_row (CodeOf (Library l)) (at + 32) c.base c.length
     ∷ library_regions (at + library_size (raw_code c)) (l + 1) cs
 
 abbrev pub stack_regions : ℕ → ℕ → List ThreadRow → List RegionRow
 stack_regions at t [] = []
 stack_regions at t (x ∷ xs) =
-    region (StackOf t) (at + 32) x.stack x.stack_length ∷ stack_regions (at + THREAD) (t + 1) xs
+    region_row (StackOf t) (at + 32) x.stack x.stack_length ∷ stack_regions (at + THREAD) (t + 1) xs
 
 abbrev pub trusted_region : PartsRow → RegionRow
-trusted_region p = region TrustedPart 44 p.trusted (trusted_length p)
+trusted_region p = region_row TrustedPart 44 p.trusted (trusted_length p)
 
 -- all but the trusted region
 abbrev pub later_regions : PartsRow → List RegionRow

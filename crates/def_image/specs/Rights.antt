@@ -26,8 +26,8 @@ abbrev pub both_rights : ℕ
 both_rights = GL + LD + SD
 
 -- R, W, RW
-abbrev pub device_rights : List ℕ
-device_rights = read_rights ∷ write_rights ∷ both_rights ∷ []
+abbrev pub device_right_sets : List ℕ
+device_right_sets = read_rights ∷ write_rights ∷ both_rights ∷ []
 
 -- RC, WC, RWC
 abbrev pub carrying_rights : List ℕ
@@ -39,8 +39,8 @@ is_one_of set sets = list_any (λ x. set == x) sets
 
 abbrev pub fits_kind : SlotKind → ℕ → Bool
 fits_kind Service set = set == SERVICE_RIGHTS
-fits_kind Device set = is_one_of set device_rights
-fits_kind Shared set = is_one_of set device_rights || is_one_of set carrying_rights
+fits_kind Device set = is_one_of set device_right_sets
+fits_kind Shared set = is_one_of set device_right_sets || is_one_of set carrying_rights
 fits_kind Sealed set = set == SEALED_RIGHTS
 fits_kind Call set = set == EXPORT_RIGHTS
 fits_kind Library set = set == CODE_RIGHTS

@@ -21,8 +21,8 @@ cut_of word = record {
 }
 
 -- the word that has these fields
-abbrev pub joined : Fields → ℕ
-joined f = format_r f.opcode f.funct3 f.funct7 f.rd f.rs1 f.rs2
+abbrev pub word_of_fields : Fields → ℕ
+word_of_fields f = format_r f.opcode f.funct3 f.funct7 f.rd f.rs1 f.rs2
 
 -- each field has its width
 pub record IsCut (f : Fields) : Type 0 where
@@ -93,8 +93,8 @@ branch_of f =
     None
     ) else None
 
-abbrev pub load_of : Fields → Option Instr
-load_of f =
+abbrev pub load_instruction : Fields → Option Instr
+load_instruction f =
     if two_small f.rd f.rs1 then (
     if f.funct3 == 0 then Some (Lb f.rd f.rs1 (signed_immediate f)) else
     if f.funct3 == 1 then Some (Lh f.rd f.rs1 (signed_immediate f)) else
@@ -105,8 +105,8 @@ load_of f =
     None
     ) else None
 
-abbrev pub store_of : Fields → Option Instr
-store_of f =
+abbrev pub store_instruction : Fields → Option Instr
+store_instruction f =
     if two_small f.rs1 f.rs2 then (
     if f.funct3 == 0 then Some (Sb f.rs1 f.rs2 (store_immediate f)) else
     if f.funct3 == 1 then Some (Sh f.rs1 f.rs2 (store_immediate f)) else
@@ -134,8 +134,8 @@ immediate_of f =
     shift_of f
     ) else None
 
-abbrev pub base_of : Fields → Option Instr
-base_of f =
+abbrev pub base_instruction : Fields → Option Instr
+base_instruction f =
     if f.funct3 == 0 then Some (Add f.rd f.rs1 f.rs2) else
     if f.funct3 == 1 then Some (Sll f.rd f.rs1 f.rs2) else
     if f.funct3 == 2 then Some (Slt f.rd f.rs1 f.rs2) else
@@ -164,10 +164,10 @@ multiply_of f =
     if f.funct3 == 7 then Some (Remu f.rd f.rs1 f.rs2) else
     None
 
-abbrev pub register_of : Fields → Option Instr
-register_of f =
+abbrev pub register_instruction : Fields → Option Instr
+register_instruction f =
     if three_small f.rd f.rs1 f.rs2 then (
-    if f.funct7 == 0x00 then base_of f else
+    if f.funct7 == 0x00 then base_instruction f else
     if f.funct7 == 0x20 then alternate_of f else
     if f.funct7 == 0x01 then multiply_of f else
     None
@@ -243,9 +243,9 @@ capability_of f =
 abbrev pub instruction_of : Fields → Option Instr
 instruction_of f =
     if f.opcode == 0x13 then immediate_of f else
-    if f.opcode == 0x33 then register_of f else
-    if f.opcode == 0x03 then load_of f else
-    if f.opcode == 0x23 then store_of f else
+    if f.opcode == 0x33 then register_instruction f else
+    if f.opcode == 0x03 then load_instruction f else
+    if f.opcode == 0x23 then store_instruction f else
     if f.opcode == 0x63 then branch_of f else
     if f.opcode == 0x5B then capability_of f else
     if f.opcode == 0x37 then upper_of f else

@@ -117,29 +117,29 @@ pub record Code : Type 0 where
   pub funct3 : ℕ
   pub funct7 : ℕ
 
-abbrev pub code : ℕ → ℕ → Code
-code funct3 funct7 = record { funct3 = funct3; funct7 = funct7 }
+abbrev pub function_code : ℕ → ℕ → Code
+function_code funct3 funct7 = record { funct3 = funct3; funct7 = funct7 }
 
 -- opcode 33
 abbrev pub integer_code : IntegerOperation → Code
-integer_code integers.Add = code 0 0x00
-integer_code integers.Sub = code 0 0x20
-integer_code integers.Sll = code 1 0x00
-integer_code integers.Slt = code 2 0x00
-integer_code integers.Sltu = code 3 0x00
-integer_code integers.Xor = code 4 0x00
-integer_code integers.Srl = code 5 0x00
-integer_code integers.Sra = code 5 0x20
-integer_code integers.Or = code 6 0x00
-integer_code integers.And = code 7 0x00
-integer_code integers.Mul = code 0 0x01
-integer_code integers.Mulh = code 1 0x01
-integer_code integers.Mulhsu = code 2 0x01
-integer_code integers.Mulhu = code 3 0x01
-integer_code integers.Div = code 4 0x01
-integer_code integers.Divu = code 5 0x01
-integer_code integers.Rem = code 6 0x01
-integer_code integers.Remu = code 7 0x01
+integer_code integers.Add = function_code 0 0x00
+integer_code integers.Sub = function_code 0 0x20
+integer_code integers.Sll = function_code 1 0x00
+integer_code integers.Slt = function_code 2 0x00
+integer_code integers.Sltu = function_code 3 0x00
+integer_code integers.Xor = function_code 4 0x00
+integer_code integers.Srl = function_code 5 0x00
+integer_code integers.Sra = function_code 5 0x20
+integer_code integers.Or = function_code 6 0x00
+integer_code integers.And = function_code 7 0x00
+integer_code integers.Mul = function_code 0 0x01
+integer_code integers.Mulh = function_code 1 0x01
+integer_code integers.Mulhsu = function_code 2 0x01
+integer_code integers.Mulhu = function_code 3 0x01
+integer_code integers.Div = function_code 4 0x01
+integer_code integers.Divu = function_code 5 0x01
+integer_code integers.Rem = function_code 6 0x01
+integer_code integers.Remu = function_code 7 0x01
 
 -- opcode 13
 abbrev pub signed_funct3 : SignedOperation → ℕ
@@ -152,9 +152,9 @@ signed_funct3 signeds.Andi = 7
 
 -- opcode 13
 abbrev pub shift_code : ShiftOperation → Code
-shift_code shifts.Slli = code 1 0x00
-shift_code shifts.Srli = code 5 0x00
-shift_code shifts.Srai = code 5 0x20
+shift_code shifts.Slli = function_code 1 0x00
+shift_code shifts.Srli = function_code 5 0x00
+shift_code shifts.Srai = function_code 5 0x20
 
 abbrev pub upper_opcode : UpperOperation → ℕ
 upper_opcode uppers.Lui = 0x37

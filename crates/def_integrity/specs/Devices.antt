@@ -15,7 +15,7 @@ use Rattle.def_step.specs.declared.Event.{Event}
 use Rattle.def_step.specs.declared.Event.TheVariants.{Step, Input}
 use Rattle.def_step.specs.declared.Next.TheVariants.{Instruction}
 use Rattle.def_step.specs.Accesses.{access_of}
-use Rattle.def_step.specs.Devices.{device, found, base_of, left_by_read, left_by_write, after_input}
+use Rattle.def_step.specs.Devices.{device, found, registers_base, left_by_read, left_by_write, after_input}
 use Rattle.def_step.specs.Events.{happens}
 use Rattle.def_step.specs.Instructions.{next_at, space_of}
 use Rattle.def_step.specs.Operands.{class_of}
@@ -26,7 +26,7 @@ use Rattle.def_integrity.specs.Acting.{Acting, TellsAct, IsAuthority}
 
 -- where an address lies among the registers of device n
 abbrev pub offset_in : Platform → ℕ → ℕ → ℕ
-offset_in b n address = address - base_of b.bases n
+offset_in b n address = address - registers_base b.bases n
 
 -- A load or store of the running thread reached it. It stands at the program counter, and its checks pass. What it
 -- goes through is tagged and unsealed, has these bytes in its own bounds and the right that is used, and is of a root

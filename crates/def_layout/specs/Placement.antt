@@ -24,14 +24,14 @@ region_alignment size = max REGION_UNIT (alignment_of (whole_size size))
 abbrev pub region_base : ℕ → ℕ → ℕ
 region_base end size = least_multiple (region_alignment size) end
 
-abbrev pub region : ℕ → ℕ → Region
-region base length = record { base = base; length = length }
+abbrev pub region_from : ℕ → ℕ → Region
+region_from base length = record { base = base; length = length }
 
 -- the regions of these sizes, the first at or after `end`
 unfoldable pub placed : ℕ → List ℕ → List Region
 placed end [] = []
 placed end (n ∷ ns) =
-    region (region_base end n) (region_length n) ∷ placed (region_base end n + region_length n) ns
+    region_from (region_base end n) (region_length n) ∷ placed (region_base end n + region_length n) ns
 
 -- where the last of them ends
 unfoldable pub last_end : ℕ → List ℕ → ℕ
@@ -44,7 +44,7 @@ needed base sizes = last_end base sizes - base
 
 -- the heap is the rest of RAM
 abbrev pub heap_in : ℕ → ℕ → List ℕ → Region
-heap_in base size sizes = region (last_end base sizes) (base + size - last_end base sizes)
+heap_in base size sizes = region_from (last_end base sizes) (base + size - last_end base sizes)
 
 -- ---- what the laws say of a base
 

@@ -4,25 +4,25 @@ use Rattle.std.specs.Prelude.{ℕ, ◌+◌, ◌*◌, List, [], ◌∷◌, ◌++�
 use Rattle.def_profile.specs.Areas.{area_length}
 use Rattle.def_profile.specs.declared.layout.TheConstants.{SLOT_SIZE, TABLE_HEAD, TABLE_ROW, TRUSTED_HEAD}
 use Rattle.def_layout.specs.declared.Region.{Region}
-use Rattle.def_layout.specs.Placement.{region, placed, last_end, needed}
+use Rattle.def_layout.specs.Placement.{region_from, placed, last_end, needed}
 use Rattle.def_image.specs.Sizes.{sum_of}
 use Rattle.def_image.specs.Parts.{SharedRow as SharedPart, SealedRow as SealedPart, CodeRow as CodePart, CompartmentRow as CompartmentPart, ThreadRow as ThreadPart, PartsRow}
-use Rattle.def_desc.specs.Rows.{CompartmentRow, LibraryRow, SharedRow, SealedRow, ThreadRow, DescRow}
+use Rattle.def_desc.specs.Rows.{DescCompartment, LibraryRow, DescShared, DescSealed, DescThread, DescRow}
 use Rattle.def_link.specs.declared.LinkFault.{LinkFault}
 use Rattle.def_link.specs.declared.LinkFault.TheVariants as fault
 use Rattle.def_link.specs.Owners.{Built, units_of, all_built}
-use Rattle.def_link.specs.Slots.{Exported, compartment_export_named, compartment_slots, library_slots, compartment_gates, library_gates}
+use Rattle.def_link.specs.Slots.{Exported, compartment_export_named, compartment_slots, library_slots, compartment_gate_rows, library_gate_rows}
 
 -- a compartment or library with what stands for its code
 pub record BuiltCompartment : Type 0 where
-  pub row : CompartmentRow
+  pub row : DescCompartment
   pub built : Built
 
 pub record BuiltLibrary : Type 0 where
   pub row : LibraryRow
   pub built : Built
 
-abbrev pub compartments_with : List CompartmentRow → List Built → List BuiltCompartment
+abbrev pub compartments_with : List DescCompartment → List Built → List BuiltCompartment
 compartments_with [] bs = []
 compartments_with (c ∷ cs) [] = []
 compartments_with (c ∷ cs) (b ∷ bs) = record { row = c; built = b } ∷ compartments_with cs bs
@@ -35,7 +35,7 @@ libraries_with (l ∷ ls) (b ∷ bs) = record { row = l; built = b } ∷ librari
 -- ---- sizes, in the order of regions
 
 -- slot 0, imports, quotas and keys
-abbrev pub compartment_slot_count : CompartmentRow → ℕ
+abbrev pub compartment_slot_count : DescCompartment → ℕ
 compartment_slot_count c = 1 + length c.imports + length c.quotas + length c.keys
 
 abbrev pub compartment_code_size : BuiltCompartment → ℕ
@@ -53,25 +53,25 @@ compartment_sizes (x ∷ xs) =
     ∷ compartment_sizes xs
 
 -- saved registers and frames
-abbrev pub area_size : ThreadRow → ℕ
-area_size t = area_length t.frames
+abbrev pub saved_area_size : DescThread → ℕ
+saved_area_size t = area_length t.frames
 
 abbrev pub sizes_of : DescRow → List BuiltCompartment → List BuiltLibrary → List ℕ
 sizes_of d cs ls =
     compartment_sizes cs
     ++ map library_code_size ls
-    ++ map (λ (s : SharedRow). s.size) d.shared
-    ++ map (λ (s : SealedRow). length s.bytes) d.sealed
-    ++ map (λ (t : ThreadRow). t.stack) d.threads
-    ++ (TRUSTED_HEAD + sum_of area_size d.threads) ∷ []
+    ++ map (λ (s : DescShared). s.size) d.shared
+    ++ map (λ (s : DescSealed). length s.bytes) d.sealed
+    ++ map (λ (t : DescThread). t.stack) d.threads
+    ++ (TRUSTED_HEAD + sum_of saved_area_size d.threads) ∷ []
 
 -- ---- parts, each with its regions
 
 abbrev pub base_at : List Region → ℕ → ℕ
-base_at regions n = (get_or regions n (region 0 0)).base
+base_at regions n = (get_or regions n (region_from 0 0)).base
 
 abbrev pub length_at : List Region → ℕ → ℕ
-length_at regions n = (get_or regions n (region 0 0)).length
+length_at regions n = (get_or regions n (region_from 0 0)).length
 
 -- `entry` is the number of the first entry: code, globals, slots, exports
 abbrev pub compartment_part : DescRow → ℕ → List Region → BuiltCompartment → CompartmentPart
@@ -81,7 +81,7 @@ compartment_part d entry regions x = record {
     base = base_at regions 0;
     length = length_at regions 0;
     slots = compartment_slots d x.row;
-    exports = compartment_gates x.built (entry + 2 + compartment_slot_count x.row) x.row;
+    exports = compartment_gate_rows x.built (entry + 2 + compartment_slot_count x.row) x.row;
     text = x.built.text;
   };
   table = base_at regions 1;
@@ -90,15 +90,15 @@ compartment_part d entry regions x = record {
   initial = x.built.initial;
 }
 
-abbrev pub compartment_entries : BuiltCompartment → ℕ
-compartment_entries x = 2 + compartment_slot_count x.row + length x.row.exports
+abbrev pub built_compartment_entries : BuiltCompartment → ℕ
+built_compartment_entries x = 2 + compartment_slot_count x.row + length x.row.exports
 
 unfoldable pub compartment_parts : DescRow → ℕ → List Region → List BuiltCompartment
     → List CompartmentPart
 compartment_parts d entry regions [] = []
 compartment_parts d entry regions (x ∷ xs) =
     compartment_part d entry regions x
-    ∷ compartment_parts d (entry + compartment_entries x) (drop 3 regions) xs
+    ∷ compartment_parts d (entry + built_compartment_entries x) (drop 3 regions) xs
 
 -- code, slots, exports
 abbrev pub library_part : DescRow → ℕ → List Region → BuiltLibrary → CodePart
@@ -107,25 +107,25 @@ library_part d entry regions x = record {
   base = base_at regions 0;
   length = length_at regions 0;
   slots = library_slots d x.row;
-  exports = library_gates x.built (entry + 1 + length x.row.imports) x.row;
+  exports = library_gate_rows x.built (entry + 1 + length x.row.imports) x.row;
   text = x.built.text;
 }
 
-abbrev pub library_entries : BuiltLibrary → ℕ
-library_entries x = 1 + length x.row.imports + length x.row.exports
+abbrev pub built_library_entries : BuiltLibrary → ℕ
+built_library_entries x = 1 + length x.row.imports + length x.row.exports
 
 unfoldable pub library_parts : DescRow → ℕ → List Region → List BuiltLibrary → List CodePart
 library_parts d entry regions [] = []
 library_parts d entry regions (x ∷ xs) =
-    library_part d entry regions x ∷ library_parts d (entry + library_entries x) (drop 1 regions) xs
+    library_part d entry regions x ∷ library_parts d (entry + built_library_entries x) (drop 1 regions) xs
 
-unfoldable pub shared_parts : List Region → List SharedRow → List SharedPart
+unfoldable pub shared_parts : List Region → List DescShared → List SharedPart
 shared_parts regions [] = []
 shared_parts regions (s ∷ ss) =
     record { name = s.name; base = base_at regions 0; length = length_at regions 0 }
     ∷ shared_parts (drop 1 regions) ss
 
-unfoldable pub sealed_parts : List Region → List SealedRow → List SealedPart
+unfoldable pub sealed_parts : List Region → List DescSealed → List SealedPart
 sealed_parts regions [] = []
 sealed_parts regions (s ∷ ss) =
     record {
@@ -137,7 +137,7 @@ sealed_parts regions (s ∷ ss) =
     }
     ∷ sealed_parts (drop 1 regions) ss
 
-abbrev pub thread_part : List Region → Exported → ThreadRow → ThreadPart
+abbrev pub thread_part : List Region → Exported → DescThread → ThreadPart
 thread_part regions x t = record {
   name = t.name;
   stack = base_at regions 0;
@@ -148,7 +148,7 @@ thread_part regions x t = record {
   frames = t.frames;
 }
 
-unfoldable pub thread_parts : DescRow → List Region → List ThreadRow → List ThreadPart
+unfoldable pub thread_parts : DescRow → List Region → List DescThread → List ThreadPart
 thread_parts d regions [] = []
 thread_parts d regions (t ∷ ts) =
     thread_part regions (compartment_export_named d t.entry) t ∷ thread_parts d (drop 1 regions) ts
@@ -176,7 +176,7 @@ parts_of d cs ls regions heap =
       shared = shared_parts (drop shared regions) d.shared;
       sealed = sealed_parts (drop sealed regions) d.sealed;
       compartments = compartment_parts d 1 regions cs;
-      libraries = library_parts d (1 + sum_of compartment_entries cs) (drop libraries regions) ls;
+      libraries = library_parts d (1 + sum_of built_compartment_entries cs) (drop libraries regions) ls;
       threads = thread_parts d (drop threads regions) d.threads;
     }
 

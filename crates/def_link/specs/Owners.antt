@@ -12,7 +12,7 @@ use Rattle.def_object.specs.declared.Fault.{Fault}
 use Rattle.def_object.specs.declared.Label.{Label}
 use Rattle.def_object.specs.Object.{undeclared_in, fault_in, label_in, text_of, text_offset, initial_of, word_bytes}
 use Rattle.def_desc.specs.Named.{slot_names, library_slot_names}
-use Rattle.def_desc.specs.Rows.{CodeRow, AtRow, ExportRow, CompartmentRow, LexportRow, LibraryRow, DescRow}
+use Rattle.def_desc.specs.Rows.{DescCode, AtRow, ExportRow, DescCompartment, LexportRow, LibraryRow, DescRow}
 use Rattle.def_link.specs.declared.LinkFault.{LinkFault}
 use Rattle.def_link.specs.declared.LinkFault.TheVariants as fault
 
@@ -22,10 +22,10 @@ use Rattle.def_link.specs.declared.LinkFault.TheVariants as fault
 pub record Unit : Type 0 where
   pub owner : Owner
   pub slots : List (List ℕ)
-  pub code : CodeRow
+  pub code : DescCode
   pub exports : List AtRow
 
-abbrev pub compartment_unit : ℕ → CompartmentRow → Unit
+abbrev pub compartment_unit : ℕ → DescCompartment → Unit
 compartment_unit i c = record {
   owner = Compartment i;
   slots = slot_names c;
@@ -83,7 +83,7 @@ abbrev pub built_by : Owner → List (List ℕ) → List ℕ → List ℕ → Op
 built_by owner slots words source None = Ok (words_built words)
 built_by owner slots words source (Some name) = read_or owner slots (program_of source)
 
-abbrev pub built : Owner → List (List ℕ) → CodeRow → List ℕ → Result Built LinkFault
+abbrev pub built : Owner → List (List ℕ) → DescCode → List ℕ → Result Built LinkFault
 built owner slots code source = built_by owner slots code.words source code.file
 
 -- ---- exports
@@ -117,18 +117,18 @@ abbrev pub placed_or : Owner → Built → Option ℕ → Result Built LinkFault
 placed_or owner b (Some n) = Err (fault.Export owner n)
 placed_or owner b None = if has_stray_bytes owner b then Err (fault.Initial owner) else Ok b
 
-abbrev pub checked : Unit → Result Built LinkFault → Result Built LinkFault
-checked u (Err e) = Err e
-checked u (Ok b) = placed_or u.owner b (first_lost b 0 u.exports)
+abbrev pub unit_checked : Unit → Result Built LinkFault → Result Built LinkFault
+unit_checked u (Err e) = Err e
+unit_checked u (Ok b) = placed_or u.owner b (first_lost b 0 u.exports)
 
 abbrev pub unit_built : Unit → List ℕ → Result Built LinkFault
-unit_built u source = checked u (built u.owner u.slots u.code source)
+unit_built u source = unit_checked u (built u.owner u.slots u.code source)
 
-abbrev pub with_front : Result Built LinkFault → Result (List Built) LinkFault
+abbrev pub built_before : Result Built LinkFault → Result (List Built) LinkFault
     → Result (List Built) LinkFault
-with_front (Err e) rest = Err e
-with_front (Ok b) (Err e) = Err e
-with_front (Ok b) (Ok bs) = Ok (b ∷ bs)
+built_before (Err e) rest = Err e
+built_before (Ok b) (Err e) = Err e
+built_before (Ok b) (Ok bs) = Ok (b ∷ bs)
 
 -- the owners with the texts of their files: one text for each code that is a file, in order
 abbrev pub head_or_none : List (List ℕ) → List ℕ
@@ -146,5 +146,5 @@ rest_of (Some name) sources = drop 1 sources
 unfoldable pub all_built : List Unit → List (List ℕ) → Result (List Built) LinkFault
 all_built [] sources = Ok []
 all_built (u ∷ us) sources =
-    with_front (unit_built u (source_for u.code.file sources))
+    built_before (unit_built u (source_for u.code.file sources))
     (all_built us (rest_of u.code.file sources))

@@ -18,9 +18,9 @@ use Rattle.def_desc.specs.declared.tables.Passes.TheVariants.{Capabilities, Data
 use Rattle.def_desc.specs.Tables.{service_of}
 use Rattle.def_desc.specs.Names.{key_name}
 use Rattle.def_desc.specs.Named.{device_names, shared_names, sealed_names, export_names, library_export_names}
-use Rattle.def_desc.specs.Reading.{rights_of}
+use Rattle.def_desc.specs.Reading.{rights_of_text}
 use Rattle.def_desc.specs.References.{target_of, export_name}
-use Rattle.def_desc.specs.Rows.{Target, ImportRow, QuotaRow, ExportRow, CompartmentRow, LimportRow, LexportRow, LibraryRow, DescRow}
+use Rattle.def_desc.specs.Rows.{Target, ImportRow, QuotaRow, ExportRow, DescCompartment, LimportRow, LexportRow, LibraryRow, DescRow}
 use Rattle.def_link.specs.Owners.{Built, begin_of, numbered}
 
 -- ---- where a name stands
@@ -54,7 +54,7 @@ export_from name n (x ∷ xs) =
 
 abbrev pub compartment_exporters : DescRow → List Exporter
 compartment_exporters d =
-    map (λ (c : CompartmentRow). record { name = c.name; exports = export_names c }) d.compartments
+    map (λ (c : DescCompartment). record { name = c.name; exports = export_names c }) d.compartments
 
 abbrev pub library_exporters : DescRow → List Exporter
 library_exporters d =
@@ -75,7 +75,7 @@ granted r =
     + (if r.capabilities then MC + (if r.read then LM + LG else 0) else 0)
 
 abbrev pub claimed : ImportRow → ℕ
-claimed x = packed (granted (rights_of (unwrap_or x.rights [])))
+claimed x = packed (granted (rights_of_text (unwrap_or x.rights [])))
 
 -- ---- slots
 
@@ -119,7 +119,7 @@ quota_slot q = slot q.name (slot_row kind.Quota (packed QUOTA_RIGHTS) q.limit 0)
 abbrev pub key_slot : ℕ → SlotRow
 key_slot n = slot (key_name n) (slot_row kind.Key (packed KEY_RIGHTS) n 0)
 
-abbrev pub compartment_slots : DescRow → CompartmentRow → List SlotRow
+abbrev pub compartment_slots : DescRow → DescCompartment → List SlotRow
 compartment_slots d c =
     slot (codes "switch") switch_row ∷ map (import_slot d) c.imports ++ map quota_slot c.quotas ++ map key_slot c.keys
 
@@ -133,12 +133,12 @@ abbrev pub passes_capabilities : Passes → Bool
 passes_capabilities Capabilities = true
 passes_capabilities Data = false
 
-abbrev pub gate : List ℕ → GateExport → GateRow
-gate name row = record { row = row; name = name }
+abbrev pub gate_row : List ℕ → GateExport → GateRow
+gate_row name row = record { row = row; name = name }
 
 -- `entry` is the number of the first export's entry; an export is counted on from it
 abbrev pub export_gate : Built → ℕ → ExportRow → GateRow
-export_gate b entry x = gate x.name (record {
+export_gate b entry x = gate_row x.name (record {
   offset = unwrap_or (begin_of b x.at) 0;
   stack = x.stack;
   args = x.args;
@@ -147,12 +147,12 @@ export_gate b entry x = gate x.name (record {
   entry = entry;
 })
 
-abbrev pub compartment_gates : Built → ℕ → CompartmentRow → List GateRow
-compartment_gates b entry c = numbered (export_gate b) entry c.exports
+abbrev pub compartment_gate_rows : Built → ℕ → DescCompartment → List GateRow
+compartment_gate_rows b entry c = numbered (export_gate b) entry c.exports
 
 -- a library's export passes what its caller has
 abbrev pub lexport_gate : Built → ℕ → LexportRow → GateRow
-lexport_gate b entry x = gate x.name (record {
+lexport_gate b entry x = gate_row x.name (record {
   offset = unwrap_or (begin_of b x.at) 0;
   stack = 0;
   args = 0;
@@ -161,5 +161,5 @@ lexport_gate b entry x = gate x.name (record {
   entry = entry;
 })
 
-abbrev pub library_gates : Built → ℕ → LibraryRow → List GateRow
-library_gates b entry l = numbered (lexport_gate b) entry l.exports
+abbrev pub library_gate_rows : Built → ℕ → LibraryRow → List GateRow
+library_gate_rows b entry l = numbered (lexport_gate b) entry l.exports

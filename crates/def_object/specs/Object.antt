@@ -65,10 +65,10 @@ grown p n =
     else record p { initial = p.initial + n }
 
 -- the place after a statement
-abbrev pub advanced : Place → Part Name → Place
-advanced p part.Text = record p { section = section.Text }
-advanced p part.Data = record p { section = section.Data }
-advanced p q = grown p (size_at q (offset p))
+abbrev pub place_after : Place → Part Name → Place
+place_after p part.Text = record p { section = section.Text }
+place_after p part.Data = record p { section = section.Data }
+place_after p q = grown p (size_at q (offset p))
 
 abbrev pub start : Place
 start = record { section = section.Text; text = 0; initial = 0 }
@@ -84,7 +84,7 @@ abbrev pub label_from : Name → Place → ℕ → Statements → Option Label
 label_from name p k [] = None
 label_from name p k (s ∷ ss) =
     if is_label name s.part then Some (record { section = p.section; offset = offset p; index = k })
-    else label_from name (advanced p s.part) (k + 1) ss
+    else label_from name (place_after p s.part) (k + 1) ss
 
 unfoldable pub label_in : Statements → Name → Option Label
 label_in all name = label_from name start 0 all
@@ -173,7 +173,7 @@ abbrev pub fault_from : Labels → Place → ℕ → Statements → Option Fault
 fault_from labels p k [] = None
 fault_from labels p k (s ∷ ss) =
     lesser (on_line s.line (statement_fault labels p k s.part))
-    (fault_from labels (advanced p s.part) (k + 1) ss)
+    (fault_from labels (place_after p s.part) (k + 1) ss)
 
 unfoldable pub fault_in : Statements → Option Fault
 fault_in all = fault_from (label_in all) start 0 all
@@ -237,15 +237,15 @@ number_instructions rd word =
     if is_short word then instr.Addi rd 0 word ∷ []
     else instr.Lui rd (upper_part word) ∷ instr.Addi rd rd (rest_part word) ∷ []
 
-abbrev pub slot_number : Option ℕ → ℕ
-slot_number None = 0
-slot_number (Some k) = k
+abbrev pub slot_or_zero : Option ℕ → ℕ
+slot_or_zero None = 0
+slot_or_zero (Some k) = k
 
 -- slots of eight bytes stand before the text
 abbrev pub import_instructions : List Name → ℕ → ℕ → Name → List Instr
 import_instructions slots at rd name =
     let from = 8 * length slots + at in
-    let to = 8 * slot_number (slot_of slots name) in
+    let to = 8 * slot_or_zero (slot_of slots name) in
     instr.AuiPcc rd (high_piece from to) ∷ instr.Clc rd rd (low_piece from to) ∷ []
 
 abbrev pub text_instructions : ℕ → ℕ → ℕ → List Instr
@@ -328,7 +328,7 @@ abbrev pub bytes_from : Section → Labels → List Name → Place → Statement
 bytes_from wanted labels slots p [] = []
 bytes_from wanted labels slots p (s ∷ ss) =
     section_bytes wanted labels slots p s.part
-    ++ bytes_from wanted labels slots (advanced p s.part) ss
+    ++ bytes_from wanted labels slots (place_after p s.part) ss
 
 unfoldable pub text_of : Statements → List Name → List ℕ
 text_of all slots = bytes_from section.Text (label_in all) slots start all

@@ -15,8 +15,8 @@ use Rattle.def_policy.specs.Rulings.{Ruling}
 
 -- ---- one entry
 
-abbrev pub is_listed : List Owner → Owner → Bool
-is_listed owners o = list_any (λ (x : Owner). same_owner x o) owners
+abbrev pub lists_owner : List Owner → Owner → Bool
+lists_owner owners o = list_any (λ (x : Owner). same_owner x o) owners
 
 -- the bytes that a rule on quotas counts of an entry
 abbrev pub counted : Subject → Entry → ℕ
@@ -38,7 +38,7 @@ breaks_by (Total n) owners number sum x g = is_quota x.kind && nat_lt n sum
 breaks_by (Quota o n) owners number sum x g =
     (is_quota x.kind && same_owner x.owner o) && nat_lt n sum
 breaks_by (Apart o b) owners number sum x g = false
-breaks_by s owners number sum x g = is_held s x g && not (is_listed owners x.owner)
+breaks_by s owners number sum x g = is_held s x g && not (lists_owner owners x.owner)
 
 -- Whether the entry of this number breaks a rule; `sum` is what a rule on quotas counts of the entries
 -- up to this one.

@@ -10,12 +10,12 @@ use Rattle.def_policy.specs.declared.Subject.{Subject}
 use Rattle.def_policy.specs.declared.Subject.TheVariants.{Apart}
 use Rattle.def_policy.specs.Breaking.{breaking}
 use Rattle.def_policy.specs.Names.{name_of}
-use Rattle.def_policy.specs.Rules.{ended}
+use Rattle.def_policy.specs.Rules.{spaced_words}
 use Rattle.def_policy.specs.Rulings.{Ruling}
 
 -- the rule's line, counted from 1, and what denies it
 abbrev pub denied : ℕ → List (List ℕ) → List ℕ
-denied line words = codes "denied " ++ decimal line ++ ended words
+denied line words = codes "denied " ++ decimal line ++ spaced_words words
 
 abbrev pub entry_line : ℕ → ℕ → List ℕ
 entry_line line entry = denied line (decimal entry ∷ [])
@@ -24,8 +24,8 @@ abbrev pub entry_lines : ℕ → List ℕ → List ℕ
 entry_lines line entries = flat_map (entry_line line) entries
 
 -- the names of the path from the owner to the compartment
-abbrev pub path_line : PartsRow → ℕ → List Owner → List ℕ
-path_line p line owners = denied line (codes "path" ∷ map (name_of p) owners)
+abbrev pub denied_path_line : PartsRow → ℕ → List Owner → List ℕ
+denied_path_line p line owners = denied line (codes "path" ∷ map (name_of p) owners)
 
 -- nothing where the owner doesn't reach the compartment, else the path that comes before all others
 abbrev pub Reaching : PartsRow → ℕ → Owner → ℕ → List ℕ → Type 0
@@ -33,7 +33,7 @@ Reaching p line o b text =
     ((Reached (entries_of p) o b → ⊥) × (text ≡ []))
     ⊎ ((owners : List Owner)
     × (Reached (entries_of p) o b × IsPath (entries_of p) o b owners
-    × (text ≡ path_line p line owners)))
+    × (text ≡ denied_path_line p line owners)))
 
 abbrev pub Denies : PartsRow → ℕ → Ruling → Subject → List ℕ → Type 0
 Denies p line r (Apart o b) text = Reaching p line o b text

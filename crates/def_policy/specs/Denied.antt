@@ -5,7 +5,7 @@ use Rattle.ct_entry.specs.declared.rows.Kind.{Kind}
 use Rattle.ct_entry.specs.declared.rows.Kind.TheVariants as kind
 use Rattle.ct_entry.specs.Listed.{Listed}
 use Rattle.def_image.specs.Parts.{PartsRow}
-use Rattle.def_policy.specs.Breaking.{counted, is_listed}
+use Rattle.def_policy.specs.Breaking.{counted, lists_owner}
 use Rattle.def_policy.specs.declared.Subject.{Subject}
 use Rattle.def_reach.specs.Roots.{gate_for, turns_interrupts_off}
 use Rattle.def_policy.specs.Denials.{AllDenied}
@@ -35,13 +35,13 @@ pub record HasDenials (p : PartsRow) (line : ℕ) (rulings : List Ruling) : Type
 abbrev pub AreListed : Listed → Ruling → Kind → ℕ → Type 0
 AreListed e r held number =
     (k : ℕ) (x : Entry) → slice_get e.rows k ≡ Some x → x.kind ≡ held → x.of ≡ number
-    → is_listed r.owners x.owner ≡ true
+    → lists_owner r.owners x.owner ≡ true
 
 -- each export that turns interrupts off belongs to an owner that a rule lists
 abbrev pub AreDisabledListed : Listed → Ruling → Type 0
 AreDisabledListed e r =
     (k : ℕ) (x : Entry) → slice_get e.rows k ≡ Some x → x.kind ≡ kind.Export
-    → turns_interrupts_off (gate_for e.gates (suc k)).posture ≡ true → is_listed r.owners x.owner ≡ true
+    → turns_interrupts_off (gate_for e.gates (suc k)).posture ≡ true → lists_owner r.owners x.owner ≡ true
 
 -- calls of the export of this number pass plain data
 abbrev pub PassesData : Listed → ℕ → Type 0

@@ -24,12 +24,12 @@ pub data Rule : Type 0 where
 -- ---- words
 
 -- an ASCII byte other than a space and a line feed
-abbrev pub is_inner : ℕ → Bool
-is_inner c = nat_lt c 128 && (not (c == 32) && not (c == 10))
+abbrev pub is_word_byte : ℕ → Bool
+is_word_byte c = nat_lt c 128 && (not (c == 32) && not (c == 10))
 
 pub record IsWord (w : List ℕ) : Type 0 where
   pub some : 0 < length w
-  pub inner : list_all is_inner w ≡ true
+  pub inner : list_all is_word_byte w ≡ true
 
 abbrev pub is_no_point : ℕ → Bool
 is_no_point c = not (c == 46)
@@ -88,14 +88,14 @@ pub record IsRule (r : Rule) : Type 0 where
 -- ---- lines
 
 -- words with a space before each, and a line feed after the last
-abbrev pub ended : List (List ℕ) → List ℕ
-ended [] = 10 ∷ []
-ended (w ∷ ws) = 32 ∷ w ++ ended ws
+abbrev pub spaced_words : List (List ℕ) → List ℕ
+spaced_words [] = 10 ∷ []
+spaced_words (w ∷ ws) = 32 ∷ w ++ spaced_words ws
 
 -- words with one space between, and a line feed after the last
-abbrev pub line_of : List (List ℕ) → List ℕ
-line_of [] = 10 ∷ []
-line_of (w ∷ ws) = w ++ ended ws
+abbrev pub words_line : List (List ℕ) → List ℕ
+words_line [] = 10 ∷ []
+words_line (w ∷ ws) = w ++ spaced_words ws
 
-abbrev pub spelled : Rule → List ℕ
-spelled r = line_of (words_of r)
+abbrev pub spelled_rule : Rule → List ℕ
+spelled_rule r = words_line (words_of r)

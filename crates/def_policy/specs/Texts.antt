@@ -3,14 +3,14 @@ use Rattle.std.specs.Prelude.{ℕ, ◌≡◌, ◌+◌, ◌<◌, ◌⊎◌, List,
 use Rattle.def_image.specs.Parts.{PartsRow}
 use Rattle.def_policy.specs.declared.PolicyFault.{PolicyFault}
 use Rattle.def_policy.specs.declared.PolicyFault.TheVariants.{At, NoMemory}
-use Rattle.def_policy.specs.Rules.{Rule, IsRule, spelled}
+use Rattle.def_policy.specs.Rules.{Rule, IsRule, spelled_rule}
 use Rattle.def_policy.specs.Rulings.{Ruling, meant}
 
 -- the text spells rules line by line, each of whose names stands for something, and they mean this
 pub record ReadsAsPolicy (p : PartsRow) (text : List ℕ) (rulings : List Ruling) : Type 0 where
   pub rules : List Rule
   pub lines : All IsRule rules
-  pub text_is : text ≡ flat_map spelled rules
+  pub text_is : text ≡ flat_map spelled_rule rules
   pub meant_are : map (meant p) rules ≡ map (λ r. Some r) rulings
 
 -- ---- faults
@@ -18,7 +18,7 @@ pub record ReadsAsPolicy (p : PartsRow) (text : List ℕ) (rulings : List Ruling
 -- a text begins with the line of a rule, and this follows
 pub record BeginsWithRule (text : List ℕ) (r : Rule) (rest : List ℕ) : Type 0 where
   pub rule : IsRule r
-  pub text_is : text ≡ spelled r ++ rest
+  pub text_is : text ≡ spelled_rule r ++ rest
 
 -- there is a text, but no line of a rule at its front
 pub record NoRuleLine (text : List ℕ) : Type 0 where
@@ -44,7 +44,7 @@ pub record IsPolicyFault (p : PartsRow) (text : List ℕ) (number line : ℕ) : 
   pub left : List ℕ
   pub lines : All IsRule rules
   pub known : All (IsKnown p) rules
-  pub text_is : text ≡ flat_map spelled rules ++ left
+  pub text_is : text ≡ flat_map spelled_rule rules ++ left
   pub line_is : line ≡ length rules + 1
   pub breaks : BreaksPolicy p left number
 

@@ -12,15 +12,15 @@ pub record FileRow : Type 0 where
   pub bytes : List ℕ
 
 -- the file that a name stands for: the first of that name
-abbrev pub file_of : List FileRow → List ℕ → Option (List ℕ)
-file_of [] name = None
-file_of (f ∷ fs) name = if bytes_eq f.name name then Some f.bytes else file_of fs name
+abbrev pub file_named : List FileRow → List ℕ → Option (List ℕ)
+file_named [] name = None
+file_named (f ∷ fs) name = if bytes_eq f.name name then Some f.bytes else file_named fs name
 
 -- the first file of this name stands here
 pub record IsFirstOf (files : List FileRow) (name : List ℕ) (i : ℕ) : Type 0 where
   pub inside : i < length files
   pub here : (z : FileRow) → bytes_eq (get_or files i z).name name ≡ true
-  pub earlier : file_of (take i files) name ≡ None
+  pub earlier : file_named (take i files) name ≡ None
 
 -- a folder in memory tells of each name that it is a file or that there is none
 abbrev pub told_as : Option (List ℕ) → Told
@@ -40,7 +40,7 @@ pub record FolderRow : Type 0 where
 
 abbrev pub folder_view : FolderRow → FolderView
 folder_view f = record {
-  file = λ name. told_as (file_of f.files name);
+  file = λ name. told_as (file_named f.files name);
   calls = f.calls;
   faults = f.faults;
 }
@@ -52,7 +52,7 @@ is_listed (n ∷ ns) call = nat_eq n call || is_listed ns call
 -- The next call fails: its number, counted from 1 in the list of calls, is listed, or no file has
 -- the name.
 abbrev pub fails_next : FolderRow → List ℕ → Bool
-fails_next f name = is_listed f.fails (length f.calls + 1) || is_none (file_of f.files name)
+fails_next f name = is_listed f.fails (length f.calls + 1) || is_none (file_named f.files name)
 
 -- A read fails exactly where it is told to; want of memory may come at any time.
 abbrev pub FailsAsTold : {A : Type 0} → FolderRow → List ℕ → Result A ReadError → Type 0
@@ -68,7 +68,7 @@ pub record SteadyRow : Type 0 where
 -- its count of faults is the constant 0
 abbrev pub steady_view : SteadyRow → FolderView
 steady_view f = record {
-  file = λ name. File (steady_as (file_of f.files name));
+  file = λ name. File (steady_as (file_named f.files name));
   calls = f.calls;
   faults = 0;
 }
@@ -91,8 +91,8 @@ NeverFails (Err Failed) = ⊥
 NeverFails (Err NoMemory) = Unit {0}
 
 -- a count that stands still at 2^64 - 1
-abbrev pub raised : ℕ → ℕ
-raised count = min (count + 1) (2 ^ 64 - 1)
+abbrev pub count_after : ℕ → ℕ
+count_after count = min (count + 1) (2 ^ 64 - 1)
 
 -- A sink in memory: its bytes, how many it has room for, which calls fail, how many calls came
 -- (the number stands still at 2^64 - 1), and the count of faults.
@@ -108,7 +108,7 @@ sink_view s = record { bytes = Some s.bytes; faults = s.faults }
 
 -- the write that comes next is listed
 abbrev pub is_told_to_fail : SinkRow → Bool
-is_told_to_fail s = is_listed s.fails (raised s.calls)
+is_told_to_fail s = is_listed s.fails (count_after s.calls)
 
 abbrev pub fits : SinkRow → List ℕ → Bool
 fits s piece = nat_le (length s.bytes + length piece) s.room
@@ -116,16 +116,16 @@ fits s piece = nat_le (length s.bytes + length piece) s.room
 -- A write that is told to fail takes nothing; one past the room takes what fits; both are faults.
 abbrev pub sink_taking : SinkRow → List ℕ → SinkRow
 sink_taking s piece = if fits s piece
-    then record s { bytes = s.bytes ++ piece; calls = raised s.calls }
+    then record s { bytes = s.bytes ++ piece; calls = count_after s.calls }
     else record s {
       bytes = s.bytes ++ take (s.room - length s.bytes) piece;
-      calls = raised s.calls;
-      faults = raised s.faults;
+      calls = count_after s.calls;
+      faults = count_after s.faults;
     }
 
-abbrev pub written : SinkRow → List ℕ → SinkRow
-written s piece =
-    if is_told_to_fail s then record s { calls = raised s.calls; faults = raised s.faults }
+abbrev pub sink_written : SinkRow → List ℕ → SinkRow
+sink_written s piece =
+    if is_told_to_fail s then record s { calls = count_after s.calls; faults = count_after s.faults }
     else sink_taking s piece
 
 -- no other write fails

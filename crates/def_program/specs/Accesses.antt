@@ -8,7 +8,7 @@ use Rattle.ct_entry.specs.declared.acts.Happened.{Happened}
 use Rattle.ct_entry.specs.declared.rows.Kind.TheVariants as kind
 use Rattle.ct_entry.specs.Listed.{Listed}
 use Rattle.def_profile.specs.declared.layout.TheConstants.{DEVICE_SIZE}
-use Rattle.def_policy.specs.Breaking.{is_listed}
+use Rattle.def_policy.specs.Breaking.{lists_owner}
 use Rattle.def_policy.specs.Rulings.{Ruling}
 use Rattle.def_reach.specs.Roots.{Listing, root_of}
 use Rattle.def_reach.specs.Sharing.{Reaches}
@@ -27,7 +27,7 @@ TouchesDevice base _ = ⊥
 pub record IsListedDeed (e : Listed) (r : Ruling) (device : ℕ) (d : Deed) : Type 0 where
   pub kind_is : (root_of e d.entry).origin ≡ Listing kind.Device
   pub of_is : (root_of e d.entry).of ≡ device
-  pub listed : is_listed r.owners (root_of e d.entry).owner ≡ true
+  pub listed : lists_owner r.owners (root_of e d.entry).owner ≡ true
   pub reached : Reaches e (root_of e d.entry).owner d.actor
 
 -- what an event tells of an access to this device, which stands at this base

@@ -18,7 +18,7 @@ use Rattle.def_image.specs.Parts.{PartsRow}
 use Rattle.def_machine.specs.Platform.{Platform}
 use Rattle.def_machine.specs.Objects.{charges}
 use Rattle.def_machine.specs.State.{Frame, Object, State, register, thread}
-use Rattle.def_policy.specs.Breaking.{is_listed}
+use Rattle.def_policy.specs.Breaking.{lists_owner}
 use Rattle.def_policy.specs.Rulings.{Ruling}
 use Rattle.def_policy.specs.declared.Resource.{Resource}
 use Rattle.def_policy.specs.declared.Resource.TheVariants.{Call, Device, Service, Shared}
@@ -34,7 +34,7 @@ use Rattle.def_program.specs.Accesses.{AllListed}
 
 -- an owner that a rule lists, and that reaches the compartment
 abbrev pub IsListedFor : Listed → Ruling → Owner → ℕ → Type 0
-IsListedFor e r owner actor = (is_listed r.owners owner ≡ true) × Reaches e owner actor
+IsListedFor e r owner actor = (lists_owner r.owners owner ≡ true) × Reaches e owner actor
 
 -- ---- imports of a kind: what threads hold
 

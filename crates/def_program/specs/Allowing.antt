@@ -9,7 +9,7 @@ use Rattle.def_step.specs.declared.Event.{Event}
 use Rattle.def_program.specs.AllowedLines.{IsKeptLine}
 use Rattle.def_program.specs.Answers.{AllRead, Read, contents}
 use Rattle.def_program.specs.Calls.{CallRecord}
-use Rattle.def_program.specs.Commands.{Command, Check, form_of}
+use Rattle.def_program.specs.Commands.{Command, Check, command_form}
 use Rattle.def_program.specs.Licences.{StandFor}
 use Rattle.def_program.specs.declared.Status.{Status}
 use Rattle.def_program.specs.declared.Status.TheVariants as status
@@ -34,4 +34,4 @@ pub record KeepsPolicy (e : CallRecord) (c : Command) : Type 0 where
 abbrev pub IsAllowed : CallRecord → Status → Type 0
 IsAllowed e s =
     (name policy : List ℕ)
-    → form_of e.words ≡ Some (Check name policy) → s ≡ status.Done → KeepsPolicy e (Check name policy)
+    → command_form e.words ≡ Some (Check name policy) → s ≡ status.Done → KeepsPolicy e (Check name policy)

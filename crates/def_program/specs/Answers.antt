@@ -5,7 +5,7 @@ use Rattle.def_port.specs.Told.{Call}
 use Rattle.def_program.specs.Calls.{CallRecord, IsFile, Exceeds, most}
 use Rattle.def_program.specs.declared.Status.{Status}
 use Rattle.def_program.specs.declared.Status.TheVariants as status
-use Rattle.def_program.specs.Commands.{Command, form_of}
+use Rattle.def_program.specs.Commands.{Command, command_form}
 use Rattle.def_program.specs.Lines.{usage_line, read_line, large_line}
 use Rattle.def_program.specs.Turns.{Turn, Asks, Follows}
 use Rattle.def_program.specs.Turns as turn
@@ -56,14 +56,14 @@ calls_to rs c = read_calls rs ++ c ∷ []
 -- ---- causes: what a status rests on, and the text that is due
 
 pub record UsageCause (e : CallRecord) (text : List ℕ) : Type 0 where
-  pub form : form_of e.words ≡ None
+  pub form : command_form e.words ≡ None
   pub calls : e.folder_after.calls ≡ e.folder.calls
   pub same : e.folder_after.faults ≡ e.folder.faults
   pub due : text ≡ usage_line
 
 pub record ReadCause (e : CallRecord) (text : List ℕ) : Type 0 where
   pub command : Command
-  pub form : form_of e.words ≡ Some command
+  pub form : command_form e.words ≡ Some command
   pub reads : List Read
   pub name : List ℕ
   pub last : LastRead e command reads name
@@ -73,7 +73,7 @@ pub record ReadCause (e : CallRecord) (text : List ℕ) : Type 0 where
 
 pub record LargeCause (e : CallRecord) (text : List ℕ) : Type 0 where
   pub command : Command
-  pub form : form_of e.words ≡ Some command
+  pub form : command_form e.words ≡ Some command
   pub reads : List Read
   pub name : List ℕ
   pub last : LastRead e command reads name
@@ -85,7 +85,7 @@ pub record LargeCause (e : CallRecord) (text : List ℕ) : Type 0 where
 -- the last turn of the dialogue
 pub record TurnCause (e : CallRecord) (s : Status) (text : List ℕ) : Type 0 where
   pub command : Command
-  pub form : form_of e.words ≡ Some command
+  pub form : command_form e.words ≡ Some command
   pub reads : List Read
   pub read : AllRead e command reads
   pub due : Follows command (contents reads) (turn.Ends s text)
@@ -127,7 +127,7 @@ pub record WriteBroke (e : CallRecord) : Type 0 where
 -- memory was wanted: the words are a form, nothing is written, and no read failed
 pub record WantsMemory (e : CallRecord) : Type 0 where
   pub command : Command
-  pub form : form_of e.words ≡ Some command
+  pub form : command_form e.words ≡ Some command
   pub reads : List Read
   pub due : WereDue e command reads
   pub calls : e.folder_after.calls ≡ e.folder.calls ++ read_calls reads

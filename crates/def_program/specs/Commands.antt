@@ -19,17 +19,17 @@ pub data Command : Type 0 where
 -- ---- numbers: decimal digits without sign or leading zero
 
 -- a number of 0 to 4,294,967,295
-abbrev pub number_of : List ℕ → Option ℕ
-number_of digits = number_within MOST_NUMBER digits
+abbrev pub argument_number : List ℕ → Option ℕ
+argument_number digits = number_within MOST_NUMBER digits
 
 -- none where it is 0
-abbrev pub positive : Option ℕ → Option ℕ
-positive None = None
-positive (Some n) = if n == 0 then None else Some n
+abbrev pub unless_zero : Option ℕ → Option ℕ
+unless_zero None = None
+unless_zero (Some n) = if n == 0 then None else Some n
 
 -- a limit of 1 to 4,000,000,000
 abbrev pub limit_of : List ℕ → Option ℕ
-limit_of digits = positive (number_within MOST_STEPS digits)
+limit_of digits = unless_zero (number_within MOST_STEPS digits)
 
 -- ---- forms
 
@@ -39,7 +39,7 @@ of_one word name =
     if bytes_eq word (codes "audit") then Some (Audit name)
     else if bytes_eq word (codes "image") then Some (Image name)
     else if bytes_eq word (codes "upgrade") then Some (Upgrade name)
-    else if bytes_eq word (codes "demo") then option_map Demo (number_of name) else None
+    else if bytes_eq word (codes "demo") then option_map Demo (argument_number name) else None
 
 -- a run where its limit is one
 abbrev pub run_of : List ℕ → List ℕ → Option (List ℕ) → Option Command
@@ -62,13 +62,13 @@ of_three word name second last =
     else if bytes_eq word (codes "runimage") then run_image_of name second (Some last)
     else if bytes_eq word (codes "why") then Some (Why name second last) else None
 
-abbrev pub form_of : List (List ℕ) → Option Command
-form_of [] = None
-form_of (word ∷ []) = None
-form_of (word ∷ a ∷ []) = of_one word a
-form_of (word ∷ a ∷ b ∷ []) = of_two word a b
-form_of (word ∷ a ∷ b ∷ c ∷ []) = of_three word a b c
-form_of (word ∷ a ∷ b ∷ c ∷ d ∷ rest) = None
+abbrev pub command_form : List (List ℕ) → Option Command
+command_form [] = None
+command_form (word ∷ []) = None
+command_form (word ∷ a ∷ []) = of_one word a
+command_form (word ∷ a ∷ b ∷ []) = of_two word a b
+command_form (word ∷ a ∷ b ∷ c ∷ []) = of_three word a b c
+command_form (word ∷ a ∷ b ∷ c ∷ d ∷ rest) = None
 
 -- the number from which a command's firmware is generated; such a command has no file
 abbrev pub generated_by : Command → Option ℕ

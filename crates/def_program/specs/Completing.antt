@@ -10,7 +10,7 @@ use Rattle.def_policy.specs.Rulings.{Ruling}
 use Rattle.def_policy.specs.Texts.{ReadsAsPolicy}
 use Rattle.def_script.specs.Script.{Due}
 use Rattle.def_script.specs.Script as script
-use Rattle.def_program.specs.Commands.{Command, Audit, Image, Run, RunImage, Why, Upgrade, Check, Demo, form_of, generated_by, file_of, reads_image}
+use Rattle.def_program.specs.Commands.{Command, Audit, Image, Run, RunImage, Why, Upgrade, Check, Demo, command_form, generated_by, file_of, reads_image}
 use Rattle.def_program.specs.Calls.{CallRecord, most}
 use Rattle.def_program.specs.Licences.{LinksTo, NumberStandsFor}
 use Rattle.def_program.specs.Paths.{owner_named, compartment_named}
@@ -84,7 +84,7 @@ GivenFiles e c (Some number) p = NumberStandsFor number p
 -- the words are a form, whose files, or whose number, stand for these parts
 pub record IsAsked (e : CallRecord) (p : PartsRow) : Type 0 where
   pub command : Command
-  pub form : form_of e.words ≡ Some command
+  pub form : command_form e.words ≡ Some command
   pub given : GivenFiles e command (generated_by command) p
 
 -- ---- how it ends
@@ -115,12 +115,12 @@ Completes e s =
 -- where no fault is counted, `demo` of any number is done, or wants memory
 abbrev pub CompletesDemo : CallRecord → Status → Type 0
 CompletesDemo e s =
-    (number : ℕ) → form_of e.words ≡ Some (Demo number) → NoFault e
+    (number : ℕ) → command_form e.words ≡ Some (Demo number) → NoFault e
     → (s ≡ status.Done) ⊎ (s ≡ status.NoMemory)
 
 -- words that aren't a form are a usage fault, unless its line could not be written
 abbrev pub RefusesMisuse : CallRecord → Status → Type 0
-RefusesMisuse e s = form_of e.words ≡ None → (s ≡ status.Usage) ⊎ (s ≡ status.WriteFault)
+RefusesMisuse e s = command_form e.words ≡ None → (s ≡ status.Usage) ⊎ (s ≡ status.WriteFault)
 
 -- a status that a folder and a sink which never fail may leave
 abbrev pub IsSteady : Status → Type 0

@@ -4,7 +4,7 @@ use Rattle.std.specs.Prelude.{◌≡◌, ◌<◌, ◌⊎◌, ℕ, List, length, 
 use Rattle.def_port.specs.Told.{Absent, File}
 use Rattle.def_program.specs.Answers.{Read, contents}
 use Rattle.def_program.specs.Calls.{CallRecord, most}
-use Rattle.def_program.specs.Commands.{Command, form_of}
+use Rattle.def_program.specs.Commands.{Command, command_form}
 use Rattle.def_program.specs.Completing.{IsTold, NoFault}
 use Rattle.def_program.specs.Turns.{Turn, Asks, Ends, Follows}
 use Rattle.def_program.specs.declared.Status.{Status}
@@ -30,11 +30,11 @@ OrNoMemory s due = (s ≡ due) ⊎ (s ≡ status.NoMemory)
 -- ReadFault, unless a write failed.
 pub record IsDecided (e : CallRecord) (s : Status) : Type 0 where
   pub ends : (c : Command) (due : Status) (text : List ℕ)
-      → form_of e.words ≡ Some c → ComesTo e c (Ends due text) → NoFault e → OrNoMemory s due
+      → command_form e.words ≡ Some c → ComesTo e c (Ends due text) → NoFault e → OrNoMemory s due
   pub large : (c : Command) (name bytes : List ℕ)
-      → form_of e.words ≡ Some c → ComesTo e c (Asks name)
+      → command_form e.words ≡ Some c → ComesTo e c (Asks name)
       → e.folder.file name ≡ File bytes → most < length bytes
       → NoFault e → OrNoMemory s status.TooLarge
   pub absent : (c : Command) (name : List ℕ)
-      → form_of e.words ≡ Some c → ComesTo e c (Asks name) → e.folder.file name ≡ Absent
+      → command_form e.words ≡ Some c → ComesTo e c (Asks name) → e.folder.file name ≡ Absent
       → OrNoMemory s status.ReadFault ⊎ (s ≡ status.WriteFault)

@@ -5,18 +5,18 @@ use Rattle.ct_entry.specs.declared.rows.Owner.TheVariants.{Compartment, Library}
 use Rattle.def_desc.specs.declared.faults.Fault.{Fault}
 use Rattle.def_desc.specs.declared.faults.PartWord.{PartWord}
 use Rattle.def_desc.specs.declared.faults.PartWord.TheVariants as part
-use Rattle.def_desc.specs.Rows.{CompartmentRow, LibraryRow, DescRow}
+use Rattle.def_desc.specs.Rows.{DescCompartment, LibraryRow, DescRow}
 use Rattle.def_link.specs.declared.LinkFault.{LinkFault}
 use Rattle.def_link.specs.declared.LinkFault.TheVariants as fault
-pub use Rattle.def_policy.specs.Rules.{ended}
+pub use Rattle.def_policy.specs.Rules.{spaced_words}
 use Rattle.def_program.specs.declared.Status.{Status}
 use Rattle.def_program.specs.declared.Status.TheVariants as status
 
 abbrev pub refused : List ℕ → List (List ℕ) → List ℕ
-refused word words = codes "refused " ++ word ++ ended words
+refused word words = codes "refused " ++ word ++ spaced_words words
 
-abbrev pub numbered : List ℕ → ℕ → List ℕ
-numbered letter n = letter ++ decimal n
+abbrev pub lettered : List ℕ → ℕ → List ℕ
+lettered letter n = letter ++ decimal n
 
 -- ---- files
 
@@ -51,17 +51,17 @@ part_word part.Thread = codes "thread"
 abbrev pub description_line : Fault → List ℕ
 description_line f =
     refused (codes "4")
-    (codes "description" ∷ numbered (codes "F") f.number ∷ part_word f.place.part
+    (codes "description" ∷ lettered (codes "F") f.number ∷ part_word f.place.part
     ∷ decimal f.place.index ∷ decimal f.place.item ∷ [])
 
 -- ---- linking
 
-abbrev pub owner_name : DescRow → Owner → List ℕ
-owner_name d (Compartment i) =
-    unwrap_or (option_map (λ (c : CompartmentRow). c.name) (slice_get d.compartments i)) []
-owner_name d (Library i) =
+abbrev pub described_owner_name : DescRow → Owner → List ℕ
+described_owner_name d (Compartment i) =
+    unwrap_or (option_map (λ (c : DescCompartment). c.name) (slice_get d.compartments i)) []
+described_owner_name d (Library i) =
     unwrap_or (option_map (λ (l : LibraryRow). l.name) (slice_get d.libraries i)) []
-owner_name d _ = []
+described_owner_name d _ = []
 
 abbrev pub link_line : List ℕ → List ℕ → ℕ → List ℕ
 link_line rule owner n = refused (codes "6") (codes "link" ∷ rule ∷ owner ∷ decimal n ∷ [])
@@ -78,11 +78,11 @@ link_status fault.NoMemory = status.NoMemory
 abbrev pub link_text : DescRow → LinkFault → List ℕ
 link_text d (fault.Asm owner number line) =
     refused (codes "5")
-    (codes "assembly" ∷ numbered (codes "A") number ∷ owner_name d owner ∷ decimal line ∷ [])
-link_text d (fault.Export owner item) = link_line (codes "L1") (owner_name d owner) item
+    (codes "assembly" ∷ lettered (codes "A") number ∷ described_owner_name d owner ∷ decimal line ∷ [])
+link_text d (fault.Export owner item) = link_line (codes "L1") (described_owner_name d owner) item
 link_text d (fault.NoRoom needed has) = link_line (codes "L2") (decimal needed) has
-link_text d (fault.Import owner line) = link_line (codes "L3") (owner_name d owner) line
-link_text d (fault.Initial owner) = link_line (codes "L4") (owner_name d owner) 0
+link_text d (fault.Import owner line) = link_line (codes "L3") (described_owner_name d owner) line
+link_text d (fault.Initial owner) = link_line (codes "L4") (described_owner_name d owner) 0
 link_text d fault.NoMemory = []
 
 -- ---- images
@@ -90,7 +90,7 @@ link_text d fault.NoMemory = []
 -- the fault's number, and the place in bytes
 abbrev pub image_line : ℕ → ℕ → List ℕ
 image_line number place =
-    refused (codes "7") (codes "image" ∷ numbered (codes "I") number ∷ decimal place ∷ [])
+    refused (codes "7") (codes "image" ∷ lettered (codes "I") number ∷ decimal place ∷ [])
 
 -- ---- names
 
@@ -102,14 +102,14 @@ name_line = refused (codes "11") (codes "name" ∷ [])
 -- the fault's number, and the line that is at fault, counted from 1
 abbrev pub script_line : ℕ → ℕ → List ℕ
 script_line number line =
-    refused (codes "8") (codes "script" ∷ numbered (codes "S") number ∷ decimal line ∷ [])
+    refused (codes "8") (codes "script" ∷ lettered (codes "S") number ∷ decimal line ∷ [])
 
 -- ---- policies
 
 -- the fault's number, and the line that is at fault, counted from 1
 abbrev pub policy_line : ℕ → ℕ → List ℕ
 policy_line number line =
-    refused (codes "13") (codes "policy" ∷ numbered (codes "P") number ∷ decimal line ∷ [])
+    refused (codes "13") (codes "policy" ∷ lettered (codes "P") number ∷ decimal line ∷ [])
 
 -- no rule is broken
 abbrev pub allow_line : List ℕ

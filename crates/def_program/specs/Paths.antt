@@ -6,7 +6,7 @@ use Rattle.def_reach.specs.Route.{IsPath}
 use Rattle.def_image.specs.Parts.{PartsRow}
 use Rattle.def_boot.specs.Gates.{entries_of}
 pub use Rattle.def_policy.specs.Names.{compartment_named, library_named, or_library, owner_named, name_of}
-use Rattle.def_program.specs.Lines.{ended}
+use Rattle.def_program.specs.Lines.{spaced_words}
 
 -- ---- lines
 
@@ -14,7 +14,7 @@ abbrev pub none_line : List ℕ
 none_line = codes "none" ++ 10 ∷ []
 
 abbrev pub path_line : PartsRow → List Owner → List ℕ
-path_line p owners = codes "path" ++ ended (map (name_of p) owners)
+path_line p owners = codes "path" ++ spaced_words (map (name_of p) owners)
 
 -- the names of the path that comes before all others, or `none` where the owner doesn't reach the
 -- compartment

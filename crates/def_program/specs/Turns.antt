@@ -4,7 +4,7 @@ use Rattle.ct_entry.specs.declared.rows.Owner.{Owner}
 use Rattle.def_image.specs.Parts.{PartsRow, upgraded}
 use Rattle.def_image.specs.Accepted.{IsImage, FaultAt}
 use Rattle.def_image.specs.Spelling.{image_bytes}
-use Rattle.def_desc.specs.Rows.{CodeRow, CompartmentRow, LibraryRow, DescRow}
+use Rattle.def_desc.specs.Rows.{DescCode, DescCompartment, LibraryRow, DescRow}
 use Rattle.def_desc.specs.WellFormed.{WellFormed, IsFaulty}
 use Rattle.def_desc.specs.Reading.{description_of}
 use Rattle.def_gen.specs.Description.{firmware}
@@ -35,14 +35,14 @@ abbrev pub with_file : Option (List ℕ) → List (List ℕ) → List (List ℕ)
 with_file None names = names
 with_file (Some name) names = name ∷ names
 
-abbrev pub files_in : List CodeRow → List (List ℕ)
+abbrev pub files_in : List DescCode → List (List ℕ)
 files_in [] = []
 files_in (c ∷ cs) = with_file c.file (files_in cs)
 
 abbrev pub source_names : DescRow → List (List ℕ)
 source_names d =
     files_in
-    (map (λ (c : CompartmentRow). c.code) d.compartments
+    (map (λ (c : DescCompartment). c.code) d.compartments
     ++ map (λ (l : LibraryRow). l.code) d.libraries)
 
 -- ---- refusals

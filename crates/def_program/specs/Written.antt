@@ -15,7 +15,7 @@ use Rattle.def_step.specs.declared.Event.TheVariants.{Step}
 use Rattle.def_trace.specs.Trace.{trace_line}
 use Rattle.def_program.specs.Answers.{AllRead, Read, contents}
 use Rattle.def_program.specs.Calls.{CallRecord}
-use Rattle.def_program.specs.Commands.{Command, Run, RunImage, Demo, form_of}
+use Rattle.def_program.specs.Commands.{Command, Run, RunImage, Demo, command_form}
 use Rattle.def_program.specs.Licences.{NumberStandsFor, StandFor}
 use Rattle.def_program.specs.Runs.{events_until, last_line}
 use Rattle.def_program.specs.Safe.{IsSafeRun}
@@ -97,4 +97,4 @@ WritesRunOf e _ = Unit {0}
 
 -- where a call is done, the run that it wrote is licensed and safe
 abbrev pub IsRunWritten : CallRecord → Status → Type 0
-IsRunWritten e s = (c : Command) → form_of e.words ≡ Some c → s ≡ status.Done → WritesRunOf e c
+IsRunWritten e s = (c : Command) → command_form e.words ≡ Some c → s ≡ status.Done → WritesRunOf e c

@@ -9,8 +9,8 @@ use Rattle.def_words.specs.Permissions.{bit, memory_capability}
 use Rattle.def_reach.specs.Roots.{root_of}
 use Rattle.def_reach.specs.Reach.{same_owner}
 
-abbrev pub is_of : ℕ → Entry → Bool
-is_of a r = same_owner r.owner (Compartment a)
+abbrev pub is_owned_by : ℕ → Entry → Bool
+is_owned_by a r = same_owner r.owner (Compartment a)
 
 -- an import of an export of compartment b that passes capabilities
 abbrev pub passes_to : Listed → ℕ → Entry → Bool
@@ -18,17 +18,17 @@ passes_to e b r =
     is_call r.kind && (same_owner (root_of e r.of).owner (Compartment b) && (root_of e r.of).passes)
 
 abbrev pub calls : Listed → ℕ → ℕ → Bool
-calls e a b = list_any (λ (r : Entry). is_of a r && passes_to e b r) e.rows
+calls e a b = list_any (λ (r : Entry). is_owned_by a r && passes_to e b r) e.rows
 
 -- an import of a shared object with letter C
 abbrev pub carries : Entry → Bool
 carries r = is_shared r.kind && bit r.rights memory_capability
 
-abbrev pub holds : Listed → ℕ → ℕ → Bool
-holds e b object = list_any (λ (r : Entry). is_of b r && (carries r && (r.of == object))) e.rows
+abbrev pub holds_object : Listed → ℕ → ℕ → Bool
+holds_object e b object = list_any (λ (r : Entry). is_owned_by b r && (carries r && (r.of == object))) e.rows
 
 abbrev pub share : Listed → ℕ → ℕ → Bool
-share e a b = list_any (λ (r : Entry). is_of a r && (carries r && holds e b r.of)) e.rows
+share e a b = list_any (λ (r : Entry). is_owned_by a r && (carries r && holds_object e b r.of)) e.rows
 
 -- two different compartments with an edge: one calls the other so that capabilities pass, or both import one shared
 -- object with letter C

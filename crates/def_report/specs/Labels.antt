@@ -38,13 +38,13 @@ owner_label owner = record { owner = owner; name = []; of = []; seal = 0; export
 -- ---- names
 
 -- the name of the first row with this number
-abbrev pub named : {R : Type 0} → (R → List ℕ) → (R → ℕ) → ℕ → List R → List ℕ
-named name number n [] = []
-named name number n (r ∷ rs) = if number r == n then name r else named name number n rs
+abbrev pub name_by_number : {R : Type 0} → (R → List ℕ) → (R → ℕ) → ℕ → List R → List ℕ
+name_by_number name number n [] = []
+name_by_number name number n (r ∷ rs) = if number r == n then name r else name_by_number name number n rs
 
 -- a service by the number of its native routine
 unfoldable pub service_name : ℕ → List ℕ
-service_name n = if n == SWITCH then codes "switch" else named (λ r. r.0.now) (λ r. r.1) n SERVICES
+service_name n = if n == SWITCH then codes "switch" else name_by_number (λ r. r.0.now) (λ r. r.1) n SERVICES
 
 abbrev pub device_name : PartsRow → ℕ → List ℕ
 device_name p n = unwrap_or (option_map (λ (d : DeviceRow). d.name) (slice_get p.devices n)) []

@@ -31,14 +31,14 @@ with_kind kind more = member (codes "kind") (string kind) more
 abbrev pub with_length : Line → Members → Members
 with_length l more = member (codes "length") (num l.entry.length) more
 
-abbrev pub with_name : Line → Members → Members
-with_name l more = member (codes "name") (string l.label.name) more
+abbrev pub with_label_name : Line → Members → Members
+with_label_name l more = member (codes "name") (string l.label.name) more
 
 abbrev pub with_number : Line → Members → Members
 with_number l more = member (codes "number") (num l.number) more
 
-abbrev pub with_object : Line → Members → Members
-with_object l more = member (codes "of") (string l.label.of) more
+abbrev pub with_label_object : Line → Members → Members
+with_label_object l more = member (codes "of") (string l.label.of) more
 
 abbrev pub with_owner : Line → Members → Members
 with_owner l more = member (codes "owner") (string l.label.owner) more
@@ -57,7 +57,7 @@ plain_data kind l = object
 -- a key has a name too
 abbrev pub key_data : Line → Data
 key_data l = object
-    (with_base l (with_kind (codes "key") (with_length l (with_name l
+    (with_base l (with_kind (codes "key") (with_length l (with_label_name l
     (with_number l (with_owner l (with_rights l no_members)))))))
 
 -- and a quota its limit
@@ -65,19 +65,19 @@ abbrev pub quota_data : Line → Data
 quota_data l = object
     (with_base l (with_kind (codes "quota") (with_length l
     (member (codes "limit") (num l.entry.limit)
-    (with_name l (with_number l (with_owner l (with_rights l no_members))))))))
+    (with_label_name l (with_number l (with_owner l (with_rights l no_members))))))))
 
 -- any other slot has the name of what it is of
 abbrev pub slot_data : List ℕ → Line → Data
 slot_data kind l = object
-    (with_base l (with_kind kind (with_length l (with_name l
-    (with_number l (with_object l (with_owner l (with_rights l no_members))))))))
+    (with_base l (with_kind kind (with_length l (with_label_name l
+    (with_number l (with_label_object l (with_owner l (with_rights l no_members))))))))
 
 -- a sealed object its type besides
 abbrev pub sealed_data : Line → Data
 sealed_data l = object
-    (with_base l (with_kind (codes "sealed") (with_length l (with_name l
-    (with_number l (with_object l (with_owner l (with_rights l
+    (with_base l (with_kind (codes "sealed") (with_length l (with_label_name l
+    (with_number l (with_label_object l (with_owner l (with_rights l
     (member (codes "type") (num l.label.seal) no_members)))))))))
 
 abbrev pub posture_text : Mode → List ℕ
@@ -92,7 +92,7 @@ passes_text capabilities = if capabilities then codes "capabilities" else codes 
 abbrev pub export_data : Line → Data
 export_data l = object
     (member (codes "args") (num l.label.export.args)
-    (with_base l (with_kind (codes "export") (with_length l (with_name l
+    (with_base l (with_kind (codes "export") (with_length l (with_label_name l
     (with_number l (with_owner l
     (member (codes "passes") (string (passes_text l.label.export.capabilities))
     (member (codes "posture") (string (posture_text l.label.export.posture))
@@ -102,7 +102,7 @@ export_data l = object
 -- one of a library its posture alone
 abbrev pub library_export_data : Line → Data
 library_export_data l = object
-    (with_base l (with_kind (codes "export") (with_length l (with_name l
+    (with_base l (with_kind (codes "export") (with_length l (with_label_name l
     (with_number l (with_owner l
     (member (codes "posture") (string (posture_text l.label.export.posture))
     (with_rights l no_members))))))))
@@ -130,8 +130,8 @@ abbrev pub line_data : Line → Data
 line_data l = data_of l.entry.kind l
 
 -- the entries and their labels, numbered from n
-abbrev pub numbered : ℕ → List Entry → List Label → List Data
-numbered n [] ls = []
-numbered n (r ∷ rs) [] = []
-numbered n (r ∷ rs) (l ∷ ls) =
-    line_data (record { number = n; entry = r; label = l }) ∷ numbered (n + 1) rs ls
+abbrev pub numbered_entries : ℕ → List Entry → List Label → List Data
+numbered_entries n [] ls = []
+numbered_entries n (r ∷ rs) [] = []
+numbered_entries n (r ∷ rs) (l ∷ ls) =
+    line_data (record { number = n; entry = r; label = l }) ∷ numbered_entries (n + 1) rs ls

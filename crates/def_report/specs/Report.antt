@@ -10,7 +10,7 @@ use Rattle.def_image.specs.Members.{gate_number}
 use Rattle.def_boot.specs.Gates.{entries_of}
 use Rattle.def_report.specs.Edges.{edges}
 use Rattle.def_report.specs.Labels.{labels_of}
-use Rattle.def_report.specs.Lines.{num, numbered}
+use Rattle.def_report.specs.Lines.{num, numbered_entries}
 
 abbrev pub list : List Data → Data
 list ds = array (items_of ds)
@@ -48,7 +48,7 @@ abbrev pub edges_data : Listed → ℕ → Data
 edges_data e n = list (map edge_data (edges e n))
 
 abbrev pub entries_data : PartsRow → Listed → Data
-entries_data p e = list (numbered 1 e.rows (labels_of p))
+entries_data p e = list (numbered_entries 1 e.rows (labels_of p))
 
 abbrev pub object_of : PartsRow → Data → Data → Data → Data → Data → Data → Data → Data
 object_of p compartments devices edges entries heap libraries threads = object

@@ -14,11 +14,11 @@ with_word [] word = word
 with_word (b ∷ bs) word = (b ∷ bs) ++ 32 ∷ word
 
 -- a text goes on with the names of those bits of a set, from bit 0 up, that are set
-abbrev pub with_names : List ℕ → ℕ → List (List ℕ) → List ℕ
-with_names text set [] = text
-with_names text set (name ∷ names) =
-    with_names (if set % 2 == 1 then with_word text name else text) (set / 2) names
+abbrev pub with_right_names : List ℕ → ℕ → List (List ℕ) → List ℕ
+with_right_names text set [] = text
+with_right_names text set (name ∷ names) =
+    with_right_names (if set % 2 == 1 then with_word text name else text) (set / 2) names
 
 -- the names of a set's permissions in bit order, joined by a space
 unfoldable pub rights_text : ℕ → List ℕ
-rights_text set = with_names [] set permission_names
+rights_text set = with_right_names [] set permission_names

@@ -9,7 +9,7 @@ use Rattle.def_step.specs.declared.Event.TheVariants.{Step}
 use Rattle.def_step.specs.Events.{happens}
 use Rattle.def_step.specs.Handlers.{is_handled}
 use Rattle.def_machine.specs.Platform.{Platform}
-use Rattle.def_safety.specs.Clean.{CleanEntry, CleanReturn, HandsBack, Answers, AnswersHandled, AnswersPlainly, minus_one}
+use Rattle.def_safety.specs.Clean.{CleanEntry, CleanReturn, HandsBack, AnswersNumber, AnswersHandled, AnswersPlainly, minus_one}
 use Rattle.def_safety.specs.Handlers.{HandlerBegins}
 use Rattle.def_safety.specs.Each.{ready}
 use Rattle.def_safety.specs.Routine.{RunsReturn}
@@ -44,7 +44,7 @@ pub record CleanFrom (b : Platform) (s : State) (e : Event) (after : State)
   pub unwinds : (d : Deed) (cause code register : ℕ) (f g : Frame) (gs : List Frame)
       → told ≡ Some d → d.act ≡ Trap cause code register
       → (thread s d.thread).frames ≡ f ∷ g ∷ gs → enters_handler b s d.thread f ≡ false
-      → CleanReturn b.image s d.thread f (g ∷ gs) after × Answers after d.thread minus_one
+      → CleanReturn b.image s d.thread f (g ∷ gs) after × AnswersNumber after d.thread minus_one
   pub handles : (d : Deed) (cause code register : ℕ) (f : Frame) (fs : List Frame)
       → told ≡ Some d → d.act ≡ Trap cause code register
       → (thread s d.thread).frames ≡ f ∷ fs → enters_handler b s d.thread f ≡ true

@@ -142,8 +142,8 @@ HandsBack i s t f after =
     × LetsThrough i f.export (register (thread s t) 11) (register (thread after t) 11)
 
 -- the results are an integer and 0
-abbrev pub Answers : State → ℕ → ℕ → Type 0
-Answers after t value =
+abbrev pub AnswersNumber : State → ℕ → ℕ → Type 0
+AnswersNumber after t value =
     (register (thread after t) 10 ≡ plain value) × (register (thread after t) 11 ≡ plain 0)
 
 -- the word of -1
@@ -154,8 +154,8 @@ minus_one = 2 ^ 32 - 1
 abbrev pub AnswersHandled : State → ℕ → State → Type 0
 AnswersHandled s t after =
     (cap_address (register (thread s t) 10) ≡ 1
-    → Answers after t (cap_address (register (thread s t) 11)))
-    × ((cap_address (register (thread s t) 10) ≡ 1 → ⊥) → Answers after t minus_one)
+    → AnswersNumber after t (cap_address (register (thread s t) 11)))
+    × ((cap_address (register (thread s t) 10) ≡ 1 → ⊥) → AnswersNumber after t minus_one)
 
 -- the results are untagged
 abbrev pub AnswersPlainly : State → ℕ → Type 0

@@ -17,12 +17,12 @@ pub record IsOfNative (x : ℕ) : Type 0 where
   pub to : x < entry_address number + NATIVE_LENGTH
 
 -- an address of RAM, which ends so, of a device, or of a native routine's entry
-abbrev pub IsWithin : Platform → ℕ → ℕ → Type 0
-IsWithin b end x =
+abbrev pub IsReachable : Platform → ℕ → ℕ → Type 0
+IsReachable b end x =
     ((b.image.ram ≤ x) × (x < end)) ⊎ (is_some (found b.bases x) ≡ true) ⊎ IsOfNative x
 
 -- Each address of a root through which something may be loaded, stored or run is one of RAM, whose end is the heap's, of
 -- a device, or of a native routine's entry.
 pub record Inside (b : Platform) : Type 0 where
   pub roots : (n x : ℕ) → is_root (root b.image n).origin ≡ true → GrantsAccess (root b.image n)
-      → (root b.image n).base ≤ x → x < (root b.image n).top → IsWithin b b.image.heap_end x
+      → (root b.image n).base ≤ x → x < (root b.image n).top → IsReachable b b.image.heap_end x

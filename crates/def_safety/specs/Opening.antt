@@ -16,7 +16,7 @@ use Rattle.def_step.specs.Checks.{first_failed}
 use Rattle.def_step.specs.Events.{happens}
 use Rattle.def_step.specs.Routines.{answers, code}
 use Rattle.def_step.specs.Switch.{return_checks}
-use Rattle.def_step.specs.Tokens.{key_of, opened_token, token_of}
+use Rattle.def_step.specs.Tokens.{key_of, opened_token, token_object}
 use Rattle.def_safety.specs.Each.{ready}
 use Rattle.def_safety.specs.Routine.{RunsRoutine}
 use Rattle.def_safety.specs.Everywhere.{Everywhere}
@@ -56,7 +56,7 @@ pub record FindsSealed (s : State) : Type 0 where
       → (key_of s (register (thread s t) n) ≡ Some key)
       ↔ IsKeyIn s (register (thread s t) n) key
   pub tokens : (t n key : ℕ) (token : Object)
-      → (token_of s key (register (thread s t) n) ≡ Some token)
+      → (token_object s key (register (thread s t) n) ≡ Some token)
       ↔ IsTokenIn s key (register (thread s t) n) token
 
 -- ---- token_open
@@ -106,7 +106,7 @@ pub record OpensObject (b : Platform) (s : State) (n : ℕ) : Type 0 where
   pub key : Object
   pub token : Object
   pub key_found : key_of (ready b s) (register (thread (ready b s) thread_is) 10) ≡ Some key
-  pub token_found : token_of (ready b s) key.number
+  pub token_found : token_object (ready b s) key.number
       (register (thread (ready b s) thread_is) 11) ≡ Some token
   pub number : token.number ≡ n
   pub after : (happens b s Step).0

@@ -21,7 +21,7 @@ use Rattle.def_step.specs.Accesses.{access_of, access_checks}
 use Rattle.def_step.specs.Checks.{Check}
 use Rattle.def_step.specs.Events.{happens}
 use Rattle.def_step.specs.Instructions.{fetch_checks, next_at, space_of}
-use Rattle.def_step.specs.Jumps.{is_taken, target_at, target_checks, register_jump_checks}
+use Rattle.def_step.specs.Jumps.{is_taken, jump_target, target_checks, register_jump_checks}
 use Rattle.def_step.specs.Operands.{class_of}
 use Rattle.def_step.specs.Routines.{word_checks}
 use Rattle.def_step.specs.Switch.{return_checks, switch_checks, frame_top}
@@ -41,26 +41,26 @@ branch_checks taken target = if taken then target_checks target else []
 
 -- x and y are what a branch compares, and x is where a register jump leads
 abbrev pub jump_checks : Instr → Cap → Cap → Cap → List Check
-jump_checks (Jal rd offset) x y pcc = target_checks (target_at pcc offset)
+jump_checks (Jal rd offset) x y pcc = target_checks (jump_target pcc offset)
 jump_checks (CJalr rd rs1 n) x y pcc = register_jump_checks rd rs1 x n
 jump_checks (Beq rs1 rs2 offset) x y pcc =
     branch_checks (is_taken (Beq rs1 rs2 offset) (cap_address x) (cap_address y))
-    (target_at pcc offset)
+    (jump_target pcc offset)
 jump_checks (Bne rs1 rs2 offset) x y pcc =
     branch_checks (is_taken (Bne rs1 rs2 offset) (cap_address x) (cap_address y))
-    (target_at pcc offset)
+    (jump_target pcc offset)
 jump_checks (Blt rs1 rs2 offset) x y pcc =
     branch_checks (is_taken (Blt rs1 rs2 offset) (cap_address x) (cap_address y))
-    (target_at pcc offset)
+    (jump_target pcc offset)
 jump_checks (Bge rs1 rs2 offset) x y pcc =
     branch_checks (is_taken (Bge rs1 rs2 offset) (cap_address x) (cap_address y))
-    (target_at pcc offset)
+    (jump_target pcc offset)
 jump_checks (Bltu rs1 rs2 offset) x y pcc =
     branch_checks (is_taken (Bltu rs1 rs2 offset) (cap_address x) (cap_address y))
-    (target_at pcc offset)
+    (jump_target pcc offset)
 jump_checks (Bgeu rs1 rs2 offset) x y pcc =
     branch_checks (is_taken (Bgeu rs1 rs2 offset) (cap_address x) (cap_address y))
-    (target_at pcc offset)
+    (jump_target pcc offset)
 jump_checks _ x y pcc = []
 
 -- of an instruction of thread t, by its class

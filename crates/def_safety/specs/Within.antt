@@ -6,7 +6,7 @@ use Rattle.def_words.specs.Permissions.{has, load_data, store_data, execute}
 use Rattle.def_machine.specs.Heap.{ram_size}
 use Rattle.def_machine.specs.State.{State, register, thread}
 use Rattle.def_machine.specs.Platform.{Platform}
-use Rattle.def_safety.specs.Inside.{IsWithin}
+use Rattle.def_safety.specs.Inside.{IsReachable}
 
 -- something may be loaded, stored or run through a capability
 abbrev pub MayTouch : Cap → Type 0
@@ -18,7 +18,7 @@ MayTouch c =
 abbrev pub StaysWithin : Platform → State → Cap → Type 0
 StaysWithin b s c =
     c.tag ≡ true → MayTouch c
-    → (x : ℕ) → cap_base c ≤ x → x < cap_top c → IsWithin b (b.image.ram + ram_size s) x
+    → (x : ℕ) → cap_base c ≤ x → x < cap_top c → IsReachable b (b.image.ram + ram_size s) x
 
 -- each register and program counter of a thread
 pub record ThreadsWithin (b : Platform) (s : State) : Type 0 where

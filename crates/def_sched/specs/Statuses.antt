@@ -24,11 +24,11 @@ is_ended (Waiting address) = false
 is_ended Ended = true
 
 -- ready or sleeping: the thread runs again though no other does anything
-abbrev pub goes_on : Status → Bool
-goes_on Ready = true
-goes_on (Sleeping ticks) = true
-goes_on (Waiting address) = false
-goes_on Ended = false
+abbrev pub runs_again : Status → Bool
+runs_again Ready = true
+runs_again (Sleeping ticks) = true
+runs_again (Waiting address) = false
+runs_again Ended = false
 
 -- past the last thread there is nobody
 abbrev pub status_of : List Status → ℕ → Status

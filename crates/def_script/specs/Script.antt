@@ -18,20 +18,20 @@ pub record Row : Type 0 where
   pub byte : ℕ
 
 -- neither a space nor a line feed
-abbrev pub is_inner : ℕ → Bool
-is_inner c = not (c == 32) && not (c == 10)
+abbrev pub is_field_byte : ℕ → Bool
+is_field_byte c = not (c == 32) && not (c == 10)
 
 -- steps count from 1, and a name is a run of bytes other than spaces and line feeds
 pub record IsScriptRow (r : Row) : Type 0 where
   pub counted : 1 ≤ r.step
   pub within : r.step ≤ MOST_STEPS
   pub some : 0 < length r.name
-  pub inner : list_all is_inner r.name ≡ true
+  pub inner : list_all is_field_byte r.name ≡ true
   pub small : r.byte ≤ 255
 
 -- step, name and byte with one space between, ended by a line feed; numbers are decimal without leading zeros
-abbrev pub spelled : Row → List ℕ
-spelled r = decimal r.step ++ 32 ∷ (r.name ++ 32 ∷ (decimal r.byte ++ 10 ∷ []))
+abbrev pub spelled_row : Row → List ℕ
+spelled_row r = decimal r.step ++ 32 ∷ (r.name ++ 32 ∷ (decimal r.byte ++ 10 ∷ []))
 
 -- ---- devices
 
@@ -39,8 +39,8 @@ abbrev pub is_named : List ℕ → DeviceRow → Bool
 is_named name d = takes_bytes d.kind && bytes_eq d.name name
 
 -- the index of the device that a name stands for
-abbrev pub device_named : List DeviceRow → List ℕ → Option ℕ
-device_named devices name = position (is_named name) devices
+abbrev pub input_device_named : List DeviceRow → List ℕ → Option ℕ
+input_device_named devices name = position (is_named name) devices
 
 -- ---- a script
 
@@ -48,7 +48,7 @@ device_named devices name = position (is_named name) devices
 pub record IsScript (devices : List DeviceRow) (rows : List Row) : Type 0 where
   pub lines : All IsScriptRow rows
   pub order : AllPairs (λ a b. a.step ≤ b.step) rows
-  pub named : All (λ r. IsSome (device_named devices r.name)) rows
+  pub named : All (λ r. IsSome (input_device_named devices r.name)) rows
 
 -- a byte, and the step before which it comes
 pub record Due : Type 0 where
@@ -58,14 +58,14 @@ pub record Due : Type 0 where
 abbrev pub due : List DeviceRow → Row → Due
 due devices r = record {
   step = r.step;
-  given = record { device = unwrap_or (device_named devices r.name) 0; byte = r.byte };
+  given = record { device = unwrap_or (input_device_named devices r.name) 0; byte = r.byte };
 }
 
 -- the text spells a script, and this comes of it
 pub record ReadsAsScript (devices : List DeviceRow) (text : List ℕ) (dues : List Due) : Type 0 where
   pub rows : List Row
   pub script : IsScript devices rows
-  pub text_is : text ≡ flat_map spelled rows
+  pub text_is : text ≡ flat_map spelled_row rows
   pub dues_are : dues ≡ map (due devices) rows
 
 -- the bytes that come before a step, in the script's order
@@ -77,7 +77,7 @@ given_at dues step = map (λ d. d.given) (filter (λ d. d.step == step) dues)
 -- a text begins with a line, and this follows
 pub record BeginsWithRow (text : List ℕ) (r : Row) (rest : List ℕ) : Type 0 where
   pub row : IsScriptRow r
-  pub text_is : text ≡ spelled r ++ rest
+  pub text_is : text ≡ spelled_row r ++ rest
 
 -- there is a text, but no line at its front
 pub record NoScriptLine (text : List ℕ) : Type 0 where
@@ -102,7 +102,7 @@ pub record NamesNoDevice (devices : List DeviceRow) (rows : List Row) (text : Li
   pub rest : List ℕ
   pub begins : BeginsWithRow text next rest
   pub order : last_step rows ≤ next.step
-  pub unknown : device_named devices next.name ≡ None
+  pub unknown : input_device_named devices next.name ≡ None
 
 -- what is wrong with the line at a text's front, after these lines
 abbrev pub BreaksScript : List DeviceRow → List Row → List ℕ → ℕ → Type 0
@@ -115,7 +115,7 @@ pub record IsScriptFault (devices : List DeviceRow) (text : List ℕ) (number li
   pub rows : List Row
   pub left : List ℕ
   pub script : IsScript devices rows
-  pub text_is : text ≡ flat_map spelled rows ++ left
+  pub text_is : text ≡ flat_map spelled_row rows ++ left
   pub line_is : line ≡ length rows + 1
   pub breaks : BreaksScript devices rows left number
 

@@ -32,13 +32,13 @@ pub record Shape : Type 0 where
   pub top : ℕ
   pub handling : Bool
 
-abbrev pub shape_of : Frame → Shape
-shape_of f = record { actor = f.actor; export = f.export; top = f.top; handling = f.handling }
+abbrev pub frame_shape : Frame → Shape
+frame_shape f = record { actor = f.actor; export = f.export; top = f.top; handling = f.handling }
 
 abbrev pub shapes : Thread → List Shape
-shapes x = map shape_of x.frames
+shapes x = map frame_shape x.frames
 
-pub record SameThread (x y : Thread) : Type 0 where
+pub record AgreeingThread (x y : Thread) : Type 0 where
   pub pcc : x.pcc ≡ y.pcc
   pub registers : x.registers ≡ y.registers
   pub posture : x.posture ≡ y.posture
@@ -70,7 +70,7 @@ pub record SamePublic (s z : State) : Type 0 where
 -- Thread t sees the same of both states.
 pub record Agree (b : Platform) (t : ℕ) (s z : State) : Type 0 where
   pub public : SamePublic s z
-  pub self : SameThread (thread s t) (thread z t)
+  pub self : AgreeingThread (thread s t) (thread z t)
   pub memory : SameMemory b.image (InView b.image s t) s.granules z.granules
   pub devices : (m : ℕ) → SeesDevice b (thread s t).frames m
       → device s.devices m ≡ device z.devices m

@@ -15,7 +15,7 @@ use Rattle.def_step.specs.Events.{happens}
 use Rattle.def_step.specs.Instructions.{actor_of}
 use Rattle.def_safety.specs.Each.{ready}
 use Rattle.def_secrecy.specs.View.{ReadsThrough, ReadsObject, InView, SeesDevice}
-use Rattle.def_secrecy.specs.Agreeing.{SameMemory, SameThread}
+use Rattle.def_secrecy.specs.Agreeing.{SameMemory, AgreeingThread}
 
 -- ---- what a thread may change
 
@@ -58,7 +58,7 @@ pub record OutOfReach (b : Platform) (s : State) (t u : ℕ) : Type 0 where
 
 -- what thread t sees of a state beside what is public, is afterwards as it was
 pub record ViewStays (b : Platform) (t : ℕ) (s after : State) : Type 0 where
-  pub self : SameThread (thread s t) (thread after t)
+  pub self : AgreeingThread (thread s t) (thread after t)
   pub memory : SameMemory b.image (InView b.image s t) s.granules after.granules
   pub devices : (m : ℕ) → SeesDevice b (thread s t).frames m
       → device s.devices m ≡ device after.devices m

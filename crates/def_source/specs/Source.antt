@@ -48,8 +48,8 @@ is_inner c = not (is_blank c) && not (is_mark c)
 abbrev pub is_letter : ℕ → Bool
 is_letter c = (nat_le 65 c && nat_le c 90) || (nat_le 97 c && nat_le c 122) || c == 95
 
-abbrev pub is_name_byte : ℕ → Bool
-is_name_byte c = is_letter c || is_ascii_digit c
+abbrev pub is_symbol_byte : ℕ → Bool
+is_symbol_byte c = is_letter c || is_ascii_digit c
 
 abbrev pub is_hexadecimal : ℕ → Bool
 is_hexadecimal c = is_ascii_digit c || (nat_le 65 c && nat_le c 70) || (nat_le 97 c && nat_le c 102)
@@ -75,9 +75,9 @@ pieces (c ∷ cs) =
     if is_blank c then pieces cs else if is_inner c && begins_inner cs then before c (pieces cs)
     else (c ∷ []) ∷ pieces cs
 
-abbrev pub is_name : List ℕ → Bool
-is_name [] = false
-is_name (c ∷ cs) = is_letter c && list_all is_name_byte cs && nat_le (length (c ∷ cs)) 64
+abbrev pub is_symbol : List ℕ → Bool
+is_symbol [] = false
+is_symbol (c ∷ cs) = is_letter c && list_all is_symbol_byte cs && nat_le (length (c ∷ cs)) 64
 
 -- the value of digits after a number so far
 abbrev pub value_from : ℕ → ℕ → List ℕ → ℕ
@@ -120,8 +120,8 @@ token_of (c ∷ cs) =
     if c == 58 then Some token.Colon else
     if c == 40 then Some token.Open else
     if c == 41 then Some token.Close else
-    if c == 46 then (if is_name cs then Some (token.Directive cs) else None) else
-    if is_letter c then (if is_name (c ∷ cs) then Some (token.Name (c ∷ cs)) else None) else
+    if c == 46 then (if is_symbol cs then Some (token.Directive cs) else None) else
+    if is_letter c then (if is_symbol (c ∷ cs) then Some (token.Name (c ∷ cs)) else None) else
     option_map (λ n. token.Number n) (number_of (c ∷ cs))
 
 -- a row of tokens, if each piece is one
@@ -149,8 +149,8 @@ first_named named says name [] = None
 first_named named says name (row ∷ rows) =
     if bytes_eq name (named row) then Some (says row) else first_named named says name rows
 
-unfoldable pub head_of : Name → Option Head
-head_of name = first_named (λ row. row.0.now) (λ row. row.1) name HEADS
+unfoldable pub statement_head : Name → Option Head
+statement_head name = first_named (λ row. row.0.now) (λ row. row.1) name HEADS
 
 unfoldable pub directive_of : Name → Option Directive
 directive_of name = first_named (λ row. row.0.now) (λ row. row.1) name DIRECTIVES
@@ -252,8 +252,8 @@ register_number ts = do
   n ← number_at a.1
   ended n.1 (a.0, n.0)
 
-unfoldable pub register_target : Row → Option (ℕ × Target Name)
-register_target ts = do
+unfoldable pub register_and_target : Row → Option (ℕ × Target Name)
+register_and_target ts = do
   a ← register_comma ts
   t ← target_at a.1
   ended t.1 (a.0, t.0)
@@ -303,36 +303,36 @@ register_jump_form ts = or_else
     (option_map (λ o. part.JumpCapability o.0 o.1) (two_registers ts))
 
 -- the statement of a word and the tokens after it, if they are one of its operand forms
-abbrev pub form_of : Head → Row → Option (Part Name)
-form_of (head.Registers operation) ts =
+abbrev pub statement_form : Head → Row → Option (Part Name)
+statement_form (head.Registers operation) ts =
     option_map (λ o. part.Registers operation o.0 o.1 o.2) (three_registers ts)
-form_of (head.Immediate operation) ts =
+statement_form (head.Immediate operation) ts =
     option_map (λ o. part.Immediate operation o.0 o.1 o.2) (two_registers_number ts)
-form_of (head.Upper operation) ts =
+statement_form (head.Upper operation) ts =
     option_map (λ o. part.Upper operation o.0 o.1) (register_number ts)
-form_of (head.Load operation) ts =
+statement_form (head.Load operation) ts =
     option_map (λ o. part.Load operation o.0 o.1 o.2) (register_address ts)
-form_of (head.Store operation) ts =
+statement_form (head.Store operation) ts =
     option_map (λ o. part.Store operation o.0 o.1 o.2) (register_address ts)
-form_of (head.Branch operation) ts =
+statement_form (head.Branch operation) ts =
     option_map (λ o. part.Branch operation o.0 o.1 o.2) (two_registers_target ts)
-form_of (head.Source operation) ts =
+statement_form (head.Source operation) ts =
     option_map (λ o. part.Source operation o.0 o.1) (two_registers ts)
-form_of (head.Bare operation) ts = ended ts (part.Bare operation)
-form_of head.Jal ts = option_map (λ o. part.Jal o.0 o.1) (register_target ts)
-form_of head.RegisterJump ts = register_jump_form ts
-form_of head.Nop ts = ended ts part.Nop
-form_of head.Move ts = option_map (λ o. part.Move o.0 o.1) (two_registers ts)
-form_of head.Jump ts = option_map (λ o. part.Jump o) (one_target ts)
-form_of head.JumpAndLink ts = option_map (λ o. part.JumpAndLink o.0 o.1) (register_target ts)
-form_of head.Return ts = ended ts part.Return
-form_of head.JumpRegister ts = option_map (λ o. part.JumpRegister o) (one_register ts)
-form_of head.IfZero ts = option_map (λ o. part.IfZero o.0 o.1) (register_target ts)
-form_of head.IfNotZero ts = option_map (λ o. part.IfNotZero o.0 o.1) (register_target ts)
-form_of head.LoadImmediate ts = option_map (λ o. part.LoadImmediate o.0 o.1) (register_number ts)
-form_of head.Import ts = option_map (λ o. part.Import o.0 o.1) (register_name ts)
-form_of head.TextAddress ts = option_map (λ o. part.TextAddress o.0 o.1) (register_name ts)
-form_of head.GlobalAddress ts = option_map (λ o. part.GlobalAddress o.0 o.1) (register_name ts)
+statement_form (head.Bare operation) ts = ended ts (part.Bare operation)
+statement_form head.Jal ts = option_map (λ o. part.Jal o.0 o.1) (register_and_target ts)
+statement_form head.RegisterJump ts = register_jump_form ts
+statement_form head.Nop ts = ended ts part.Nop
+statement_form head.Move ts = option_map (λ o. part.Move o.0 o.1) (two_registers ts)
+statement_form head.Jump ts = option_map (λ o. part.Jump o) (one_target ts)
+statement_form head.JumpAndLink ts = option_map (λ o. part.JumpAndLink o.0 o.1) (register_and_target ts)
+statement_form head.Return ts = ended ts part.Return
+statement_form head.JumpRegister ts = option_map (λ o. part.JumpRegister o) (one_register ts)
+statement_form head.IfZero ts = option_map (λ o. part.IfZero o.0 o.1) (register_and_target ts)
+statement_form head.IfNotZero ts = option_map (λ o. part.IfNotZero o.0 o.1) (register_and_target ts)
+statement_form head.LoadImmediate ts = option_map (λ o. part.LoadImmediate o.0 o.1) (register_number ts)
+statement_form head.Import ts = option_map (λ o. part.Import o.0 o.1) (register_name ts)
+statement_form head.TextAddress ts = option_map (λ o. part.TextAddress o.0 o.1) (register_name ts)
+statement_form head.GlobalAddress ts = option_map (λ o. part.GlobalAddress o.0 o.1) (register_name ts)
 
 abbrev pub directive_form : Directive → Row → Option (Part Name)
 directive_form directive.Text ts = ended ts part.Text
@@ -425,8 +425,8 @@ registers_exist (part.TextAddress rd label) = exists rd
 registers_exist (part.GlobalAddress rd label) = exists rd
 registers_exist _ = true
 
-abbrev pub is_lawful : Section → Part Name → Bool
-is_lawful s p = in_section s p && numbers_fit p && registers_exist p
+abbrev pub is_lawful_statement : Section → Part Name → Bool
+is_lawful_statement s p = in_section s p && numbers_fit p && registers_exist p
 
 -- ---- lines
 
@@ -444,7 +444,7 @@ formed s (Some p) = result_map (λ q. Some q) (lawful_or_fault s p)
 
 abbrev pub headed : Section → Row → Option Head → Result (Option (Part Name)) ℕ
 headed s ts None = Err 2
-headed s ts (Some h) = formed s (form_of h ts)
+headed s ts (Some h) = formed s (statement_form h ts)
 
 abbrev pub directed : Section → Row → Option Directive → Result (Option (Part Name)) ℕ
 directed s ts None = Err 2
@@ -453,7 +453,7 @@ directed s ts (Some d) = formed s (directive_form d ts)
 -- the statement of a row of tokens, which may be none
 abbrev pub statement_of : Section → Row → Result (Option (Part Name)) ℕ
 statement_of s [] = Ok None
-statement_of s (token.Name n ∷ ts) = headed s ts (head_of n)
+statement_of s (token.Name n ∷ ts) = headed s ts (statement_head n)
 statement_of s (token.Directive n ∷ ts) = directed s ts (directive_of n)
 statement_of s _ = Err 2
 
@@ -509,15 +509,15 @@ with_front front (Ok rest) = Ok (front ++ rest)
 with_front front (Err e) = Err e
 
 -- a line's statements before those of the lines after it, or its fault
-abbrev pub goes_on : ℕ → Section → Result (Line Name) ℕ → (Section → Result Statements AsmFault)
+abbrev pub line_then : ℕ → Section → Result (Line Name) ℕ → (Section → Result Statements AsmFault)
     → Result Statements AsmFault
-goes_on n s (Err number) rest = Err (At number n)
-goes_on n s (Ok l) rest = with_front (line_statements n l) (rest (section_after s l.part))
+line_then n s (Err number) rest = Err (At number n)
+line_then n s (Ok l) rest = with_front (line_statements n l) (rest (section_after s l.part))
 
 -- the statements of the lines from line n on, in the section in which it begins, or the first fault
 abbrev pub program_from : Section → ℕ → List (List ℕ) → Result Statements AsmFault
 program_from s n [] = Ok []
-program_from s n (l ∷ ls) = goes_on n s (line_of s l) (λ t. program_from t (n + 1) ls)
+program_from s n (l ∷ ls) = line_then n s (line_of s l) (λ t. program_from t (n + 1) ls)
 
 -- the statements that a text stands for, or the first line's fault
 unfoldable pub program_of : List ℕ → Result Statements AsmFault
@@ -526,7 +526,7 @@ program_of text = program_from section.Text 1 (lines_of text)
 -- each statement is one that its section allows, with registers and numbers in range
 abbrev pub lawful_from : Section → Statements → Bool
 lawful_from s [] = true
-lawful_from s (x ∷ xs) = is_lawful s x.part && lawful_from (section_after s (Some x.part)) xs
+lawful_from s (x ∷ xs) = is_lawful_statement s x.part && lawful_from (section_after s (Some x.part)) xs
 
 abbrev pub IsLawful : Statements → Type 0
 IsLawful xs = IsTrue (lawful_from section.Text xs)

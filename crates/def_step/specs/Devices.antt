@@ -100,14 +100,14 @@ abbrev pub found : List ℕ → ℕ → Option ℕ
 found bases address = found_from 0 bases address
 
 -- where a device's registers begin
-abbrev pub base_of : List ℕ → ℕ → ℕ
-base_of bases n = slice_index_or bases n 0
+abbrev pub registers_base : List ℕ → ℕ → ℕ
+registers_base bases n = slice_index_or bases n 0
 
 -- a load and what it leaves; where no device has the address, 0 and nothing
 abbrev pub bank_value_at : DeviceStates → Option ℕ → ℕ → ℕ → ℕ → ℕ
 bank_value_at k None address width time = 0
 bank_value_at k (Some n) address width time =
-    value_read (device k.states n) (address - base_of k.bases n) width time
+    value_read (device k.states n) (address - registers_base k.bases n) width time
 
 abbrev pub bank_value : DeviceStates → ℕ → ℕ → ℕ → ℕ
 bank_value k address width time = bank_value_at k (found k.bases address) address width time
@@ -117,7 +117,7 @@ bank_read_at k None address width = k
 bank_read_at k (Some n) address width =
     record k {
       states =
-          slice_set k.states n (left_by_read (device k.states n) (address - base_of k.bases n) width);
+          slice_set k.states n (left_by_read (device k.states n) (address - registers_base k.bases n) width);
     }
 
 abbrev pub bank_read : DeviceStates → ℕ → ℕ → DeviceStates
@@ -129,7 +129,7 @@ bank_written_at k (Some n) address width value =
     record k {
       states =
           slice_set k.states n
-          (left_by_write (device k.states n) (address - base_of k.bases n) width value);
+          (left_by_write (device k.states n) (address - registers_base k.bases n) width value);
     }
 
 abbrev pub bank_written : DeviceStates → ℕ → ℕ → ℕ → DeviceStates

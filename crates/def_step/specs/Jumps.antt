@@ -7,7 +7,7 @@ use Rattle.def_words.specs.Authority.{cap_address}
 use Rattle.def_words.specs.Permissions.{has, execute}
 use Rattle.def_words.specs.Seals.{cap_seal, is_unsealed, is_jump_taken, posture_through}
 use Rattle.def_words.specs.Capability.{raised, with_address}
-use Rattle.def_words.specs.Jumped.{opened, linked}
+use Rattle.def_words.specs.Jumped.{opened, return_link}
 use Rattle.def_instr.specs.declared.Instr.{Instr}
 use Rattle.def_instr.specs.declared.Instr.TheVariants.{Jal, CJalr, Beq, Bne, Blt, Bge, Bltu, Bgeu}
 use Rattle.def_instr.specs.Results.{signed}
@@ -35,8 +35,8 @@ is_taken (Bgeu rs1 rs2 offset) x y = not (nat_lt x y)
 is_taken _ x y = false
 
 -- the target: the sum modulo 2^32
-abbrev pub target_at : Cap → ℕ → ℕ
-target_at pcc offset = (cap_address pcc + offset) % 2 ^ 32
+abbrev pub jump_target : Cap → ℕ → ℕ
+jump_target pcc offset = (cap_address pcc + offset) % 2 ^ 32
 
 abbrev pub target_checks : ℕ → List Check
 target_checks target = (target % 4 == 0, plain_trap MISALIGNED_FETCH) ∷ []
@@ -52,7 +52,7 @@ passed_over pcc posture = Ok (record { link = None; pcc = raised pcc 4; posture 
 
 abbrev pub branched : Bool → Cap → Posture → ℕ → Result Flowed Trap
 branched taken pcc posture offset =
-    if taken then jumped_to pcc posture (target_at pcc offset) None else passed_over pcc posture
+    if taken then jumped_to pcc posture (jump_target pcc offset) None else passed_over pcc posture
 
 -- ---- the register jump
 
@@ -75,7 +75,7 @@ register_jumped to at x n pcc posture named =
     unless
     (first_failed (register_jump_checks to at x n))
     (record {
-      link = Some (linked pcc posture);
+      link = Some (return_link pcc posture);
       pcc = with_address (opened x) (register_target x n);
       posture = posture_through posture (cap_seal x) named x.shadow.source;
     })
@@ -85,7 +85,7 @@ register_jumped to at x n pcc posture named =
 -- x and y are the values of the registers; a write of the link to c0 is dropped
 unfoldable pub flow_result : Instr → Cap → Cap → Cap → Posture → ℕ → Result Flowed Trap
 flow_result (Jal rd offset) x y pcc posture named =
-    jumped_to pcc posture (target_at pcc offset) (Some (linked pcc posture))
+    jumped_to pcc posture (jump_target pcc offset) (Some (return_link pcc posture))
 flow_result (CJalr rd rs1 n) x y pcc posture named = register_jumped rd rs1 x n pcc posture named
 flow_result (Beq rs1 rs2 offset) x y pcc posture named =
     branched (is_taken (Beq rs1 rs2 offset) (cap_address x) (cap_address y)) pcc posture offset

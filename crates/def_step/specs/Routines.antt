@@ -132,8 +132,8 @@ wait i s t =
     (cap_address (register (thread s t) 11))))
 
 -- so many threads are woken, and the answer is how many
-abbrev pub wakes : State → ℕ → ℕ → ℕ → State
-wakes s t address most =
+abbrev pub threads_woken : State → ℕ → ℕ → ℕ → State
+threads_woken s t address most =
     let after = answers s t (integer (woken_count address most (statuses_of s.threads))) in
     record after {
       threads = with_statuses after.threads (woken address most (statuses_of s.threads));
@@ -144,6 +144,6 @@ wake i s t =
     checked (return_checks (register (thread s t) 1))
     (checked (word_checks i s (register (thread s t) 10))
     (Leaves
-    (wakes s t (cap_address (register (thread s t) 10))
+    (threads_woken s t (cap_address (register (thread s t) 10))
     (cap_address (register (thread s t) 11)))
     None))

@@ -61,8 +61,8 @@ as_token tokens key (Some r) = if list_any (is_row_of key r.number) tokens then 
 abbrev pub key_of : State → Cap → Option Object
 key_of s c = as_key s.tokens (sealed_object s.objects c)
 
-abbrev pub token_of : State → ℕ → Cap → Option Object
-token_of s key c = as_token s.tokens key (sealed_object s.objects c)
+abbrev pub token_object : State → ℕ → Cap → Option Object
+token_object s key c = as_token s.tokens key (sealed_object s.objects c)
 
 -- ---- 9 and 10, a key and a token
 
@@ -105,7 +105,7 @@ abbrev pub token_open : State → ℕ → Ran
 token_open s t =
     checked (return_checks (register (thread s t) 1))
     (by_key s t (key_of s (register (thread s t) 10))
-    (λ key. opens s t (register (thread s t) 11) (token_of s key (register (thread s t) 11))))
+    (λ key. opens s t (register (thread s t) 11) (token_object s key (register (thread s t) 11))))
 
 -- ---- 12, token_free
 
@@ -117,4 +117,4 @@ frees_token i s t quota (Some r) =
 
 abbrev pub token_free : Image → State → ℕ → Ran
 token_free i s t = by_quota s t (by_key s t (key_of s (register (thread s t) 11))
-    (λ key. frees_token i s t (quota_in s t) (token_of s key (register (thread s t) 12))))
+    (λ key. frees_token i s t (quota_in s t) (token_object s key (register (thread s t) 12))))

@@ -26,8 +26,8 @@ abbrev pub value_digits : ℕ → ℕ
 value_digits width = 2 * min width 8
 
 -- a number after a word
-abbrev pub after : List ℕ → ℕ → List ℕ
-after word n = word ++ decimal n
+abbrev pub word_then_number : List ℕ → ℕ → List ℕ
+word_then_number word n = word ++ decimal n
 
 -- an address after a space
 abbrev pub after_space : ℕ → ℕ → List ℕ
@@ -37,31 +37,31 @@ after_space digits n = 32 ∷ hexadecimal digits n
 
 -- the step and the thread after the deed's word, then the actor
 abbrev pub who : ℕ → List ℕ → ℕ → ℕ → List ℕ
-who step word thread actor = decimal step ++ (after word thread ++ after (codes " c") actor)
+who step word thread actor = decimal step ++ (word_then_number word thread ++ word_then_number (codes " c") actor)
 
 -- who, and by which entry
 abbrev pub by_entry : ℕ → List ℕ → Deed → List ℕ
-by_entry step word d = who step word d.thread d.actor ++ after (codes " e") d.entry
+by_entry step word d = who step word d.thread d.actor ++ word_then_number (codes " e") d.entry
 
 -- an access of a device
 abbrev pub access_text : ℕ → ℕ → ℕ → List ℕ
 access_text address width value =
-    after_space 8 address ++ (after (codes " ") width ++ after_space (value_digits width) value)
+    after_space 8 address ++ (word_then_number (codes " ") width ++ after_space (value_digits width) value)
 
 -- an object of the heap, and the quota's charges after the deed
 abbrev pub sizes_text : ℕ → ℕ → List ℕ
-sizes_text length live = after (codes " ") length ++ after (codes " ") live
+sizes_text length live = word_then_number (codes " ") length ++ word_then_number (codes " ") live
 
 abbrev pub object_text : ℕ → ℕ → ℕ → ℕ → List ℕ
 object_text number base length live =
-    after (codes " n") number ++ (after_space 8 base ++ sizes_text length live)
+    word_then_number (codes " n") number ++ (after_space 8 base ++ sizes_text length live)
 
 abbrev pub trap_text : ℕ → ℕ → ℕ → List ℕ
 trap_text cause code register =
-    after (codes " ") cause ++ (after (codes " ") code ++ after (codes " ") register)
+    word_then_number (codes " ") cause ++ (word_then_number (codes " ") code ++ word_then_number (codes " ") register)
 
 abbrev pub act_text : ℕ → Deed → Act → List ℕ
-act_text step d (Call export) = by_entry step (codes " call t") d ++ after (codes " e") export
+act_text step d (Call export) = by_entry step (codes " call t") d ++ word_then_number (codes " e") export
 act_text step d (Load address width value) =
     by_entry step (codes " load t") d ++ access_text address width value
 act_text step d (Store address width value) =
@@ -79,7 +79,7 @@ deed_line step d = act_text step d d.act ++ 10 ∷ []
 -- the begin of a span with interrupts off, by an export
 unfoldable pub off_line : ℕ → Owned → List ℕ
 off_line step o =
-    (who step (codes " off t") o.thread o.actor ++ after (codes " e") o.export) ++ 10 ∷ []
+    (who step (codes " off t") o.thread o.actor ++ word_then_number (codes " e") o.export) ++ 10 ∷ []
 
 abbrev pub deed_part : ℕ → Option Deed → List ℕ
 deed_part step None = []
@@ -101,16 +101,16 @@ end_text Finished = codes "end finished steps "
 end_text Idle = codes "end idle steps "
 
 abbrev pub events_text : Totals → List ℕ
-events_text t = after (end_text t.end) t.steps ++ after (codes " ticks ") t.ticks
+events_text t = word_then_number (end_text t.end) t.steps ++ word_then_number (codes " ticks ") t.ticks
 
 abbrev pub rest_text : Totals → List ℕ
 rest_text t =
-    after (codes " allocations ") t.allocations
-    ++ (after (codes " frees ") t.frees ++ after (codes " traps ") t.traps)
+    word_then_number (codes " allocations ") t.allocations
+    ++ (word_then_number (codes " frees ") t.frees ++ word_then_number (codes " traps ") t.traps)
 
 abbrev pub deeds_text : Totals → List ℕ
 deeds_text t =
-    after (codes " calls ") t.calls ++ (after (codes " devices ") t.devices ++ rest_text t)
+    word_then_number (codes " calls ") t.calls ++ (word_then_number (codes " devices ") t.devices ++ rest_text t)
 
 unfoldable pub summary_line : Totals → List ℕ
 summary_line t = (events_text t ++ deeds_text t) ++ 10 ∷ []

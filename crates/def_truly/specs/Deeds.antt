@@ -21,7 +21,7 @@ use Rattle.def_step.specs.declared.Event.TheVariants.{Step}
 use Rattle.def_step.specs.declared.Next.TheVariants.{Instruction}
 use Rattle.def_step.specs.Accesses.{access_of, device_value, is_ram, stored_value}
 use Rattle.def_step.specs.Checks.{first_failed}
-use Rattle.def_step.specs.Devices.{base_of, device, found, left_by_read, left_by_write, value_read}
+use Rattle.def_step.specs.Devices.{registers_base, device, found, left_by_read, left_by_write, value_read}
 use Rattle.def_step.specs.Events.{happens}
 use Rattle.def_step.specs.Instructions.{fetch_checks, next_at, space_of}
 use Rattle.def_step.specs.Operands.{class_of, operands_of}
@@ -48,7 +48,7 @@ pub record ByRunning (s : State) (d : Deed) : Type 0 where
 -- Thread t may fetch, and at its program counter stands an access whose checks pass. The entry is
 -- the root of the capability that it goes through, address and width are those of the access,
 -- which doesn't lie in RAM, and a device has the address: the nth.
-pub record IsAccess (b : Platform) (s : State) (t entry address width : ℕ)
+pub record IsAccessDeed (b : Platform) (s : State) (t entry address width : ℕ)
     (k : Instr) (n : ℕ) : Type 0 where
   pub fetched : first_failed (fetch_checks (thread s t).pcc) ≡ None
   pub stands : next_at (space_of b s) (cap_address (thread s t).pcc) ≡ Instruction k
@@ -66,16 +66,16 @@ pub record IsLoadTold (b : Platform) (s : State) (t entry address width value : 
     (devices : List DeviceState) (registers : List Cap) : Type 0 where
   pub instruction : Instr
   pub number : ℕ
-  pub access : IsAccess b s t entry address width instruction number
+  pub access : IsAccessDeed b s t entry address width instruction number
   pub loads : (access_of instruction).loads ≡ true
   pub value_is : value
-      ≡ value_read (device s.devices number) (address - base_of b.bases number) width s.time
+      ≡ value_read (device s.devices number) (address - registers_base b.bases number) width s.time
   pub gives : registers
       ≡ written (thread s t).registers (operands_of instruction).to
       (device_value (access_of instruction) (authority_of s t instruction) value)
   pub left : devices
       ≡ slice_set s.devices number
-      (left_by_read (device s.devices number) (address - base_of b.bases number) width)
+      (left_by_read (device s.devices number) (address - registers_base b.bases number) width)
 
 -- It stores, the value is what the second register holds, and the device is left as that writing
 -- leaves it.
@@ -83,12 +83,12 @@ pub record IsStoreTold (b : Platform) (s : State) (t entry address width value :
     (devices : List DeviceState) : Type 0 where
   pub instruction : Instr
   pub number : ℕ
-  pub access : IsAccess b s t entry address width instruction number
+  pub access : IsAccessDeed b s t entry address width instruction number
   pub stores : (access_of instruction).loads ≡ false
   pub value_is : value ≡ stored_value (access_of instruction) (value_of s t instruction)
   pub left : devices
       ≡ slice_set s.devices number
-      (left_by_write (device s.devices number) (address - base_of b.bases number) width value)
+      (left_by_write (device s.devices number) (address - registers_base b.bases number) width value)
 
 -- ---- calls
 

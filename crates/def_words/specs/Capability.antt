@@ -26,7 +26,7 @@ cap_of tagged word from = record {
 abbrev pub IsSettled : Cap → Type 0
 IsSettled c = c.tag ≡ false → c.shadow ≡ nowhere
 
--- an integer result: untagged, with high word 0
+-- the capability that an integer is where a register holds it: untagged, with high word 0
 abbrev pub integer : ℕ → Cap
 integer n = cap_of false n nowhere
 

@@ -44,8 +44,8 @@ pub record IsRoot (high : ℕ) : Type 0 where
   pub unsealed : seal_field high ≡ 0
 
 -- a root's high word spells exactly this set where it is asked for
-abbrev pub Spells : ℕ → ℕ → Type 0
-Spells high set = normal_set (bit_and (unpacked (permission_bits high)) set) ≡ set
+abbrev pub SpellsPermissions : ℕ → ℕ → Type 0
+SpellsPermissions high set = normal_set (bit_and (unpacked (permission_bits high)) set) ≡ set
 
 -- a type that these rights have a field for
 abbrev pub KindFits : ℕ → ℕ → Type 0

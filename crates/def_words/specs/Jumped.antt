@@ -12,8 +12,8 @@ opened c = cap_of c.tag (word_sealed c 0) (record { root = c.shadow.root; source
 -- The link of a jump: the program counter capability after the instruction, as a return sentry that gives
 -- back the posture before the jump. It has the program counter capability's root and, where interrupts were
 -- off, the posture's source.
-abbrev pub linked : Cap → Posture → Cap
-linked pcc before = cap_of
+abbrev pub return_link : Cap → Posture → Cap
+return_link pcc before = cap_of
     (raised pcc 4).tag
     (word_sealed (raised pcc 4) (if before.off then RETURN_DISABLE else RETURN_ENABLE))
     (record { root = pcc.shadow.root; source = if before.off then before.source else 0 })

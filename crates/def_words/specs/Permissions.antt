@@ -60,13 +60,13 @@ gathered passes (suc n) = gathered passes n + (if passes n then 2 ^ n else 0)
 unfoldable pub set_where : (ℕ → Bool) → ℕ
 set_where passes = gathered passes 12
 
-abbrev pub among : ℕ → List ℕ → Bool
-among p [] = false
-among p (q ∷ qs) = (p == q) || among p qs
+abbrev pub is_among : ℕ → List ℕ → Bool
+is_among p [] = false
+is_among p (q ∷ qs) = (p == q) || is_among p qs
 
 -- the set without these
 unfoldable pub removed : ℕ → List ℕ → ℕ
-removed set ps = set_where (λ p. bit set p && not (among p ps))
+removed set ps = set_where (λ p. bit set p && not (is_among p ps))
 
 -- what two sets have in common is the set `bit_and a b`; one is within another by inclusion
 abbrev pub Within : ℕ → ℕ → Type 0
@@ -145,20 +145,20 @@ abbrev pub has_one : ℕ → List ℕ → Bool
 has_one set [] = false
 has_one set (p ∷ ps) = bit set p || has_one set ps
 
-abbrev pub is_taken : ℕ → Form → Bool
-is_taken set form =
+abbrev pub is_form_taken : ℕ → Form → Bool
+is_form_taken set form =
     has_each set form.needed && (has_one set form.one_of || (length form.one_of == 0))
 
 abbrev pub first_taken : ℕ → List Form → Form
 first_taken set [] = sealing_form
-first_taken set (form ∷ rest) = if is_taken set form then form else first_taken set rest
+first_taken set (form ∷ rest) = if is_form_taken set form then form else first_taken set rest
 
 -- the first form whose condition holds
 unfoldable pub form_of : ℕ → Form
 form_of set = first_taken set forms
 
 abbrev pub holds : Form → ℕ → Bool
-holds form p = (p == global) || among p form.needed || among p form.spelled
+holds form p = (p == global) || is_among p form.needed || is_among p form.spelled
 
 -- the set less what its form can't hold
 unfoldable pub normal_set : ℕ → ℕ
@@ -193,7 +193,7 @@ is_flagged bits p (q ∷ qs) = ((p == q) && bit bits (length qs)) || is_flagged 
 
 abbrev pub is_told : ℕ → Form → ℕ → Bool
 is_told bits form p =
-    ((p == global) && bit bits 5) || among p form.needed || is_flagged bits p form.spelled
+    ((p == global) && bit bits 5) || is_among p form.needed || is_flagged bits p form.spelled
 
 -- the set that six bits spell
 unfoldable pub unpacked : ℕ → ℕ

@@ -15,7 +15,7 @@ use Rattle.def_confined.specs.Telling.{AllLicensed}
 use Rattle.def_image.specs.Accepted.{IsFaultless}
 use Rattle.def_image.specs.Parts.{PartsRow}
 use Rattle.def_image.specs.Sound.{Sound}
-use Rattle.def_policy.specs.Breaking.{PolicyHolds, KeepsRule, is_listed}
+use Rattle.def_policy.specs.Breaking.{PolicyHolds, KeepsRule, lists_owner}
 use Rattle.def_policy.specs.Denials.{AllDenied}
 use Rattle.def_policy.specs.Rulings.{Ruling}
 use Rattle.def_policy.specs.declared.Resource.TheVariants.{Device}
@@ -36,13 +36,13 @@ use Rattle.law_policy.proofs.Kept.{only_held}
 
 module _ (e : Listed) (r : Ruling) (device : ℕ) (are : AreListed e r kind.Device device) where
   by_row : (n : ℕ) (g : Gate) (o : Option Entry) → slice_get e.rows n ≡ o → (listed_root o g).origin ≡ Listing kind.Device → (listed_root o g).of ≡ device
-      → is_listed r.owners (listed_root o g).owner ≡ true
+      → lists_owner r.owners (listed_root o g).owner ≡ true
   by_row n g None there origin of_is = absurd (let clash : Unknown ≡ Listing kind.Device = origin in cc)
   by_row n g (Some x) there origin of_is =
       let kind_is : x.kind ≡ kind.Device = (let same : Listing x.kind ≡ Listing kind.Device = origin in cc) in
       are n x there kind_is of_is
 
-  by_root : (number : ℕ) → (root_of e number).origin ≡ Listing kind.Device → (root_of e number).of ≡ device → is_listed r.owners (root_of e number).owner ≡ true
+  by_root : (number : ℕ) → (root_of e number).origin ≡ Listing kind.Device → (root_of e number).of ≡ device → lists_owner r.owners (root_of e number).owner ≡ true
   unfolding root_of
   by_root zero origin of_is = absurd (let clash : TrustedPart ≡ Listing kind.Device = origin in cc)
   by_root (suc n) origin of_is = by_row n (gate_for e.gates (suc n)) (slice_get e.rows n) refl origin of_is

@@ -6,7 +6,7 @@ use Rattle.ct_entry.specs.declared.rows.Gate.{Gate}
 use Rattle.ct_entry.specs.declared.rows.Kind.{Kind}
 use Rattle.ct_entry.specs.declared.rows.Kind.TheVariants as kind
 use Rattle.ct_entry.specs.declared.rows.Owner.{Owner}
-use Rattle.def_boot.specs.Entries.{slot_row}
+use Rattle.def_boot.specs.Entries.{slot_entry}
 use Rattle.def_boot.specs.Gates.{entries_of}
 use Rattle.def_image.specs.declared.ImportRow.{ImportRow}
 use Rattle.def_image.specs.declared.SlotKind.{SlotKind}
@@ -42,12 +42,12 @@ module _ (p : PartsRow) (s : Sound p) where
   base_is : (n : ℕ) (d : DeviceRow) → slice_get p.devices n ≡ Some d → device_base p n ≡ d.base
   base_is n d there = ap (λ o. unwrap_or (option_map (λ (d : DeviceRow). d.base) o) 0) there
 
-  by_slot : (o : Owner) (at : ℕ) (r : ImportRow) (k : SlotKind) → Names p r k → IsOfDevice (listed_root (Some (slot_row p o at r k)) no_gate)
-      → IsImport p (listed_root (Some (slot_row p o at r k)) no_gate)
+  by_slot : (o : Owner) (at : ℕ) (r : ImportRow) (k : SlotKind) → Names p r k → IsOfDevice (listed_root (Some (slot_entry p o at r k)) no_gate)
+      → IsImport p (listed_root (Some (slot_entry p o at r k)) no_gate)
   by_slot o at r slot.Device names is =
       let same = base_is r.first names.0 names.1 in
       record { row = names.0; there = names.1; starts = same; ends = ap (λ b. b + DEVICE_SIZE) same }
-  by_slot o at r k names is = absurd (no_device (slot_row p o at r k).kind refl is)
+  by_slot o at r k names is = absurd (no_device (slot_entry p o at r k).kind refl is)
 
   -- ---- by number
 

@@ -7,7 +7,7 @@ use Rattle.ct_entry.specs.Listed.{DeviceRow}
 use Rattle.def_texts.specs.Names.{among, is_name}
 use Rattle.def_image.specs.Accepted.{IsFaultless}
 use Rattle.def_image.specs.Checks.{check}
-use Rattle.def_image.specs.Limits.{device_limits, device_name, name_checks}
+use Rattle.def_image.specs.Limits.{device_limits, raw_device_name, name_checks}
 use Rattle.def_image.specs.Parts.{PartsRow}
 use Rattle.def_image.specs.Profile.{outside}
 use Rattle.def_image.specs.Sizes.{devices_at}
@@ -23,10 +23,10 @@ use Rattle.law_lists.proofs.Places.{any_not}
 
 -- a device's name, as its field gives it back
 named : DeviceRow → List ℕ
-named d = device_name (raw_device d)
+named d = raw_device_name (raw_device d)
 
 names_before : PartsRow → ℕ → List (List ℕ)
-names_before p j = map device_name (map raw_device (take j p.devices))
+names_before p j = map raw_device_name (map raw_device (take j p.devices))
 
 module _ (p : PartsRow) (f : IsFaultless p) where
   none_before : (j : ℕ) (e : DeviceRow) → slice_get p.devices j ≡ Some e → among (named e) (names_before p j) ≡ false
@@ -44,9 +44,9 @@ module _ (p : PartsRow) (f : IsFaultless p) where
   no_name_twice : (i j : ℕ) (d e : DeviceRow) → slice_get p.devices i ≡ Some d → slice_get p.devices j ≡ Some e → i < j → d.name ≡ e.name → ⊥
   unfolding named names_before
   no_name_twice i j d e at_i at_j less same =
-      let there = map_at device_name _ i (raw_device d) (map_at raw_device _ i d (among_taken p.devices i j d less at_i)) in
+      let there = map_at raw_device_name _ i (raw_device d) (map_at raw_device _ i d (among_taken p.devices i j d less at_i)) in
       let other : bytes_eq (named e) (named d) ≡ false = any_not (bytes_eq (named e)) (names_before p j) i (named d) (none_before j e at_j) there in
-      let alike : named e ≡ named d = ap (λ n. device_name (record { name = name_field n; kind = 0; base = 0 })) (sym same) in
+      let alike : named e ≡ named d = ap (λ n. raw_device_name (record { name = name_field n; kind = 0; base = 0 })) (sym same) in
       let equal : bytes_eq (named e) (named d) ≡ true = (bytes_eq-Decides (named e) (named d)).1 alike in
       let clash : true ≡ false = sym equal ∙ other in
       cc

@@ -26,7 +26,7 @@ use Rattle.def_machine.specs.Platform.{Platform}
 use Rattle.def_machine.specs.Image.{root}
 use Rattle.def_machine.specs.Objects.{charges}
 use Rattle.def_machine.specs.State.{Object, State, register, thread}
-use Rattle.def_policy.specs.Breaking.{KeepsApart, KeepsRule, is_listed}
+use Rattle.def_policy.specs.Breaking.{KeepsApart, KeepsRule, lists_owner}
 use Rattle.def_policy.specs.Rulings.{Ruling}
 use Rattle.def_policy.specs.declared.Resource.{Resource}
 use Rattle.def_policy.specs.declared.Resource.TheVariants.{Call, Device, Service, Shared}
@@ -61,26 +61,26 @@ licensed_so e Q so (h ∷ hs) all = (so h all.0, licensed_so e Q so hs all.1)
 
 module _ (e : Listed) (r : Ruling) (held : Kind) (number : ℕ) (are : AreListed e r held number) where
   by_row : (n : ℕ) (g : Gate) (o : Option Entry) → slice_get e.rows n ≡ o → (listed_root o g).origin ≡ Listing held → (listed_root o g).of ≡ number
-      → is_listed r.owners (listed_root o g).owner ≡ true
+      → lists_owner r.owners (listed_root o g).owner ≡ true
   by_row n g None there origin of_is = absurd (let clash : Unknown ≡ Listing held = origin in cc)
   by_row n g (Some x) there origin of_is =
       let kind_is : x.kind ≡ held = (let same : Listing x.kind ≡ Listing held = origin in cc) in
       are n x there kind_is of_is
 
-  root_listed : (m : ℕ) → (root_of e m).origin ≡ Listing held → (root_of e m).of ≡ number → is_listed r.owners (root_of e m).owner ≡ true
+  root_listed : (m : ℕ) → (root_of e m).origin ≡ Listing held → (root_of e m).of ≡ number → lists_owner r.owners (root_of e m).owner ≡ true
   unfolding root_of
   root_listed zero origin of_is = absurd (let clash : TrustedPart ≡ Listing held = origin in cc)
   root_listed (suc n) origin of_is = by_row n (gate_for e.gates (suc n)) (slice_get e.rows n) refl origin of_is
 
 module _ (e : Listed) (r : Ruling) (are : AreDisabledListed e r) where
   off_row : (n : ℕ) (o : Option Entry) → slice_get e.rows n ≡ o → (listed_root o (gate_for e.gates (suc n))).origin ≡ Listing kind.Export
-      → (listed_root o (gate_for e.gates (suc n))).disabled ≡ true → is_listed r.owners (listed_root o (gate_for e.gates (suc n))).owner ≡ true
+      → (listed_root o (gate_for e.gates (suc n))).disabled ≡ true → lists_owner r.owners (listed_root o (gate_for e.gates (suc n))).owner ≡ true
   off_row n None there origin off = absurd (let clash : Unknown ≡ Listing kind.Export = origin in cc)
   off_row n (Some x) there origin off =
       let kind_is : x.kind ≡ kind.Export = (let same : Listing x.kind ≡ Listing kind.Export = origin in cc) in
       are n x there kind_is off
 
-  off_listed : (m : ℕ) → (root_of e m).origin ≡ Listing kind.Export → (root_of e m).disabled ≡ true → is_listed r.owners (root_of e m).owner ≡ true
+  off_listed : (m : ℕ) → (root_of e m).origin ≡ Listing kind.Export → (root_of e m).disabled ≡ true → lists_owner r.owners (root_of e m).owner ≡ true
   unfolding root_of
   off_listed zero origin off = absurd (let clash : TrustedPart ≡ Listing kind.Export = origin in cc)
   off_listed (suc n) origin off = off_row n (slice_get e.rows n) refl origin off

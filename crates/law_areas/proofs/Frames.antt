@@ -3,7 +3,7 @@ use Rattle.std.proofs.Common.{ℕ, zero, suc, ◌≡◌, ◌+◌, ◌*◌, ◌/�
 use Rattle.def_words.specs.declared.Cap.{Cap}
 use Rattle.def_memory.specs.declared.Granule.{Granule}
 use Rattle.def_memory.specs.Granules.{plain, cap_in, holding_all}
-use Rattle.def_areas.specs.Areas.{low_word, high_word, frame_place, frame_at, frames_from, frames_in, frame_words, mark_word, caller_actor, caller_top, caller_handling}
+use Rattle.def_areas.specs.Areas.{low_half, high_half, frame_place, frame_at, frames_from, frames_in, frame_words, mark_word, caller_actor, caller_top, caller_handling}
 use Rattle.law_areas.proofs.Writes.{all_at, all_other}
 
 from_same : (gs hs : List Granule) (a actor top : ℕ) (handling : Bool) (depth : ℕ)
@@ -56,7 +56,7 @@ halves_low x y lt = omega (arith, lt)
 halves_high : (x y : ℕ) → x < 2 ^ 32 → (x + y * 2 ^ 32) / 2 ^ 32 ≡ y
 halves_high x y lt = omega (arith, lt)
 
-mark_back : (b : Bool) → (low_word (plain (mark_word b)) == 1) ≡ b
+mark_back : (b : Bool) → (low_half (plain (mark_word b)) == 1) ≡ b
 mark_back true = refl
 mark_back false = refl
 
@@ -80,10 +80,10 @@ frame_written gs a actor top handling depth own export high c1 c2 c3 c8 c9 small
     let e5 : cap_in hs (k + 5) ≡ plain (export + actor * 2 ^ 32) = all_at gs k 5 cs (omega arith) room in
     let e6 : cap_in hs (k + 6) ≡ plain top = all_at gs k 6 cs (omega arith) room in
     let e7 : cap_in hs (k + 7) ≡ plain (mark_word handling) = all_at gs k 7 cs (omega arith) room in
-    let w1 : low_word (cap_in hs (k + 5)) ≡ export = ap low_word e5 ∙ halves_low export actor small in
-    let w2 : high_word (cap_in hs (k + 5)) ≡ actor = ap high_word e5 ∙ halves_high export actor small in
-    let w3 : low_word (cap_in hs (k + 6)) ≡ top = ap low_word e6 ∙ (let is : top % 2 ^ 32 ≡ top = omega (arith, low) in is) in
-    let w4 : (low_word (cap_in hs (k + 7)) == 1) ≡ handling = ap (λ c. low_word c == 1) e7 ∙ mark_back handling in
+    let w1 : low_half (cap_in hs (k + 5)) ≡ export = ap low_half e5 ∙ halves_low export actor small in
+    let w2 : high_half (cap_in hs (k + 5)) ≡ actor = ap high_half e5 ∙ halves_high export actor small in
+    let w3 : low_half (cap_in hs (k + 6)) ≡ top = ap low_half e6 ∙ (let is : top % 2 ^ 32 ≡ top = omega (arith, low) in is) in
+    let w4 : (low_half (cap_in hs (k + 7)) == 1) ≡ handling = ap (λ c. low_half c == 1) e7 ∙ mark_back handling in
     let rest : frames_from hs a actor top handling depth ≡ frames_from gs a actor top handling depth =
     from_same gs hs a actor top handling depth (λ m lo hi. ap (λ (g : Granule). g.cap) (all_other gs k m cs (inl hi))) in
     rw (e0, e1, e2, e3, e4, w1, w2, w3, w4, rest) refl

@@ -11,7 +11,7 @@ use Rattle.def_source.specs.declared.parts.Token.{Token}
 use Rattle.def_source.specs.declared.parts.Token.TheVariants as token
 use Rattle.def_source.specs.declared.words.Head.{Head}
 use Rattle.def_source.specs.declared.words.Directive.{Directive}
-use Rattle.def_source.specs.Source.{Name, Row, Statements, is_ascii, before_comment, pieces, token_of, row_of, line_tokens, label_of, after_label, head_of, directive_of, form_of, directive_form, in_section, numbers_fit, registers_exist, lawful_or_fault, formed, headed, directed, statement_of, row_line, tokens_line, line_of, lines_of, line_statements, section_after, result_map, with_front, goes_on, program_from, program_of}
+use Rattle.def_source.specs.Source.{Name, Row, Statements, is_ascii, before_comment, pieces, token_of, row_of, line_tokens, label_of, after_label, statement_head, directive_of, statement_form, directive_form, in_section, numbers_fit, registers_exist, lawful_or_fault, formed, headed, directed, statement_of, row_line, tokens_line, line_of, lines_of, line_statements, section_after, result_map, with_front, line_then, program_from, program_of}
 use Rattle.def_assembly.specs.Faults.{HasUnread, IsUnread, is_unknown, is_known, form_in, PartBreaks, RowBreaks, LineBreaks, IsLineFault, section_behind, section_in, NoneBreaks, IsFirstFault, IsSourceFault}
 
 -- a number that holds, and is the least that does
@@ -117,7 +117,7 @@ unfolding Says answer
 word_says s form None = no_word s form
 word_says s form (Some d) = formed_says s form d (form d) refl
 
-head_answer : (s : Section) (ts : Row) (o : Option Head) → answer s (λ h. form_of h ts) o ≡ headed s ts o
+head_answer : (s : Section) (ts : Row) (o : Option Head) → answer s (λ h. statement_form h ts) o ≡ headed s ts o
 unfolding answer
 head_answer s ts None = refl
 head_answer s ts (Some h) = refl
@@ -146,7 +146,7 @@ empty_says s m (inr (inr h)) = let no : None ≡ Some h.0 = h.1 in cc
 row_says : (s : Section) (ts : Row) → Says (RowBreaks s ts) (statement_of s ts)
 unfolding Says Word
 row_says s [] = empty_says s
-row_says s (token.Name n ∷ ts) = subst (Says (RowBreaks s (token.Name n ∷ ts))) (head_answer s ts (head_of n)) (word_says s (λ h. form_of h ts) (head_of n))
+row_says s (token.Name n ∷ ts) = subst (Says (RowBreaks s (token.Name n ∷ ts))) (head_answer s ts (statement_head n)) (word_says s (λ h. statement_form h ts) (statement_head n))
 row_says s (token.Directive n ∷ ts) = subst (Says (RowBreaks s (token.Directive n ∷ ts))) (directive_answer s ts (directive_of n)) (word_says s (λ d. directive_form d ts) (directive_of n))
 row_says s (token.Number n ∷ ts) = other_says s (token.Number n ∷ ts) refl refl refl
 row_says s (token.Comma ∷ ts) = other_says s (token.Comma ∷ ts) refl refl refl
@@ -287,7 +287,7 @@ lines_first s from (l ∷ ls) e h = by_line s from l ls e (line_of s l) refl (λ
     by_rest s from l ls e x (Ok ss) here more h = cc h
     by_rest s from l ls e x (Err f) here more h = let same : f ≡ e = cc h in later s from l ls x e here (subst (First (section_after s x.part) (from + 1) ls) same (more f refl))
 
-    by_line : (s : Section) (from : ℕ) (l : List ℕ) (ls : List (List ℕ)) (e : AsmFault) (r : Result (Line Name) ℕ) → line_of s l ≡ r → (rest : Section → Result Statements AsmFault) → ((t : Section) (f : AsmFault) → rest t ≡ Err f → First t (from + 1) ls f) → goes_on from s r rest ≡ Err e → First s from (l ∷ ls) e
+    by_line : (s : Section) (from : ℕ) (l : List ℕ) (ls : List (List ℕ)) (e : AsmFault) (r : Result (Line Name) ℕ) → line_of s l ≡ r → (rest : Section → Result Statements AsmFault) → ((t : Section) (f : AsmFault) → rest t ≡ Err f → First t (from + 1) ls f) → line_then from s r rest ≡ Err e → First s from (l ∷ ls) e
     by_line s from l ls e (Err n) here rest more h = let same : At n from ≡ e = cc h in (n, from, sym same, here_first s from l ls n here)
     by_line s from l ls e (Ok x) here rest more h = by_rest s from l ls e x (rest (section_after s x.part)) here (more (section_after s x.part)) h
 
@@ -305,7 +305,7 @@ lines_clean s from (l ∷ ls) ss h = by_line s from l ls ss (line_of s l) refl (
     by_rest s from l ls ss x (Err f) here more h = cc h
     by_rest s from l ls ss x (Ok f) here more h = none_before s l ls x (length ls) here (more f refl)
 
-    by_line : (s : Section) (from : ℕ) (l : List ℕ) (ls : List (List ℕ)) (ss : Statements) (r : Result (Line Name) ℕ) → line_of s l ≡ r → (rest : Section → Result Statements AsmFault) → ((t : Section) (f : Statements) → rest t ≡ Ok f → NoneBreaks t ls (length ls)) → goes_on from s r rest ≡ Ok ss → NoneBreaks s (l ∷ ls) (length (l ∷ ls))
+    by_line : (s : Section) (from : ℕ) (l : List ℕ) (ls : List (List ℕ)) (ss : Statements) (r : Result (Line Name) ℕ) → line_of s l ≡ r → (rest : Section → Result Statements AsmFault) → ((t : Section) (f : Statements) → rest t ≡ Ok f → NoneBreaks t ls (length ls)) → line_then from s r rest ≡ Ok ss → NoneBreaks s (l ∷ ls) (length (l ∷ ls))
     by_line s from l ls ss (Err n) here rest more h = cc h
     by_line s from l ls ss (Ok x) here rest more h = by_rest s from l ls ss x (rest (section_after s x.part)) here (more (section_after s x.part)) h
 

@@ -9,8 +9,8 @@ use Rattle.def_source.specs.declared.parts.Section.TheVariants as section
 use Rattle.def_source.specs.declared.parts.Statement.{Statement}
 use Rattle.def_source.specs.Source.{Name, Statements, section_after}
 use Rattle.def_object.specs.declared.Place.{Place}
-use Rattle.def_object.specs.Object.{Labels, size_at, offset, advanced, start, label_in, number_word, is_short, upper_part, rest_part, padding, same_section, instruction_bytes, bytes_at, section_bytes, bytes_from, text_of, initial_of}
-use Rattle.def_assembly.specs.Sums.{section_past, section_at, total, AreSizes}
+use Rattle.def_object.specs.Object.{Labels, size_at, offset, place_after, start, label_in, number_word, is_short, upper_part, rest_part, padding, same_section, instruction_bytes, bytes_at, section_bytes, bytes_from, text_of, initial_of}
+use Rattle.def_assembly.specs.Sums.{section_past, section_at, total_before, AreSizes}
 
 -- ---- one statement
 
@@ -18,7 +18,7 @@ use Rattle.def_assembly.specs.Sums.{section_past, section_at, total, AreSizes}
 unfoldable pub at_place : Section → ℕ → ℕ → Place
 at_place s t i = record { section = s; text = t; initial = i }
 
-pub after_section : (s : Section) (t i : ℕ) (q : Part Name) → (advanced (at_place s t i) q).section ≡ section_after s (Some q)
+pub after_section : (s : Section) (t i : ℕ) (q : Part Name) → (place_after (at_place s t i) q).section ≡ section_after s (Some q)
 unfolding at_place
 after_section section.Text t i part.Text = refl
 after_section section.Text t i part.Data = refl
@@ -33,7 +33,7 @@ filled section.Text p = p.text
 filled section.Data p = p.initial
 
 -- how much longer a statement makes a section
-filled_on : (w s : Section) (t i : ℕ) (q : Part Name) → filled w (advanced (at_place s t i) q) ≡ filled w (at_place s t i) + cond (same_section s w) (size_at q (offset (at_place s t i))) 0
+filled_on : (w s : Section) (t i : ℕ) (q : Part Name) → filled w (place_after (at_place s t i) q) ≡ filled w (at_place s t i) + cond (same_section s w) (size_at q (offset (at_place s t i))) 0
 unfolding filled at_place
 filled_on section.Text section.Text t i part.Text = sym (add-zero t)
 filled_on section.Text section.Text t i part.Data = sym (add-zero t)
@@ -81,46 +81,46 @@ past_next s (y ∷ ys) (suc k) x e = past_next (section_after s (Some y.part)) y
 -- a place before statement k: in its section, and so far into each as the lengths before say
 pub record Before (all : Statements) (sizes : ℕ → ℕ) (k : ℕ) (p : Place) : Type 0 where
   pub stands : p.section ≡ section_at all k
-  pub fills : (w : Section) → filled w p ≡ total (section_at all) sizes w k
+  pub fills : (w : Section) → filled w p ≡ total_before (section_at all) sizes w k
 
 pub before_first : (all : Statements) (sizes : ℕ → ℕ) → Before all sizes 0 start
 unfolding filled
 before_first all sizes = record { stands = refl; fills = none }
   where
-    none : (w : Section) → filled w start ≡ total (section_at all) sizes w 0
+    none : (w : Section) → filled w start ≡ total_before (section_at all) sizes w 0
     none section.Text = refl
     none section.Data = refl
 
-pub offset_is : (all : Statements) (sizes : ℕ → ℕ) (k : ℕ) (p : Place) → Before all sizes k p → offset p ≡ total (section_at all) sizes (section_at all k) k
+pub offset_is : (all : Statements) (sizes : ℕ → ℕ) (k : ℕ) (p : Place) → Before all sizes k p → offset p ≡ total_before (section_at all) sizes (section_at all k) k
 unfolding at_place
-offset_is all sizes k p h = offset_filled p.section p.text p.initial ∙ h.fills p.section ∙ ap (λ s. total (section_at all) sizes s k) h.stands
+offset_is all sizes k p h = offset_filled p.section p.text p.initial ∙ h.fills p.section ∙ ap (λ s. total_before (section_at all) sizes s k) h.stands
 
-pub before_next : (all : Statements) (sizes : ℕ → ℕ) (k : ℕ) (p : Place) (x : Statement Name) → Before all sizes k p → slice_get all k ≡ Some x → sizes k ≡ size_at x.part (offset p) → Before all sizes (suc k) (advanced p x.part)
+pub before_next : (all : Statements) (sizes : ℕ → ℕ) (k : ℕ) (p : Place) (x : Statement Name) → Before all sizes k p → slice_get all k ≡ Some x → sizes k ≡ size_at x.part (offset p) → Before all sizes (suc k) (place_after p x.part)
 unfolding at_place
 before_next all sizes k p x h there long = record {
   stands = after_section p.section p.text p.initial x.part ∙ ap (λ s. section_after s (Some x.part)) h.stands ∙ sym (past_next section.Text all k x there);
   fills = λ w.
-      let on : filled w (advanced p x.part) ≡ filled w p + cond (same_section p.section w) (size_at x.part (offset p)) 0 = filled_on w p.section p.text p.initial x.part in
-      let so_far : filled w p ≡ total (section_at all) sizes w k = h.fills w in
+      let on : filled w (place_after p x.part) ≡ filled w p + cond (same_section p.section w) (size_at x.part (offset p)) 0 = filled_on w p.section p.text p.initial x.part in
+      let so_far : filled w p ≡ total_before (section_at all) sizes w k = h.fills w in
       let here : cond (same_section p.section w) (size_at x.part (offset p)) 0 ≡ cond (same_section (section_at all k) w) (sizes k) 0 =
       ap (λ s. cond (same_section s w) (size_at x.part (offset p)) 0) h.stands ∙ ap (λ n. cond (same_section (section_at all k) w) n 0) (sym long) in
-      on ∙ ap (λ n. n + cond (same_section p.section w) (size_at x.part (offset p)) 0) so_far ∙ ap (λ n. total (section_at all) sizes w k + n) here;
+      on ∙ ap (λ n. n + cond (same_section p.section w) (size_at x.part (offset p)) 0) so_far ∙ ap (λ n. total_before (section_at all) sizes w k + n) here;
 }
 
-pub before_sized : (all : Statements) (sizes : ℕ → ℕ) (k : ℕ) (p : Place) (x : Statement Name) → AreSizes all sizes → Before all sizes k p → slice_get all k ≡ Some x → Before all sizes (suc k) (advanced p x.part)
+pub before_sized : (all : Statements) (sizes : ℕ → ℕ) (k : ℕ) (p : Place) (x : Statement Name) → AreSizes all sizes → Before all sizes k p → slice_get all k ≡ Some x → Before all sizes (suc k) (place_after p x.part)
 before_sized all sizes k p x are h there = before_next all sizes k p x h there (are.each k x there ∙ ap (λ n. size_at x.part n) (sym (offset_is all sizes k p h)))
 
 -- ---- the lengths of a list
 
 place_past : Place → Statements → Place
 place_past p [] = p
-place_past p (x ∷ xs) = place_past (advanced p x.part) xs
+place_past p (x ∷ xs) = place_past (place_after p x.part) xs
 
-place_next : (p : Place) (all : Statements) (k : ℕ) (x : Statement Name) → slice_get all k ≡ Some x → place_past p (take (suc k) all) ≡ advanced (place_past p (take k all)) x.part
+place_next : (p : Place) (all : Statements) (k : ℕ) (x : Statement Name) → slice_get all k ≡ Some x → place_past p (take (suc k) all) ≡ place_after (place_past p (take k all)) x.part
 unfolding place_past
 place_next p [] k x e = cc
-place_next p (y ∷ ys) zero x e = let same : y ≡ x = cc in ap (λ (z : Statement Name). advanced p z.part) same
-place_next p (y ∷ ys) (suc k) x e = place_next (advanced p y.part) ys k x e
+place_next p (y ∷ ys) zero x e = let same : y ≡ x = cc in ap (λ (z : Statement Name). place_after p z.part) same
+place_next p (y ∷ ys) (suc k) x e = place_next (place_after p y.part) ys k x e
 
 size_of : Option (Statement Name) → Place → ℕ
 size_of None p = 0
@@ -163,13 +163,13 @@ have_sizes all = (
 
 -- ---- there is one list of lengths
 
-same_totals : (all : Statements) (a b : ℕ → ℕ) → AreSizes all a → AreSizes all b → (k : ℕ) → k ≤ length all → (w : Section) → total (section_at all) a w k ≡ total (section_at all) b w k
+same_totals : (all : Statements) (a b : ℕ → ℕ) → AreSizes all a → AreSizes all b → (k : ℕ) → k ≤ length all → (w : Section) → total_before (section_at all) a w k ≡ total_before (section_at all) b w k
 same_totals all a b ha hb zero le w = refl
 same_totals all a b ha hb (suc k) le w =
     let found : (x : Statement Name) × (slice_get all k ≡ Some x) = some_at all k (omega (arith, le)) in
-    let before : (v : Section) → total (section_at all) a v k ≡ total (section_at all) b v k = same_totals all a b ha hb k (omega (arith, le)) in
+    let before : (v : Section) → total_before (section_at all) a v k ≡ total_before (section_at all) b v k = same_totals all a b ha hb k (omega (arith, le)) in
     let here : a k ≡ b k = ha.each k found.0 found.1 ∙ ap (λ n. size_at found.0.part n) (before (section_at all k)) ∙ sym (hb.each k found.0 found.1) in
-    ap (λ n. n + cond (same_section (section_at all k) w) (a k) 0) (before w) ∙ ap (λ n. total (section_at all) b w k + cond (same_section (section_at all k) w) n 0) here
+    ap (λ n. n + cond (same_section (section_at all k) w) (a k) 0) (before w) ∙ ap (λ n. total_before (section_at all) b w k + cond (same_section (section_at all k) w) n 0) here
 
 pub one_size : (all : Statements) (a b : ℕ → ℕ) → AreSizes all a → AreSizes all b → (k : ℕ) (x : Statement Name) → slice_get all k ≡ Some x → a k ≡ b k
 one_size all a b ha hb k x there =
@@ -195,33 +195,33 @@ unfolding Rests
 rests_all all i = let same : 0 + i ≡ i = omega arith in ap (λ n. slice_get all n) same
 
 bytes_walk : (all : Statements) (sizes : ℕ → ℕ) (w : Section) (labels : Labels) (slots : List Name) (p : Place) (k : ℕ) (rest : Statements) → AreSizes all sizes → Before all sizes k p → Rests all k rest
-    → total (section_at all) sizes w k + length (bytes_from w labels slots p rest) ≡ total (section_at all) sizes w (k + length rest)
-bytes_walk all sizes w labels slots p k [] are h rests = add-zero (total (section_at all) sizes w k) ∙ ap (λ n. total (section_at all) sizes w n) (sym (add-zero k))
+    → total_before (section_at all) sizes w k + length (bytes_from w labels slots p rest) ≡ total_before (section_at all) sizes w (k + length rest)
+bytes_walk all sizes w labels slots p k [] are h rests = add-zero (total_before (section_at all) sizes w k) ∙ ap (λ n. total_before (section_at all) sizes w n) (sym (add-zero k))
 bytes_walk all sizes w labels slots p k (x ∷ xs) are h rests =
     let there : slice_get all k ≡ Some x = rest_first all k x xs rests in
-    let next : Before all sizes (suc k) (advanced p x.part) = before_sized all sizes k p x are h there in
-    let later : total (section_at all) sizes w (suc k) + length (bytes_from w labels slots (advanced p x.part) xs) ≡ total (section_at all) sizes w (suc k + length xs) =
-    bytes_walk all sizes w labels slots (advanced p x.part) (suc k) xs are next (rest_next all k x xs rests) in
-    let sum : length (bytes_from w labels slots p (x ∷ xs)) ≡ length (section_bytes w labels slots p x.part) + length (bytes_from w labels slots (advanced p x.part) xs) = length-append (section_bytes w labels slots p x.part) (bytes_from w labels slots (advanced p x.part) xs) in
+    let next : Before all sizes (suc k) (place_after p x.part) = before_sized all sizes k p x are h there in
+    let later : total_before (section_at all) sizes w (suc k) + length (bytes_from w labels slots (place_after p x.part) xs) ≡ total_before (section_at all) sizes w (suc k + length xs) =
+    bytes_walk all sizes w labels slots (place_after p x.part) (suc k) xs are next (rest_next all k x xs rests) in
+    let sum : length (bytes_from w labels slots p (x ∷ xs)) ≡ length (section_bytes w labels slots p x.part) + length (bytes_from w labels slots (place_after p x.part) xs) = length-append (section_bytes w labels slots p x.part) (bytes_from w labels slots (place_after p x.part) xs) in
     let here : length (section_bytes w labels slots p x.part) ≡ cond (same_section (section_at all k) w) (sizes k) 0 =
     section_length w labels slots p x.part ∙ ap (λ s. cond (same_section s w) (size_at x.part (offset p)) 0) h.stands
     ∙ ap (λ n. cond (same_section (section_at all k) w) n 0) (ap (λ n. size_at x.part n) (offset_is all sizes k p h) ∙ sym (are.each k x there)) in
     let on : suc k + length xs ≡ k + suc (length xs) = omega arith in
-    let step : total (section_at all) sizes w (suc k) ≡ total (section_at all) sizes w k + cond (same_section (section_at all k) w) (sizes k) 0 = refl in
-    subst (λ n. total (section_at all) sizes w k + length (bytes_from w labels slots p (x ∷ xs)) ≡ total (section_at all) sizes w n) on (omega (arith, later, sum, here, step))
+    let step : total_before (section_at all) sizes w (suc k) ≡ total_before (section_at all) sizes w k + cond (same_section (section_at all k) w) (sizes k) 0 = refl in
+    subst (λ n. total_before (section_at all) sizes w k + length (bytes_from w labels slots p (x ∷ xs)) ≡ total_before (section_at all) sizes w n) on (omega (arith, later, sum, here, step))
 
-section_sum : (all : Statements) (sizes : ℕ → ℕ) (w : Section) (slots : List Name) → AreSizes all sizes → length (bytes_from w (label_in all) slots start all) ≡ total (section_at all) sizes w (length all)
+section_sum : (all : Statements) (sizes : ℕ → ℕ) (w : Section) (slots : List Name) → AreSizes all sizes → length (bytes_from w (label_in all) slots start all) ≡ total_before (section_at all) sizes w (length all)
 section_sum all sizes w slots are =
-    let whole : total (section_at all) sizes w 0 + length (bytes_from w (label_in all) slots start all) ≡ total (section_at all) sizes w (0 + length all) =
+    let whole : total_before (section_at all) sizes w 0 + length (bytes_from w (label_in all) slots start all) ≡ total_before (section_at all) sizes w (0 + length all) =
     bytes_walk all sizes w (label_in all) slots start 0 all are (before_first all sizes) (rests_all all) in
     let count : 0 + length all ≡ length all = omega arith in
     let bytes : 0 + length (bytes_from w (label_in all) slots start all) ≡ length (bytes_from w (label_in all) slots start all) = omega arith in
-    sym bytes ∙ whole ∙ ap (λ n. total (section_at all) sizes w n) count
+    sym bytes ∙ whole ∙ ap (λ n. total_before (section_at all) sizes w n) count
 
-pub text_sum : (all : Statements) (sizes : ℕ → ℕ) (slots : List Name) → AreSizes all sizes → length (text_of all slots) ≡ total (section_at all) sizes section.Text (length all)
+pub text_sum : (all : Statements) (sizes : ℕ → ℕ) (slots : List Name) → AreSizes all sizes → length (text_of all slots) ≡ total_before (section_at all) sizes section.Text (length all)
 unfolding text_of
 text_sum all sizes slots are = section_sum all sizes section.Text slots are
 
-pub initial_sum : (all : Statements) (sizes : ℕ → ℕ) (slots : List Name) → AreSizes all sizes → length (initial_of all slots) ≡ total (section_at all) sizes section.Data (length all)
+pub initial_sum : (all : Statements) (sizes : ℕ → ℕ) (slots : List Name) → AreSizes all sizes → length (initial_of all slots) ≡ total_before (section_at all) sizes section.Data (length all)
 unfolding initial_of
 initial_sum all sizes slots are = section_sum all sizes section.Data slots are

@@ -13,7 +13,7 @@ use Rattle.def_machine.specs.State.{Thread, register}
 use Rattle.def_machine.specs.Threads.{jumped}
 use Rattle.def_step.specs.Accesses.{MemoryAndDevices}
 use Rattle.def_object.specs.Object.{high_piece, low_piece, way, is_short, upper_part, rest_part, number_instructions, text_instructions, global_instructions}
-use Rattle.def_assembly.specs.Loading.{effect, onward, after, MayWrite, SetsRegister, AreApart, IsWayOn, LeadsOver, LeadsToSlot}
+use Rattle.def_assembly.specs.Loading.{effect, onward, after_instructions, MayWrite, SetsRegister, AreApart, IsWayOn, LeadsOver, LeadsToSlot}
 use Rattle.law_assembly.proofs.Pieces.{pieces_back, leads_to}
 
 -- ---- one register is written
@@ -48,14 +48,14 @@ gives_then w u new rd a b first second = record {
 integer_address : (n : ℕ) → n < 2 ^ 32 → cap_address (integer n) ≡ n
 integer_address n h = omega arith
 
-short_loaded : (p : MemoryAndDevices) (w : Thread) (rd word : ℕ) → MayWrite w rd → word < 2 ^ 32 → SetsRegister w (after p w (Addi rd 0 word ∷ [])) rd (integer word)
+short_loaded : (p : MemoryAndDevices) (w : Thread) (rd word : ℕ) → MayWrite w rd → word < 2 ^ 32 → SetsRegister w (after_instructions p w (Addi rd 0 word ∷ [])) rd (integer word)
 short_loaded p w rd word h small =
     let from : cap_address (register w 0) ≡ 0 = ap cap_address h.zero in
     let sum : (cap_address (register w 0) + word) % 2 ^ 32 ≡ word = omega (arith, from) in
     gives_as w _ rd _ _ (ap integer sum) (put w rd (raised w.pcc 4) w.posture (integer ((cap_address (register w 0) + word) % 2 ^ 32)) h)
 
 long_loaded : (p : MemoryAndDevices) (w : Thread) (rd word : ℕ) → MayWrite w rd → word < 2 ^ 32
-    → SetsRegister w (after p w (Lui rd (upper_part word) ∷ Addi rd rd (rest_part word) ∷ [])) rd (integer word)
+    → SetsRegister w (after_instructions p w (Lui rd (upper_part word) ∷ Addi rd rd (rest_part word) ∷ [])) rd (integer word)
 long_loaded p w rd word h small =
     let upper : ℕ = upper_part word * 2 ^ 12 % 2 ^ 32 in
     let u : Thread = jumped w (raised w.pcc 4) w.posture rd (integer upper) in
@@ -65,10 +65,10 @@ long_loaded p w rd word h small =
     let second = put u rd (raised u.pcc 4) u.posture (integer ((cap_address (register u rd) + rest_part word) % 2 ^ 32)) (still w rd (raised w.pcc 4) w.posture (integer upper) h) in
     gives_then w u _ rd _ _ first (gives_as u _ rd _ _ (ap integer sum) second)
 
-pub number_loaded : (p : MemoryAndDevices) (w : Thread) (rd word : ℕ) → MayWrite w rd → word < 2 ^ 32 → SetsRegister w (after p w (number_instructions rd word)) rd (integer word)
+pub number_loaded : (p : MemoryAndDevices) (w : Thread) (rd word : ℕ) → MayWrite w rd → word < 2 ^ 32 → SetsRegister w (after_instructions p w (number_instructions rd word)) rd (integer word)
 number_loaded p w rd word h small = by_test (is_short word)
   where
-    by_test : (b : Bool) → SetsRegister w (after p w (cond b (Addi rd 0 word ∷ []) (Lui rd (upper_part word) ∷ Addi rd rd (rest_part word) ∷ []))) rd (integer word)
+    by_test : (b : Bool) → SetsRegister w (after_instructions p w (cond b (Addi rd 0 word ∷ []) (Lui rd (upper_part word) ∷ Addi rd rd (rest_part word) ∷ []))) rd (integer word)
     by_test true = short_loaded p w rd word h small
     by_test false = long_loaded p w rd word h small
 
@@ -91,7 +91,7 @@ twice c at to apart =
 
 -- two words: the first raises the address of c, the second that of what the first left
 two_words : (p : MemoryAndDevices) (w : Thread) (rd high low : ℕ) (c : Cap) → MayWrite w rd
-    → SetsRegister w (after p (jumped w (raised w.pcc 4) w.posture rd (raised c high)) (CIncAddrImm rd rd low ∷ [])) rd (raised (raised c high) low)
+    → SetsRegister w (after_instructions p (jumped w (raised w.pcc 4) w.posture rd (raised c high)) (CIncAddrImm rd rd low ∷ [])) rd (raised (raised c high) low)
 unfolding capability_result
 two_words p w rd high low c h =
     let u : Thread = jumped w (raised w.pcc 4) w.posture rd (raised c high) in
@@ -103,11 +103,11 @@ leads : (w new : Thread) (rd : ℕ) (c : Cap) (at to : ℕ) → AreApart at to
     → SetsRegister w new rd (raised (raised c (upper_offset (high_piece at to))) (low_piece at to)) → LeadsOver w new rd c at to
 leads w new rd c at to apart g = record { gives = g; address = ap cap_address g.given ∙ twice c at to apart }
 
-pub text_leads : (p : MemoryAndDevices) (w : Thread) (rd at to : ℕ) → MayWrite w rd → AreApart at to → LeadsOver w (after p w (text_instructions at rd to)) rd w.pcc at to
+pub text_leads : (p : MemoryAndDevices) (w : Thread) (rd at to : ℕ) → MayWrite w rd → AreApart at to → LeadsOver w (after_instructions p w (text_instructions at rd to)) rd w.pcc at to
 unfolding capability_result
 text_leads p w rd at to h apart = leads w _ rd w.pcc at to apart (two_words p w rd (upper_offset (high_piece at to)) (low_piece at to) w.pcc h)
 
-pub global_leads : (p : MemoryAndDevices) (w : Thread) (rd to : ℕ) → MayWrite w rd → AreApart 0 to → LeadsOver w (after p w (global_instructions rd to)) rd (register w 3) 0 to
+pub global_leads : (p : MemoryAndDevices) (w : Thread) (rd to : ℕ) → MayWrite w rd → AreApart 0 to → LeadsOver w (after_instructions p w (global_instructions rd to)) rd (register w 3) 0 to
 unfolding capability_result
 global_leads p w rd to h apart = leads w _ rd (register w 3) 0 to apart (two_words p w rd (upper_offset (high_piece 0 to)) (low_piece 0 to) (register w 3) h)
 

@@ -1,7 +1,7 @@
 -- What is read of a statement's operands is how they are written, and what is written is read.
 use Rattle.std.proofs.Common.{◌≡◌, ℕ, [], ◌∷◌, ◌++◌, Option, Some, None, refl, ap, ◌∙◌, subst}
 use Rattle.std.specs.Prelude.{option_and_then}
-use Rattle.def_source.specs.Source.{Name, Row, register_of, name_at, comma_at, open_at, close_at, number_at, target_at, register_at, register_comma, address_at, ended, two_registers, three_registers, two_registers_number, two_registers_target, register_number, register_target, register_name, register_address, one_register, one_number, one_target}
+use Rattle.def_source.specs.Source.{Name, Row, register_of, name_at, comma_at, open_at, close_at, number_at, target_at, register_at, register_comma, address_at, ended, two_registers, three_registers, two_registers_number, two_registers_target, register_number, register_and_target, register_name, register_address, one_register, one_number, one_target}
 use Rattle.def_source.specs.declared.parts.Number.{Number}
 use Rattle.def_source.specs.declared.parts.Token.TheVariants as token
 use Rattle.def_source.specs.declared.parts.Target.{Target}
@@ -205,8 +205,8 @@ register_number_says ts o e =
     subst (λ (z : ℕ × Number). AreWritten (Register z.0 ∷ Numbered z.1 ∷ []) ts) end.1
     (first.front, (a.0.1, (first.row, first.is, number_last a.0.1 b.0 b.1.0 end.0)))
 
-pub register_target_says : (ts : Row) (o : ℕ × Target Name) → register_target ts ≡ Some o → AreWritten (Register o.0 ∷ Towards o.1 ∷ []) ts
-unfolding register_target
+pub register_target_says : (ts : Row) (o : ℕ × Target Name) → register_and_target ts ≡ Some o → AreWritten (Register o.0 ∷ Towards o.1 ∷ []) ts
+unfolding register_and_target
 register_target_says ts o e =
     let a = bind (register_comma ts) _ o e in
     let b = bind (target_at a.0.1) _ o a.1.1 in
@@ -284,8 +284,8 @@ pub register_number_reads : (ts : Row) (a : ℕ) (n : Number) → AreWritten (Re
 unfolding register_number
 register_number_reads ts a n w = rw (w.1.1.0, comma_reads w.0 w.1.0 a w.1.1.1, w.1.1.2) refl
 
-pub register_target_reads : (ts : Row) (a : ℕ) (t : Target Name) → AreWritten (Register a ∷ Towards t ∷ []) ts → register_target ts ≡ Some (a, t)
-unfolding register_target
+pub register_target_reads : (ts : Row) (a : ℕ) (t : Target Name) → AreWritten (Register a ∷ Towards t ∷ []) ts → register_and_target ts ≡ Some (a, t)
+unfolding register_and_target
 register_target_reads ts a t w = rw (w.1.1.0, comma_reads w.0 w.1.0 a w.1.1.1, target_ends w.1.0 t w.1.1.2) refl
 
 pub register_name_reads : (ts : Row) (a : ℕ) (n : Name) → AreWritten (Register a ∷ Named n ∷ []) ts → register_name ts ≡ Some (a, n)

@@ -6,14 +6,14 @@ use Rattle.def_instr.specs.declared.Instr.TheVariants as instr
 use Rattle.def_instr.specs.declared.shapes.Shape.TheVariants as shape
 use Rattle.def_instr.specs.Table.{InRange, encoded, IsSigned}
 use Rattle.ct_isa.proofs.Complete.{complete}
-use Rattle.def_source.specs.Source.{Name, Statements, IsLawful, lawful_from, is_lawful, in_section, numbers_fit, registers_exist, section_after, exists, or_else}
+use Rattle.def_source.specs.Source.{Name, Statements, IsLawful, lawful_from, is_lawful_statement, in_section, numbers_fit, registers_exist, section_after, exists, or_else}
 use Rattle.def_source.specs.declared.parts.Section.{Section}
 use Rattle.def_source.specs.declared.parts.Section.TheVariants as section
 use Rattle.def_source.specs.declared.parts.Part.{Part}
 use Rattle.def_source.specs.declared.parts.Part.TheVariants as part
 use Rattle.def_object.specs.declared.Place.{Place}
 use Rattle.def_object.specs.declared.Fault.{Fault}
-use Rattle.def_object.specs.Object.{Labels, instructions_at, number_instructions, instruction_bytes, bytes_at, offset, advanced, fault_in, fault_from, label_in, start, lesser, on_line, statement_fault, reference_fault, size_fault, is_short, number_word, upper_part, rest_part, label_offset, slot_number, slot_of}
+use Rattle.def_object.specs.Object.{Labels, instructions_at, number_instructions, instruction_bytes, bytes_at, offset, place_after, fault_in, fault_from, label_in, start, lesser, on_line, statement_fault, reference_fault, size_fault, is_short, number_word, upper_part, rest_part, label_offset, slot_or_zero, slot_of}
 use Rattle.def_assembly.specs.Decoding.{Decodes, Says, AllSay, is_instruction}
 use Rattle.law_assembly.proofs.Ranges.{shaped_range, immediate_range, bares_range, high_range, low_range, upper_range, rest_range, word_small, short_range, cut_range, branch_range, jump_range}
 use Rattle.ct_asm.proofs.Reach.{signed_word}
@@ -74,7 +74,7 @@ ranged labels slots k at (part.LoadImmediate rd number) fit there found = number
 ranged labels slots k at (part.Import rd name) fit there found =
     let hd = exists_below rd there in
     let from : ℕ = 8 * length slots + at in
-    let to : ℕ = 8 * slot_number (slot_of slots name) in
+    let to : ℕ = 8 * slot_or_zero (slot_of slots name) in
     ((hd, high_range from to), ((hd, hd, low_range from to), tt))
 ranged labels slots k at (part.TextAddress rd label) fit there found =
     let hd = exists_below rd there in
@@ -112,7 +112,7 @@ first_none : (a b : Option ℕ) → or_else a b ≡ None → a ≡ None
 first_none None b e = refl
 first_none (Some n) b e = cc e
 
-says : (labels : Labels) (slots : List Name) (k at : ℕ) (s : Section) (q : Part Name) → is_lawful s q ≡ true → reference_fault labels k at q ≡ None → Says labels slots at q
+says : (labels : Labels) (slots : List Name) (k at : ℕ) (s : Section) (q : Part Name) → is_lawful_statement s q ≡ true → reference_fault labels k at q ≡ None → Says labels slots at q
 says labels slots k at s q lawful found e =
     let one = and_parts (in_section s q && numbers_fit q) (registers_exist q) lawful in
     let more = and_parts (in_section s q) (numbers_fit q) one.0 in
@@ -121,10 +121,10 @@ says labels slots k at s q lawful found e =
 all_say : (labels : Labels) (slots : List Name) (k : ℕ) (p : Place) (s : Section) (ss : Statements) → lawful_from s ss ≡ true → fault_from labels p k ss ≡ None → AllSay labels slots p ss
 all_say labels slots k p s [] lawful found = tt
 all_say labels slots k p s (x ∷ xs) lawful found =
-    let l = and_parts (is_lawful s x.part) (lawful_from (section_after s (Some x.part)) xs) lawful in
-    let f = none_left x.line (statement_fault labels p k x.part) (fault_from labels (advanced p x.part) (k + 1) xs) found in (
+    let l = and_parts (is_lawful_statement s x.part) (lawful_from (section_after s (Some x.part)) xs) lawful in
+    let f = none_left x.line (statement_fault labels p k x.part) (fault_from labels (place_after p x.part) (k + 1) xs) found in (
       says labels slots k (offset p) s x.part l.0 (first_none (reference_fault labels k (offset p) x.part) (size_fault (offset p) x.part) f.0),
-      all_say labels slots (k + 1) (advanced p x.part) (section_after s (Some x.part)) xs l.1 f.1,
+      all_say labels slots (k + 1) (place_after p x.part) (section_after s (Some x.part)) xs l.1 f.1,
     )
 
 pub words_say : (all : Statements) (slots : List Name) → IsLawful all → fault_in all ≡ None → AllSay (label_in all) slots start all

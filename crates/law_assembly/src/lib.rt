@@ -5,16 +5,16 @@
 mod source;
 
 ghost use Rattle.std.specs.Prelude.{◌≡◌, ◌↔◌, ℕ, ◌+◌, ◌*◌, ◌<◌, ◌^◌, None, Some, List, length};
-ghost use Rattle.def_source.specs.Source.{Name, Row, Statements, IsLawful, form_of, directive_form};
+ghost use Rattle.def_source.specs.Source.{Name, Row, Statements, IsLawful, statement_form, directive_form};
 ghost use Rattle.def_source.specs.declared.words.Head.{Head};
 ghost use Rattle.def_source.specs.declared.words.Directive.{Directive};
 ghost use Rattle.def_source.specs.declared.parts.Part.{Part};
-ghost use Rattle.def_object.specs.Object.{fault_in, label_in, start, number_instructions, text_instructions, global_instructions, import_instructions, slot_number, slot_of};
+ghost use Rattle.def_object.specs.Object.{fault_in, label_in, start, number_instructions, text_instructions, global_instructions, import_instructions, slot_or_zero, slot_of};
 ghost use Rattle.def_words.specs.Capability.{integer};
 ghost use Rattle.def_machine.specs.State.{Thread, register};
 ghost use Rattle.def_step.specs.Accesses.{MemoryAndDevices};
 ghost use Rattle.def_assembly.specs.Decoding.{AllSay};
-ghost use Rattle.def_assembly.specs.Loading.{after, MayWrite, SetsRegister, AreApart, LeadsTo, LeadsOver, LeadsToSlot, to_slot};
+ghost use Rattle.def_assembly.specs.Loading.{after_instructions, MayWrite, SetsRegister, AreApart, LeadsTo, LeadsOver, LeadsToSlot, to_slot};
 ghost use Rattle.def_assembly.specs.Written.{WritesStatement, WritesDirective};
 
 pub use source::{faults_are_least, labels_are_offsets};
@@ -24,7 +24,7 @@ pub use source::{faults_are_least, labels_are_offsets};
 /// (`directives`).
 pub fn forms_are_written()
     ensures statements { (h : Head) (ts : Row) (p : Part Name)
-        → (form_of h ts ≡ Some p) ↔ WritesStatement h ts p }
+        → (statement_form h ts ≡ Some p) ↔ WritesStatement h ts p }
     ensures directives { (d : Directive) (ts : Row) (p : Part Name)
         → (directive_form d ts ≡ Some p) ↔ WritesDirective d ts p }
 {}
@@ -40,7 +40,7 @@ pub fn words_decode()
 /// every other register is as it was.
 pub fn numbers_are_loaded()
     ensures { (p : MemoryAndDevices) (w : Thread) (rd word : ℕ) → MayWrite w rd → word < 2 ^ 32
-        → SetsRegister w (after p w (number_instructions rd word)) rd (integer word) }
+        → SetsRegister w (after_instructions p w (number_instructions rd word)) rd (integer word) }
 {}
 
 /// The two instructions of `cla`, `clg` and `cimport` lead to the place that is meant: from the
@@ -50,13 +50,13 @@ pub fn ways_lead_there()
     ensures between { (at to : ℕ) → AreApart at to → LeadsTo at to }
     ensures text { (p : MemoryAndDevices) (w : Thread) (rd at to : ℕ)
         → MayWrite w rd → AreApart at to
-        → LeadsOver w (after p w (text_instructions at rd to)) rd w.pcc at to }
+        → LeadsOver w (after_instructions p w (text_instructions at rd to)) rd w.pcc at to }
     ensures global { (p : MemoryAndDevices) (w : Thread) (rd to : ℕ) → MayWrite w rd → AreApart 0 to
-        → LeadsOver w (after p w (global_instructions rd to)) rd (register w 3) 0 to }
+        → LeadsOver w (after_instructions p w (global_instructions rd to)) rd (register w 3) 0 to }
     ensures slot { (p : MemoryAndDevices) (w : Thread) (rd at to : ℕ)
         → MayWrite w rd → AreApart at to
         → LeadsToSlot p w rd at to }
     ensures import { (slots : List Name) (at rd : ℕ) (name : Name)
         → import_instructions slots at rd name
-        ≡ to_slot rd (8 * length slots + at) (8 * slot_number (slot_of slots name)) }
+        ≡ to_slot rd (8 * length slots + at) (8 * slot_or_zero (slot_of slots name)) }
 {}

@@ -13,7 +13,7 @@ ghost use Rattle.def_source.specs.declared.parts.Statement.{Statement};
 ghost use Rattle.def_object.specs.declared.Label.{Label};
 ghost use Rattle.def_object.specs.Object.{label_in, is_label, text_of, initial_of};
 ghost use Rattle.def_assembly.specs.Faults.{LineBreaks, IsLineFault, IsSourceFault, NoneBreaks};
-ghost use Rattle.def_assembly.specs.Sums.{AreSizes, IsPlaced, section_at, total};
+ghost use Rattle.def_assembly.specs.Sums.{AreSizes, IsPlaced, section_at, total_before};
 
 /// A label's value is the sum of the lengths of the statements before it that stand in its section; it is the first of
 /// its name. A name has none exactly where no statement is a label of that name.
@@ -31,10 +31,10 @@ pub fn labels_are_offsets()
         → sizes k ≡ others k }
     ensures section_text { (all : Statements) (sizes : ℕ → ℕ) (slots : List Name)
         → AreSizes all sizes
-        → length (text_of all slots) ≡ total (section_at all) sizes section.Text (length all) }
+        → length (text_of all slots) ≡ total_before (section_at all) sizes section.Text (length all) }
     ensures section_initial { (all : Statements) (sizes : ℕ → ℕ) (slots : List Name)
         → AreSizes all sizes
-        → length (initial_of all slots) ≡ total (section_at all) sizes section.Data (length all) }
+        → length (initial_of all slots) ≡ total_before (section_at all) sizes section.Data (length all) }
 {}
 
 /// A line's fault is the least number that it breaks, each by its own condition, and a line that is

@@ -1,7 +1,7 @@
 -- What boots at an address of a region is what stands there in the region.
 use Rattle.std.proofs.Common.{ℕ, ◌≡◌, ◌+◌, ◌-◌, ◌%◌, ◌<◌, refl, ap, sym, ◌∙◌, arith}
 use Rattle.def_image.specs.Parts.{PartsRow}
-use Rattle.def_image.specs.Regions.{Holder, TrustedPart, RegionRow, region, regions_of, trusted_length}
+use Rattle.def_image.specs.Regions.{Holder, TrustedPart, RegionRow, region_row, regions_of, trusted_length}
 use Rattle.def_image.specs.Sound.{Sound}
 use Rattle.def_boot.specs.Contents.{content, content_at, boot_cap}
 use Rattle.law_boot.proofs.Regions.{Among}
@@ -19,7 +19,7 @@ trusted_there p = record { index = 0; place = 44; is = refl }
 pub at_offset : (p : PartsRow) (s : Sound p) (h : Holder) (base size k : ℕ) → Among (regions_of p) h base size → k < size → k % 8 ≡ 0 → BootPuts p (base + k) (content p h k)
 unfolding boot_cap
 at_offset p s h base size k a lt unit =
-    let r : RegionRow = region h a.place base size in
+    let r : RegionRow = region_row h a.place base size in
     let laid = s.laid.each a.index r a.is in
     let low = laid.low in
     let high = laid.high in

@@ -7,7 +7,7 @@ use Rattle.def_image.specs.Parts.{PartsRow}
 use Rattle.def_image.specs.Regions.{RegionRow}
 use Rattle.def_image.specs.Laid.{IsIn, IsRegion}
 use Rattle.def_image.specs.Sound.{Sound}
-use Rattle.def_boot.specs.Contents.{part, part_at, part_of, parts_from, granules_in}
+use Rattle.def_boot.specs.Contents.{part, part_at, region_part, parts_from, granules_in}
 use Rattle.def_boot.specs.Boot.{image_of}
 use Rattle.law_boot.proofs.Found.{found}
 
@@ -31,7 +31,7 @@ past_ram p k past = parts_past p p.ram (granules_in p) k past
 
 module _ (p : PartsRow) (s : Sound p) where
   -- a granule whose address lies in a region
-  pub at_region : (k i : ℕ) (r : RegionRow) → IsRegion p i r → IsIn r (address_of (image_of p) k) → image.region (image_of p) k ≡ part_of r.holder (address_of (image_of p) k - r.base)
+  pub at_region : (k i : ℕ) (r : RegionRow) → IsRegion p i r → IsIn r (address_of (image_of p) k) → image.region (image_of p) k ≡ region_part r.holder (address_of (image_of p) k - r.base)
   unfolding image_of part
   at_region k i r is lies =
       let laid = s.laid.each i r is in
@@ -54,7 +54,7 @@ module _ (p : PartsRow) (s : Sound p) where
       let high = lies.1 in
       (omega (arith, even, unit, above, low), omega (arith, even, unit, above, low, high))
 
-  pub of_address : (x i : ℕ) (r : RegionRow) → IsRegion p i r → IsIn r x → (k : ℕ) × (image.region (image_of p) (granule_of (image_of p) x) ≡ part_of r.holder k)
+  pub of_address : (x i : ℕ) (r : RegionRow) → IsRegion p i r → IsIn r x → (k : ℕ) × (image.region (image_of p) (granule_of (image_of p) x) ≡ region_part r.holder k)
   of_address x i r is lies = (address_of (image_of p) (granule_of (image_of p) x) - r.base, at_region (granule_of (image_of p) x) i r is (whole x i r is lies))
 
   -- past RAM nothing is kept

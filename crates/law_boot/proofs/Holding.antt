@@ -19,7 +19,7 @@ use Rattle.def_image.specs.declared.SlotKind.TheVariants as slot
 use Rattle.def_image.specs.Parts.{GateRow, CodeRow, CompartmentRow, PartsRow}
 use Rattle.def_image.specs.Members.{text_base, code_number, gate_number, library_gate_number}
 use Rattle.def_image.specs.Sound.{Sound}
-use Rattle.def_boot.specs.Entries.{slot_row}
+use Rattle.def_boot.specs.Entries.{slot_entry}
 use Rattle.def_boot.specs.Gates.{entries_of, gates_of}
 use Rattle.def_boot.specs.Boot.{image_of}
 use Rattle.def_boot.specs.Rows.{HasRow, HasCompartment, HasLibrary, EntryIs, is_nothing, is_trusted, is_code, is_globals, is_slot, is_export, is_library, is_library_slot, is_library_export, is_stack as of_stack}
@@ -68,7 +68,7 @@ is_apart (Listing kind.Export) = true
 is_apart (Listing kind.Stack) = true
 is_apart _ = false
 
-slot_kind : (p : PartsRow) (o : Owner) (at : ℕ) (r : ImportRow) (k : SlotKind) → is_apart (Listing (slot_row p o at r k).kind) ≡ false
+slot_kind : (p : PartsRow) (o : Owner) (at : ℕ) (r : ImportRow) (k : SlotKind) → is_apart (Listing (slot_entry p o at r k).kind) ≡ false
 slot_kind p o at r slot.Service = refl
 slot_kind p o at r slot.Device = refl
 slot_kind p o at r slot.Shared = refl

@@ -15,7 +15,7 @@ use Rattle.def_image.specs.declared.SlotKind.TheVariants as slot
 use Rattle.def_image.specs.Parts.{CodeRow, PartsRow}
 use Rattle.def_image.specs.Members.{no_code, library}
 use Rattle.def_image.specs.Sound.{Sound, Names}
-use Rattle.def_boot.specs.Entries.{slot_row}
+use Rattle.def_boot.specs.Entries.{slot_entry}
 use Rattle.def_boot.specs.Gates.{entries_of}
 use Rattle.def_boot.specs.Boot.{image_of}
 use Rattle.def_boot.specs.Rows.{HasRow, EntryIs, is_nothing, is_trusted, is_code, is_globals, is_slot, is_export, is_library, is_library_slot, is_library_export, is_stack}
@@ -55,7 +55,7 @@ abbrev is_linked : Origin → Bool
 is_linked (Listing kind.Library) = true
 is_linked _ = false
 
-slot_named : (p : PartsRow) (o : Owner) (at : ℕ) (r : ImportRow) (k : SlotKind) → Names p r k → Named p (listed_root (Some (slot_row p o at r k)) no_gate)
+slot_named : (p : PartsRow) (o : Owner) (at : ℕ) (r : ImportRow) (k : SlotKind) → Names p r k → Named p (listed_root (Some (slot_entry p o at r k)) no_gate)
 slot_named p o at r slot.Service names = other p _ refl
 slot_named p o at r slot.Device names = other p _ refl
 slot_named p o at r slot.Shared names = other p _ refl

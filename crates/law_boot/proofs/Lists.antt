@@ -5,7 +5,7 @@ use Rattle.def_image.specs.declared.format.TheConstants.{SHARED, THREAD}
 use Rattle.def_image.specs.Parts.{SharedRow, SealedRow, CodeRow, CompartmentRow, ThreadRow, PartsRow}
 use Rattle.def_image.specs.Sizes.{sealed_size, compartment_size, library_size}
 use Rattle.def_image.specs.Spelling.{raw_sealed, raw_compartment, raw_code}
-use Rattle.def_image.specs.Regions.{Holder, CodeOf, TableOf, GlobalsOf, RegionRow, region, shared_regions, sealed_regions, compartment_regions, library_regions, stack_regions, trusted_region, later_regions, regions_of, table_length}
+use Rattle.def_image.specs.Regions.{Holder, CodeOf, TableOf, GlobalsOf, RegionRow, region_row, shared_regions, sealed_regions, compartment_regions, library_regions, stack_regions, trusted_region, later_regions, regions_of, table_length}
 use Rattle.def_image.specs.Laid.{IsRegion}
 use Rattle.law_boot.proofs.Regions.{shared_part, sealed_part, own_part, library_part, stack_part, objects, with_own, with_libraries}
 use Rattle.def_boot.specs.Held.{IsOf, Spans}
@@ -39,7 +39,7 @@ rest_here all n x xs rest = let same : n ≡ n + 0 = omega arith in ap (λ i. sl
 rest_all : {A : Type 0} (all : List A) → Rest all 0 all
 rest_all all k x is = let same : 0 + k ≡ k = omega arith in ap (λ i. slice_get all i) same ∙ is
 
-spans : (h : Holder) (place base size : ℕ) → Spans (region h place base size) base size
+spans : (h : Holder) (place base size : ℕ) → Spans (region_row h place base size) base size
 spans h place base size = record { base_is = refl; length_is = refl }
 
 shared_are : (p : PartsRow) (at n : ℕ) (ss : List SharedRow) → Rest p.shared n ss → All p (shared_regions at n ss)
@@ -57,9 +57,9 @@ own_are p at n (c ∷ cs) rest =
     let here = rest_here p.compartments n c cs rest in
     let next = own_are p (at + compartment_size (raw_compartment c)) (n + 1) cs (rest_next p.compartments n c cs rest) in
     let more = compartment_regions (at + compartment_size (raw_compartment c)) (n + 1) cs in
-    let code = region (CodeOf (Compartment n)) (at + 32) c.code.base c.code.length in
-    let table = region (TableOf n) (at + 44) c.table (table_length c) in
-    let globals = region (GlobalsOf n) (at + 48) c.globals c.globals_length in
+    let code = region_row (CodeOf (Compartment n)) (at + 32) c.code.base c.code.length in
+    let table = region_row (TableOf n) (at + 44) c.table (table_length c) in
+    let globals = region_row (GlobalsOf n) (at + 48) c.globals c.globals_length in
     all_cons p code (table ∷ globals ∷ more) (c, here, spans _ _ _ _)
     (all_cons p table (globals ∷ more) (c, here, spans _ _ _ _) (all_cons p globals more (c, here, spans _ _ _ _) next))
 

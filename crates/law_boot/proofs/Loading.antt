@@ -22,12 +22,12 @@ use Rattle.def_image.specs.declared.SlotKind.{SlotKind}
 use Rattle.def_image.specs.declared.SlotKind.TheVariants as slot
 use Rattle.def_image.specs.Parts.{SlotRow, SharedRow, SealedRow, CodeRow, CompartmentRow, PartsRow}
 use Rattle.def_image.specs.Members.{no_code, no_compartment, no_shared, no_sealed, compartment, library, shared, sealed, code_number, library_number}
-use Rattle.def_image.specs.Regions.{Holder, CodeOf, GlobalsOf, SharedOf, SealedOf, StackOf, RegionRow, region, regions_of}
+use Rattle.def_image.specs.Regions.{Holder, CodeOf, GlobalsOf, SharedOf, SealedOf, StackOf, RegionRow, region_row, regions_of}
 use Rattle.def_image.specs.Rights.{fits_kind, rights_of, is_library as is_library_kind}
 use Rattle.def_image.specs.Laid.{IsIn, IsRegion}
 use Rattle.def_image.specs.Sound.{Sound, Names}
-use Rattle.def_boot.specs.Contents.{content, content_at, code_content, part_of, boot_cap}
-use Rattle.def_boot.specs.Entries.{slot_row}
+use Rattle.def_boot.specs.Contents.{content, content_at, code_content, region_part, boot_cap}
+use Rattle.def_boot.specs.Entries.{slot_entry}
 use Rattle.def_boot.specs.Gates.{entries_of}
 use Rattle.def_boot.specs.Boot.{image_of}
 use Rattle.def_boot.specs.Rows.{HasRow, EntryIs, is_nothing, is_trusted, is_code, is_globals, is_slot, is_export, is_library, is_library_slot, is_library_export, is_stack}
@@ -57,7 +57,7 @@ unfolding bit
 none_carries = refl
 
 -- no slot is a stack
-slot_no_stack : (p : PartsRow) (o : Owner) (at : ℕ) (r : ImportRow) (k : SlotKind) → for_stack (Listing (slot_row p o at r k).kind) ≡ false
+slot_no_stack : (p : PartsRow) (o : Owner) (at : ℕ) (r : ImportRow) (k : SlotKind) → for_stack (Listing (slot_entry p o at r k).kind) ≡ false
 slot_no_stack p o at r slot.Service = refl
 slot_no_stack p o at r slot.Device = refl
 slot_no_stack p o at r slot.Shared = refl
@@ -91,10 +91,10 @@ module _ (p : PartsRow) (s : Sound p) where
 
   -- through a region that isn't fixed
   in_part : (n : ℕ) (z : Root) (h : Holder) (base size : ℕ) → Among (regions_of p) h base size → z.base ≡ base → z.top ≡ base + size
-      → ((k : ℕ) (c : Cap) → bit z.rights memory_capability ≡ true → Loads (image_of p) n c (part_of h k)) → Loaded p n z
+      → ((k : ℕ) (c : Cap) → bit z.rights memory_capability ≡ true → Loads (image_of p) n c (region_part h k)) → Loaded p n z
   in_part n z h base size a starts ends loads = record {
     loads = λ x from mc low high.
-        let there = of_address p s x a.index (region h a.place base size) a.is (omega (arith, starts, low), omega (arith, ends, high)) in
+        let there = of_address p s x a.index (region_row h a.place base size) a.is (omega (arith, starts, low), omega (arith, ends, high)) in
         subst (λ r. Loads (image_of p) n (Held p x) r) (sym there.1) (loads there.0 (Held p x) mc);
   }
 
@@ -145,7 +145,7 @@ module _ (p : PartsRow) (s : Sound p) where
       → ((k : ℕ) (d : Cap) → d ≡ content p (CodeOf o) k → d.tag ≡ true → BootHeld (image_of p) n d) → Loaded p n z
   in_code n z o base size a starts ends owned held = record {
     loads = λ x from mc low high.
-        let r = region (CodeOf o) a.place base size in
+        let r = region_row (CodeOf o) a.place base size in
         let lies = whole p s x a.index r a.is (omega (arith, starts, low), omega (arith, ends, high)) in
         let part = at_region p s (granule_of (image_of p) x) a.index r a.is lies in
         let there = content_there (granule_of (image_of p) x) a.index r a.is lies in
@@ -182,7 +182,7 @@ module _ (p : PartsRow) (s : Sound p) where
   -- ---- slots
 
   slot_loads : (n : ℕ) (o : Owner) (at : ℕ) (r : ImportRow) (k : SlotKind) → Names p r k → fits_kind k (rights_of r) ≡ true → (is_library_kind k ≡ false → (a : ℕ) × (o ≡ Compartment a))
-      → HasRow p n (slot_row p o at r k) no_gate → Loaded p n (root_of (entries_of p) n)
+      → HasRow p n (slot_entry p o at r k) no_gate → Loaded p n (root_of (entries_of p) n)
   unfolding image_of
   slot_loads n o at r slot.Service names fits owned h =
       let base = ap (λ (z : Root). z.base) h.root_is in

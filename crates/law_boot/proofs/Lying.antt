@@ -2,7 +2,7 @@
 use Rattle.std.proofs.Common.{ℕ, ◌≡◌, Some, slice_get, refl}
 use Rattle.ct_entry.specs.declared.rows.Owner.TheVariants.{Compartment, Library}
 use Rattle.def_image.specs.Parts.{SharedRow, SealedRow, CodeRow, CompartmentRow, ThreadRow, PartsRow}
-use Rattle.def_image.specs.Regions.{Holder, CodeOf, TableOf, GlobalsOf, SharedOf, SealedOf, StackOf, TrustedPart, region, regions_of, table_length, trusted_length}
+use Rattle.def_image.specs.Regions.{Holder, CodeOf, TableOf, GlobalsOf, SharedOf, SealedOf, StackOf, TrustedPart, region_row, regions_of, table_length, trusted_length}
 use Rattle.def_image.specs.Sound.{Sound}
 use Rattle.law_boot.proofs.Regions as listed
 use Rattle.law_boot.proofs.Regions.{Among}
@@ -17,7 +17,7 @@ pub record OwnLies (p : PartsRow) (c : CompartmentRow) : Type 0 where
 module _ (p : PartsRow) (s : Sound p) where
   lies : (h : Holder) (base size : ℕ) → Among (regions_of p) h base size → Lies p base size
   lies h base size a =
-      let l = s.laid.each a.index (region h a.place base size) a.is in
+      let l = s.laid.each a.index (region_row h a.place base size) a.is in
       record { low = l.low; high = l.high; even = l.even; whole = l.whole; exact = l.exact }
 
   pub trusted_there : Lies p p.trusted (trusted_length p)

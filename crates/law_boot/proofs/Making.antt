@@ -18,7 +18,7 @@ use Rattle.def_words.specs.Permissions.{bit, execute}
 use Rattle.def_words.specs.Seals.{seal_type}
 use Rattle.def_words.specs.Derive.{derive, memory_root, executable_root, sealing_root}
 use Rattle.def_words.specs.Narrows.{IsMade}
-use Rattle.def_words.specs.Facts.{IsRoot, Spells, KindFits}
+use Rattle.def_words.specs.Facts.{IsRoot, SpellsPermissions, KindFits}
 use Rattle.law_words.proofs.Making.{derive_makes}
 use Rattle.law_words.proofs.Exacts.{exponent_zero, exact_base, exact_top, exact_flag}
 use Rattle.law_words.proofs.Bits.{apart}
@@ -32,7 +32,7 @@ use Rattle.def_image.specs.Members.{no_code, no_compartment, no_shared, no_seale
 use Rattle.def_image.specs.Regions.{table_size, table_length}
 use Rattle.def_image.specs.Rights.{fits_kind, rights_of}
 use Rattle.def_image.specs.Sound.{Sound, Names}
-use Rattle.def_boot.specs.Entries.{native_address, slot_row}
+use Rattle.def_boot.specs.Entries.{native_address, slot_entry}
 use Rattle.def_boot.specs.Gates.{gates_of}
 use Rattle.def_boot.specs.Made.{from_entry, entry_cap, return_sentry, sentry_type}
 use Rattle.law_boot.proofs.Standing.{library_of}
@@ -70,7 +70,7 @@ key_kind s k run low high = data_kind s k run (λ e. omega (arith, e, low)) (by 
 
 -- ---- what is made
 
-pub make : (high base size rights at kind n : ℕ) → IsRoot high → Spells high rights → base < 2 ^ 32 → base + size ≤ 2 ^ 32 → (rounded_of base (base + size)).exact ≡ true
+pub make : (high base size rights at kind n : ℕ) → IsRoot high → SpellsPermissions high rights → base < 2 ^ 32 → base + size ≤ 2 ^ 32 → (rounded_of base (base + size)).exact ≡ true
     → base ≤ at → at ≤ base + size → at < 2 ^ 32 → KindFits rights kind → MadeAs n base (base + size) rights at kind (derive high base size rights at kind (from_entry n))
 make high base size rights at kind n root normal low fits exact from to small kind_fits =
     let K : ℕ → Type 0 = λ s. KindFits s kind in
@@ -103,12 +103,12 @@ call_rights x fits = subst (λ y. DataRights y) (sym (eqb-true x EXPORT_RIGHTS f
 pub quota_rights : (x : ℕ) → fits_kind slot.Quota x ≡ true → DataRights x
 quota_rights x fits = subst (λ y. DataRights y) (sym (eqb-true x QUOTA_RIGHTS fits)) quota_set
 
-key_rights : (x : ℕ) → fits_kind slot.Key x ≡ true → Spells sealing_root x
-key_rights x fits = subst (λ y. Spells sealing_root y) (sym (eqb-true x KEY_RIGHTS fits)) taken.key.1
+key_rights : (x : ℕ) → fits_kind slot.Key x ≡ true → SpellsPermissions sealing_root x
+key_rights x fits = subst (λ y. SpellsPermissions sealing_root y) (sym (eqb-true x KEY_RIGHTS fits)) taken.key.1
 
 module _ (p : PartsRow) (s : Sound p) where
   -- a range in RAM below the heap
-  pub inside_made : (high base size rights at kind n : ℕ) → base + size ≤ p.heap → (rounded_of base (base + size)).exact ≡ true → IsRoot high → Spells high rights
+  pub inside_made : (high base size rights at kind n : ℕ) → base + size ≤ p.heap → (rounded_of base (base + size)).exact ≡ true → IsRoot high → SpellsPermissions high rights
       → base ≤ at → at ≤ base + size → KindFits rights kind → MadeAs n base (base + size) rights at kind (derive high base size rights at kind (from_entry n))
   inside_made high base size rights at kind n under exact root normal from to kind_fits =
       let inside = s.heap.inside in
@@ -198,7 +198,7 @@ module _ (p : PartsRow) (s : Sound p) where
 
   -- ---- what boot makes of slots
 
-  pub slot_made : (n : ℕ) (o : Owner) (at : ℕ) (r : ImportRow) (k : SlotKind) → Names p r k → fits_kind k (rights_of r) ≡ true → at + SLOT_SIZE ≤ p.heap → RowMade p n (slot_row p o at r k)
+  pub slot_made : (n : ℕ) (o : Owner) (at : ℕ) (r : ImportRow) (k : SlotKind) → Names p r k → fits_kind k (rights_of r) ≡ true → at + SLOT_SIZE ≤ p.heap → RowMade p n (slot_entry p o at r k)
   slot_made n o at r slot.Service names fits inside =
       let run = service_rights (rights_of r) fits in
       make executable_root (native_address r.first) NATIVE_LENGTH (rights_of r) (native_address r.first) SENTRY_INHERIT n executable_is_root run.spelled (omega (arith, names)) (omega (arith, names))

@@ -7,7 +7,7 @@ use Rattle.ct_entry.specs.declared.rows.Kind.TheVariants as kind
 use Rattle.def_profile.specs.declared.layout.TheConstants.{DEVICE_SIZE}
 use Rattle.def_words.specs.Permissions.{bit, load_data, store_data, execute}
 use Rattle.def_reach.specs.Roots.{Origin, Listing, is_root, is_code}
-use Rattle.def_safety.specs.Inside.{IsWithin, Inside}
+use Rattle.def_safety.specs.Inside.{IsReachable, Inside}
 use Rattle.def_machine.specs.Image.{root}
 use Rattle.def_step.specs.Devices.{found_from, is_of}
 use Rattle.def_image.specs.Parts.{PartsRow}
@@ -54,12 +54,12 @@ no_key o s fits from is (inr (inr runs)) =
     absurd (let clash : is_code (Listing kind.Key) ≡ true = subst (λ z. is_code z ≡ true) is code in cc)
 
 module _ (p : PartsRow) (s : Sound p) where
-  ram_within : (x : ℕ) → p.ram ≤ x → x < p.ram + p.size → IsWithin (platform_of p) (image_of p).heap_end x
+  ram_within : (x : ℕ) → p.ram ≤ x → x < p.ram + p.size → IsReachable (platform_of p) (image_of p).heap_end x
   unfolding image_of
   ram_within x low high = inl (low, high)
 
   lies_within : (o : Origin) (rights base top x : ℕ) → RightsFit o rights → is_root o ≡ true → Touches rights
-      → LiesAs p o base top → base ≤ x → x < top → IsWithin (platform_of p) (image_of p).heap_end x
+      → LiesAs p o base top → base ≤ x → x < top → IsReachable (platform_of p) (image_of p).heap_end x
   lies_within o rights base top x fits from any (of_nothing other none) low high = absurd (omega (arith, none, high))
   lies_within o rights base top x fits from any (in_ram other starts ends) low high =
       let inside = s.heap.inside in
@@ -80,7 +80,7 @@ module _ (p : PartsRow) (s : Sound p) where
   lies_within o rights base top x fits from any (of_key its starts ends) low high = absurd (no_key o rights fits from its any)
 
   root_within : (n x : ℕ) → is_root (root (image_of p) n).origin ≡ true → Touches (root (image_of p) n).rights
-      → (root (image_of p) n).base ≤ x → x < (root (image_of p) n).top → IsWithin (platform_of p) (image_of p).heap_end x
+      → (root (image_of p) n).base ≤ x → x < (root (image_of p) n).top → IsReachable (platform_of p) (image_of p).heap_end x
   root_within n x from any low high =
       let told = told_at p s n in
       lies_within _ _ _ _ x told.rights from any told.lies low high

@@ -6,7 +6,7 @@ use Rattle.def_image.specs.declared.format.TheConstants.{SHARED, THREAD}
 use Rattle.def_image.specs.Parts.{SharedRow, SealedRow, CodeRow, CompartmentRow, ThreadRow, PartsRow}
 use Rattle.def_image.specs.Sizes.{shared_at, sealed_at, sealed_size, compartments_at, compartment_size, libraries_at, library_size, threads_at}
 use Rattle.def_image.specs.Spelling.{raw_of, raw_sealed, raw_compartment, raw_code}
-use Rattle.def_image.specs.Regions.{Holder, CodeOf, TableOf, GlobalsOf, SharedOf, SealedOf, StackOf, RegionRow, region, shared_regions, sealed_regions, compartment_regions, library_regions, stack_regions, trusted_region, later_regions, regions_of, table_length}
+use Rattle.def_image.specs.Regions.{Holder, CodeOf, TableOf, GlobalsOf, SharedOf, SealedOf, StackOf, RegionRow, region_row, shared_regions, sealed_regions, compartment_regions, library_regions, stack_regions, trusted_region, later_regions, regions_of, table_length}
 use Rattle.law_boot.proofs.Blocks.{before, further}
 
 -- ---- the lists
@@ -42,10 +42,10 @@ with_libraries p = with_own p ++ library_part p
 pub record Among (rs : List RegionRow) (h : Holder) (base size : ℕ) : Type 0 where
   pub index : ℕ
   pub place : ℕ
-  pub is : slice_get rs index ≡ Some (region h place base size)
+  pub is : slice_get rs index ≡ Some (region_row h place base size)
 
 pub left : (xs ys : List RegionRow) (h : Holder) (base size : ℕ) → Among xs h base size → Among (xs ++ ys) h base size
-left xs ys h base size a = record { index = a.index; place = a.place; is = before xs ys a.index (slice_get_within xs a.index (region h a.place base size) a.is) ∙ a.is }
+left xs ys h base size a = record { index = a.index; place = a.place; is = before xs ys a.index (slice_get_within xs a.index (region_row h a.place base size) a.is) ∙ a.is }
 
 pub right : (xs ys : List RegionRow) (h : Holder) (base size : ℕ) → Among ys h base size → Among (xs ++ ys) h base size
 right xs ys h base size a = record { index = length xs + a.index; place = a.place; is = further xs ys a.index ∙ a.is }
@@ -86,29 +86,29 @@ each_in rows own size h base wide split here at xs k x is =
     subst (λ m. Among (rows at 0 xs) (h m) (base x) (wide x)) same (member_in rows own size h base wide split here at 0 xs k x is)
 
 shared_in : (at : ℕ) (ss : List SharedRow) → Each (shared_regions at 0 ss) ss SharedOf (λ s. s.base) (λ s. s.length)
-shared_in = each_in shared_regions (λ at n s. region (SharedOf n) (at + 32) s.base s.length ∷ []) (λ s. SHARED) SharedOf (λ s. s.base) (λ s. s.length)
+shared_in = each_in shared_regions (λ at n s. region_row (SharedOf n) (at + 32) s.base s.length ∷ []) (λ s. SHARED) SharedOf (λ s. s.base) (λ s. s.length)
     (λ at n x xs. refl) (λ at n x. record { index = 0; place = at + 32; is = refl })
 
 sealed_in : (at : ℕ) (ss : List SealedRow) → Each (sealed_regions at 0 ss) ss SealedOf (λ s. s.base) (λ s. s.length)
-sealed_in = each_in sealed_regions (λ at n s. region (SealedOf n) (at + 32) s.base s.length ∷ []) (λ s. sealed_size (raw_sealed s)) SealedOf (λ s. s.base) (λ s. s.length)
+sealed_in = each_in sealed_regions (λ at n s. region_row (SealedOf n) (at + 32) s.base s.length ∷ []) (λ s. sealed_size (raw_sealed s)) SealedOf (λ s. s.base) (λ s. s.length)
     (λ at n x xs. refl) (λ at n x. record { index = 0; place = at + 32; is = refl })
 
 -- the three of a compartment
 abbrev own_regions : ℕ → ℕ → CompartmentRow → List RegionRow
 own_regions at n c =
-    region (CodeOf (Compartment n)) (at + 32) c.code.base c.code.length ∷ region (TableOf n) (at + 44) c.table (table_length c)
-    ∷ region (GlobalsOf n) (at + 48) c.globals c.globals_length ∷ []
+    region_row (CodeOf (Compartment n)) (at + 32) c.code.base c.code.length ∷ region_row (TableOf n) (at + 44) c.table (table_length c)
+    ∷ region_row (GlobalsOf n) (at + 48) c.globals c.globals_length ∷ []
 
 own_in : (h : ℕ → Holder) (base wide : CompartmentRow → ℕ) → ((at n : ℕ) (c : CompartmentRow) → Among (own_regions at n c) (h n) (base c) (wide c))
     → (at : ℕ) (cs : List CompartmentRow) → Each (compartment_regions at 0 cs) cs h base wide
 own_in h base wide here = each_in compartment_regions own_regions (λ c. compartment_size (raw_compartment c)) h base wide (λ at n x xs. refl) here
 
 library_in : (at : ℕ) (cs : List CodeRow) → Each (library_regions at 0 cs) cs (λ n. CodeOf (Library n)) (λ c. c.base) (λ c. c.length)
-library_in = each_in library_regions (λ at n c. region (CodeOf (Library n)) (at + 32) c.base c.length ∷ []) (λ c. library_size (raw_code c)) (λ n. CodeOf (Library n)) (λ c. c.base) (λ c. c.length)
+library_in = each_in library_regions (λ at n c. region_row (CodeOf (Library n)) (at + 32) c.base c.length ∷ []) (λ c. library_size (raw_code c)) (λ n. CodeOf (Library n)) (λ c. c.base) (λ c. c.length)
     (λ at n x xs. refl) (λ at n x. record { index = 0; place = at + 32; is = refl })
 
 stack_in : (at : ℕ) (ts : List ThreadRow) → Each (stack_regions at 0 ts) ts StackOf (λ t. t.stack) (λ t. t.stack_length)
-stack_in = each_in stack_regions (λ at n t. region (StackOf n) (at + 32) t.stack t.stack_length ∷ []) (λ t. THREAD) StackOf (λ t. t.stack) (λ t. t.stack_length)
+stack_in = each_in stack_regions (λ at n t. region_row (StackOf n) (at + 32) t.stack t.stack_length ∷ []) (λ t. THREAD) StackOf (λ t. t.stack) (λ t. t.stack_length)
     (λ at n x xs. refl) (λ at n x. record { index = 0; place = at + 32; is = refl })
 
 -- ---- among all regions

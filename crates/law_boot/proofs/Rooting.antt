@@ -17,7 +17,7 @@ use Rattle.def_image.specs.declared.SlotKind.TheVariants as slot
 use Rattle.def_image.specs.Parts.{CodeRow, SharedRow, SealedRow, PartsRow}
 use Rattle.def_image.specs.Members.{no_code, no_shared, no_sealed, library, shared, sealed}
 use Rattle.def_image.specs.Sound.{Sound, Names}
-use Rattle.def_boot.specs.Entries.{slot_row}
+use Rattle.def_boot.specs.Entries.{slot_entry}
 use Rattle.def_boot.specs.Gates.{entries_of}
 use Rattle.def_boot.specs.Boot.{image_of}
 use Rattle.def_boot.specs.Rows.{HasRow, EntryIs, is_nothing, is_trusted, is_code, is_globals, is_slot, is_export, is_library, is_library_slot, is_library_export, is_stack}
@@ -37,7 +37,7 @@ filled : (z : Root) → z.base < z.top → Filled z
 filled z some = record { some = λ root home. some }
 
 module _ (p : PartsRow) (s : Sound p) where
-  slot_filled : (o : Owner) (at : ℕ) (r : ImportRow) (k : SlotKind) → Names p r k → Filled (listed_root (Some (slot_row p o at r k)) no_gate)
+  slot_filled : (o : Owner) (at : ℕ) (r : ImportRow) (k : SlotKind) → Names p r k → Filled (listed_root (Some (slot_entry p o at r k)) no_gate)
   slot_filled o at r slot.Service names = filled _ (omega arith)
   slot_filled o at r slot.Device names = filled _ (omega arith)
   slot_filled o at r slot.Shared names =

@@ -5,10 +5,10 @@ use Rattle.ct_entry.specs.declared.rows.Kind.TheVariants as kind
 use Rattle.def_profile.specs.declared.rights.TheConstants.{MC, LM, LG, CODE_RIGHTS, GLOBALS_RIGHTS, STACK_RIGHTS, SERVICE_RIGHTS, SEALED_RIGHTS, EXPORT_RIGHTS, QUOTA_RIGHTS, KEY_RIGHTS}
 use Rattle.def_words.specs.Derive.{memory_root, executable_root}
 use Rattle.def_words.specs.Permissions.{IsLegal, bit, form_of, global, store_data, store_local, load_data, execute, unsealing, sealing, normal_set, set_where}
-use Rattle.def_words.specs.Facts.{Spells}
+use Rattle.def_words.specs.Facts.{SpellsPermissions}
 use Rattle.law_words.proofs.Rights.{taken}
 use Rattle.def_reach.specs.Roots.{Origin, Unknown, Listing, is_root, is_code, is_stack}
-use Rattle.def_image.specs.Rights.{is_one_of, device_rights, carrying_rights, read_rights, write_rights, both_rights}
+use Rattle.def_image.specs.Rights.{is_one_of, device_right_sets, carrying_rights, read_rights, write_rights, both_rights}
 
 pub clash_of : {G : Type 0} (b : Bool) → b ≡ true → b ≡ false → G
 clash_of b up down = absurd (let clash : true ≡ false = sym up ∙ down in cc)
@@ -34,7 +34,7 @@ pub record RightsFit (o : Origin) (s : ℕ) : Type 0 where
 -- rights that neither run, nor seal, nor store what is local
 pub record DataRights (s : ℕ) : Type 0 where
   pub legal : IsLegal s
-  pub spelled : Spells memory_root s
+  pub spelled : SpellsPermissions memory_root s
   pub not_local : bit s store_local ≡ false
   pub not_run : bit s execute ≡ false
   pub not_seal : bit s sealing ≡ false
@@ -90,17 +90,17 @@ one_of Q s (x ∷ xs) is each = elim (eq_tells s x) [
   | inr other ↦ one_of Q s xs (let P : Bool → Type 0 = λ b. (b || is_one_of s xs) ≡ true in subst P other.0 is) each.1
 ]
 
-devices_each : Each DataRights device_rights
+devices_each : Each DataRights device_right_sets
 devices_each = (read_set, (write_set, (both_set, tt)))
 
 carrying_each : Each DataRights carrying_rights
 carrying_each = (carry_set, (put_set, (globals_set, tt)))
 
-pub device_set : (s : ℕ) → is_one_of s device_rights ≡ true → DataRights s
-device_set s is = one_of DataRights s device_rights is devices_each
+pub device_set : (s : ℕ) → is_one_of s device_right_sets ≡ true → DataRights s
+device_set s is = one_of DataRights s device_right_sets is devices_each
 
-pub shared_set : (s : ℕ) → (is_one_of s device_rights || is_one_of s carrying_rights) ≡ true → DataRights s
-shared_set s is = elim (bool_tells (is_one_of s device_rights)) [
+pub shared_set : (s : ℕ) → (is_one_of s device_right_sets || is_one_of s carrying_rights) ≡ true → DataRights s
+shared_set s is = elim (bool_tells (is_one_of s device_right_sets)) [
   | inl plain ↦ device_set s plain
   | inr other ↦ one_of DataRights s carrying_rights (let P : Bool → Type 0 = λ b. (b || is_one_of s carrying_rights) ≡ true in subst P other is) carrying_each
 ]
@@ -121,7 +121,7 @@ data_fit o s d no_stack no_key = record {
 -- rights to run
 pub record RunRights (s : ℕ) : Type 0 where
   pub legal : IsLegal s
-  pub spelled : Spells executable_root s
+  pub spelled : SpellsPermissions executable_root s
   pub not_local : bit s store_local ≡ false
   pub not_seal : bit s sealing ≡ false
   pub not_unseal : bit s unsealing ≡ false

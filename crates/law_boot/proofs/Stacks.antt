@@ -8,10 +8,10 @@ use Rattle.def_reach.specs.Roots.{Root, TrustedPart, Listing, root_of}
 use Rattle.def_machine.specs.Image.{Region, HeapRam, Bare, Stack, Fixed, root, address_of, granule_of, stack_entry, stack_base, stack_top}
 use Rattle.def_machine.specs.Image as image
 use Rattle.def_image.specs.Parts.{ThreadRow, PartsRow}
-use Rattle.def_image.specs.Regions.{Holder, CodeOf, TableOf, GlobalsOf, SharedOf, SealedOf, StackOf, RegionRow, region}
+use Rattle.def_image.specs.Regions.{Holder, CodeOf, TableOf, GlobalsOf, SharedOf, SealedOf, StackOf, RegionRow, region_row}
 use Rattle.def_image.specs.Regions as regions
 use Rattle.def_image.specs.Sound.{Sound}
-use Rattle.def_boot.specs.Contents.{part, part_at, part_of, granules_in, region_at, is_heap}
+use Rattle.def_boot.specs.Contents.{part, part_at, region_part, granules_in, region_at, is_heap}
 use Rattle.def_boot.specs.Gates.{entries_of}
 use Rattle.def_boot.specs.Boot.{image_of}
 use Rattle.law_boot.proofs.Standing.{stack_of}
@@ -33,7 +33,7 @@ part_thread : Region → ℕ
 part_thread (Stack t) = t
 part_thread _ = 0
 
-stack_holder : (h : Holder) (k t : ℕ) → part_of h k ≡ Stack t → h ≡ StackOf t
+stack_holder : (h : Holder) (k t : ℕ) → region_part h k ≡ Stack t → h ≡ StackOf t
 unfolding part_thread
 stack_holder (CodeOf o) k t is = no_way (ap is_stack_part is)
 stack_holder (TableOf b) k t is = no_way (ap is_stack_part is)
@@ -88,7 +88,7 @@ module _ (p : PartsRow) (s : Sound p) where
       let ends = root_there t found.0 found.1 in
       let base = ends.0 in
       let top = ends.1 in
-      at_region p s k among.index (region (StackOf t) among.place found.0.stack found.0.stack_length) among.is (omega (arith, base, low), omega (arith, top, high))
+      at_region p s k among.index (region_row (StackOf t) among.place found.0.stack found.0.stack_length) among.is (omega (arith, base, low), omega (arith, top, high))
 
   -- ---- the heap
 

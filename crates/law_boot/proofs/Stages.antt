@@ -11,7 +11,7 @@ use Rattle.def_memory.specs.Accesses.{stored_cap}
 use Rattle.def_image.specs.Parts.{PartsRow}
 use Rattle.def_boot.specs.Contents.{boot_cap, boot_granule, boot_granules, granules_from, granules_in}
 use Rattle.def_boot.specs.Booting.{BootPuts, empty_granules, IsDone, Booting, Stage, IsFrom}
-use Rattle.def_boot.specs.Written.{IsBootWritten, OfFirst}
+use Rattle.def_boot.specs.Written.{IsBootWritten, InFirst}
 use Rattle.law_boot.proofs.Zeros.{zero_else}
 use Rattle.law_boot.proofs.Contents.{granules_count, granules_there}
 
@@ -61,12 +61,12 @@ stage_one p a b low high even size h = record {
 
 -- ---- members of a list
 
-pub none_yet : {A : Type 0} (p : PartsRow) (gs : List Granule) (In : A → ℕ → Type 0) (xs : List A) → Booting p gs → Stage p gs gs (OfFirst In xs 0)
-none_yet p gs In xs h = stage_none p gs (OfFirst In xs 0) h (λ x f. let lt = f.1 in omega (arith, lt))
+pub none_yet : {A : Type 0} (p : PartsRow) (gs : List Granule) (In : A → ℕ → Type 0) (xs : List A) → Booting p gs → Stage p gs gs (InFirst In xs 0)
+none_yet p gs In xs h = stage_none p gs (InFirst In xs 0) h (λ x f. let lt = f.1 in omega (arith, lt))
 
 pub one_more : {A : Type 0} (p : PartsRow) (a b c : List Granule) (In : A → ℕ → Type 0) (xs : List A) (n : ℕ) (y : A) → slice_get xs n ≡ Some y
-    → Stage p a b (OfFirst In xs n) → Stage p b c (In y) → Stage p a c (OfFirst In xs (n + 1))
-one_more {A = A} p a b c In xs n y there first second = stage_then p a b c (OfFirst In xs n) (In y) (OfFirst In xs (n + 1)) first second (λ x even h. cut x h)
+    → Stage p a b (InFirst In xs n) → Stage p b c (In y) → Stage p a c (InFirst In xs (n + 1))
+one_more {A = A} p a b c In xs n y there first second = stage_then p a b c (InFirst In xs n) (In y) (InFirst In xs (n + 1)) first second (λ x even h. cut x h)
   where
     same_member : (i : ℕ) (z : A) (x : ℕ) → i ≡ n → slice_get xs i ≡ Some z → In z x → In y x
     same_member i z x e is h =
@@ -74,7 +74,7 @@ one_more {A = A} p a b c In xs n y there first second = stage_then p a b c (OfFi
         let same : z ≡ y = cc in
         subst (λ w. In w x) same h
 
-    cut : (x : ℕ) → OfFirst In xs (n + 1) x → OfFirst In xs n x ⊎ In y x
+    cut : (x : ℕ) → InFirst In xs (n + 1) x → InFirst In xs n x ⊎ In y x
     cut x (i, lt, z, is, h) = elim (lt_tells i n) [
       | inl less ↦ inl (i, less.1, z, is, h)
       | inr more ↦ let over = more.1 in inr (same_member i z x (omega (arith, over, lt)) is h)

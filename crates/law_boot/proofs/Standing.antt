@@ -16,7 +16,7 @@ use Rattle.def_image.specs.declared.SlotKind.TheVariants as slot
 use Rattle.def_image.specs.Parts.{SlotRow, GateRow, CodeRow, CompartmentRow, ThreadRow, PartsRow}
 use Rattle.def_image.specs.Sizes.{sum_of}
 use Rattle.def_image.specs.Members.{no_code, no_compartment, compartment, library, compartment_entries, library_entries, first_library, first_stack, code_number, globals_number, library_number, stack_number, gate_address, gate_number, library_gate_number}
-use Rattle.def_boot.specs.Entries.{slot_row, slot_rows, code_row, globals_row, export_row, export_rows, compartment_rows, library_export_row, library_rows, stack_row, rows_from, entry_rows}
+use Rattle.def_boot.specs.Entries.{slot_entry, slot_rows, code_row, globals_row, export_row, export_rows, compartment_rows, library_export_row, library_rows, stack_row, rows_from, entry_rows}
 use Rattle.def_boot.specs.Gates.{gate, gates_of, entries_of}
 use Rattle.def_boot.specs.Made.{entry_cap, entry_caps, caps_at_boot}
 use Rattle.def_boot.specs.Rows.{HasRow, HasCompartment, HasLibrary, HasStack, slot_row_at, slot_number, library_slot_number}
@@ -25,7 +25,7 @@ use Rattle.law_boot.proofs.Gates.{own_none, own_gate, shared_none, shared_gate, 
 
 -- ---- slots and exports
 
-pub slot_owner : (p : PartsRow) (o : Owner) (at : ℕ) (r : ImportRow) (k : SlotKind) → (slot_row p o at r k).owner ≡ o
+pub slot_owner : (p : PartsRow) (o : Owner) (at : ℕ) (r : ImportRow) (k : SlotKind) → (slot_entry p o at r k).owner ≡ o
 slot_owner p o at r slot.Service = refl
 slot_owner p o at r slot.Device = refl
 slot_owner p o at r slot.Shared = refl
@@ -40,15 +40,15 @@ slots_count p o at [] = refl
 slots_count p o at (s ∷ ss) = ap suc (slots_count p o (at + SLOT_SIZE) ss)
 
 slots_there : (p : PartsRow) (o : Owner) (at : ℕ) (ss : List SlotRow) (j : ℕ) (s : SlotRow) → slice_get ss j ≡ Some s
-    → slice_get (slot_rows p o at ss) j ≡ Some (slot_row p o (at + SLOT_SIZE * j) s.row s.row.kind)
+    → slice_get (slot_rows p o at ss) j ≡ Some (slot_entry p o (at + SLOT_SIZE * j) s.row s.row.kind)
 slots_there p o at [] j s is = cc
 slots_there p o at (r ∷ rs) zero s is =
     let same : r ≡ s = cc in
     let place : at ≡ at + SLOT_SIZE * 0 = omega arith in
-    ap (λ q. Some (slot_row p o q r.row r.row.kind)) place ∙ ap (λ (z : SlotRow). Some (slot_row p o (at + SLOT_SIZE * 0) z.row z.row.kind)) same
+    ap (λ q. Some (slot_entry p o q r.row r.row.kind)) place ∙ ap (λ (z : SlotRow). Some (slot_entry p o (at + SLOT_SIZE * 0) z.row z.row.kind)) same
 slots_there p o at (r ∷ rs) (suc j) s is =
     let place : at + SLOT_SIZE + SLOT_SIZE * j ≡ at + SLOT_SIZE * suc j = omega arith in
-    slots_there p o (at + SLOT_SIZE) rs j s is ∙ ap (λ q. Some (slot_row p o q s.row s.row.kind)) place
+    slots_there p o (at + SLOT_SIZE) rs j s is ∙ ap (λ q. Some (slot_entry p o q s.row s.row.kind)) place
 
 pub exports_count : (b at : ℕ) (xs : List GateRow) → length (export_rows b at xs) ≡ length xs
 exports_count b at [] = refl

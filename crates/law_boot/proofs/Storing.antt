@@ -18,11 +18,11 @@ use Rattle.def_image.specs.declared.SlotKind.{SlotKind}
 use Rattle.def_image.specs.declared.SlotKind.TheVariants as slot
 use Rattle.def_image.specs.Parts.{SharedRow, SealedRow, PartsRow}
 use Rattle.def_image.specs.Members.{no_shared, no_sealed, shared, sealed}
-use Rattle.def_image.specs.Regions.{Holder, GlobalsOf, SharedOf, SealedOf, StackOf, region, regions_of}
-use Rattle.def_image.specs.Rights.{fits_kind, rights_of, is_library as is_library_kind, is_one_of, device_rights, read_rights, write_rights, both_rights}
+use Rattle.def_image.specs.Regions.{Holder, GlobalsOf, SharedOf, SealedOf, StackOf, region_row, regions_of}
+use Rattle.def_image.specs.Rights.{fits_kind, rights_of, is_library as is_library_kind, is_one_of, device_right_sets, read_rights, write_rights, both_rights}
 use Rattle.def_image.specs.Sound.{Sound, Names}
-use Rattle.def_boot.specs.Contents.{part_of}
-use Rattle.def_boot.specs.Entries.{slot_row}
+use Rattle.def_boot.specs.Contents.{region_part}
+use Rattle.def_boot.specs.Entries.{slot_entry}
 use Rattle.def_boot.specs.Gates.{entries_of}
 use Rattle.def_boot.specs.Boot.{image_of}
 use Rattle.def_boot.specs.Rows.{HasRow, EntryIs, is_nothing, is_trusted, is_code, is_globals, is_slot, is_export, is_library, is_library_slot, is_library_export, is_stack}
@@ -77,7 +77,7 @@ one_of Q a x xs is here later = elim (eq_tells a x) [
   | inr other ↦ later (let P : Bool → Type 0 = λ b. (b || is_one_of a xs) ≡ true in subst P other.0 is)
 ]
 
-device_carries : (a : ℕ) → is_one_of a device_rights ≡ true → bit a memory_capability ≡ false
+device_carries : (a : ℕ) → is_one_of a device_right_sets ≡ true → bit a memory_capability ≡ false
 device_carries a is =
     let Q : ℕ → Type 0 = λ x. bit x memory_capability ≡ false in
     one_of Q a read_rights (write_rights ∷ both_rights ∷ []) is read_carries
@@ -100,14 +100,14 @@ keeps p n z none = record {
 
 -- through an entry of a region
 in_region : (p : PartsRow) → Sound p → (n : ℕ) (z : Root) (h : Holder) (base size : ℕ) → Among (regions_of p) h base size → z.base ≡ base → z.top ≡ base + size
-    → ((k : ℕ) → StoresInto (image_of p) n (part_of h k)) → ((k : ℕ) → bit z.rights memory_capability ≡ true → Carries (image_of p) n (part_of h k)) → Stores p n z
+    → ((k : ℕ) → StoresInto (image_of p) n (region_part h k)) → ((k : ℕ) → bit z.rights memory_capability ≡ true → Carries (image_of p) n (region_part h k)) → Stores p n z
 in_region p s n z h base size a starts ends into carries = record {
   into = λ x from stores low high.
-      let found = of_address p s x a.index (region h a.place base size) a.is (omega (arith, starts, low), omega (arith, ends, high)) in
+      let found = of_address p s x a.index (region_row h a.place base size) a.is (omega (arith, starts, low), omega (arith, ends, high)) in
       subst (λ r. StoresInto (image_of p) n r) (sym found.1) (into found.0);
   carries = λ x stores mc low high.
-      let found = of_address p s x a.index (region h a.place base size) a.is (omega (arith, starts, low), omega (arith, ends, high)) in
-      let laid = (s.laid.each a.index (region h a.place base size) a.is).low in
+      let found = of_address p s x a.index (region_row h a.place base size) a.is (omega (arith, starts, low), omega (arith, ends, high)) in
+      let laid = (s.laid.each a.index (region_row h a.place base size) a.is).low in
       (omega (arith, laid, starts, low), subst (λ r. Carries (image_of p) n r) (sym found.1) (carries found.0 mc));
 }
 
@@ -116,7 +116,7 @@ module _ (p : PartsRow) (s : Sound p) where
   kept n e g h none = keeps p n (root_of (entries_of p) n) (ap (λ (z : Root). bit z.rights store_data) h.root_is ∙ none)
 
   slot_stores : (n : ℕ) (o : Owner) (at : ℕ) (r : ImportRow) (k : SlotKind) → Names p r k → fits_kind k (rights_of r) ≡ true → (is_library_kind k ≡ false → (a : ℕ) × (o ≡ Compartment a))
-      → HasRow p n (slot_row p o at r k) no_gate → Stores p n (root_of (entries_of p) n)
+      → HasRow p n (slot_entry p o at r k) no_gate → Stores p n (root_of (entries_of p) n)
   unfolding image_of
   slot_stores n o at r slot.Service names fits owned h = kept n _ _ h (ap (λ a. bit a store_data) (eqb-true (rights_of r) SERVICE_RIGHTS fits) ∙ service_keeps)
   slot_stores n o at r slot.Device names fits owned h =

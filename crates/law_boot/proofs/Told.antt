@@ -27,7 +27,7 @@ use Rattle.def_image.specs.Parts.{SlotRow, CodeRow, PartsRow}
 use Rattle.def_image.specs.Members.{gate_number, library_gate_number}
 use Rattle.def_image.specs.Rights.{fits_kind, rights_of, is_library as is_library_kind}
 use Rattle.def_image.specs.Sound.{Sound, Names, IsAway}
-use Rattle.def_boot.specs.Entries.{native_address, slot_row}
+use Rattle.def_boot.specs.Entries.{native_address, slot_entry}
 use Rattle.def_boot.specs.Gates.{gate, gates_of, entries_of}
 use Rattle.def_boot.specs.Made.{boot_cap_of, entry_cap, return_sentry, sentry_type}
 use Rattle.def_boot.specs.Rows.{HasRow, EntryIs, is_nothing, is_trusted, is_code, is_globals, is_slot, is_export, is_library, is_library_slot, is_library_export, is_stack}
@@ -223,7 +223,7 @@ module _ (p : PartsRow) (s : Sound p) where
 
   -- where a slot stands: in RAM below the heap
   pub slot_told : (n : ℕ) (o : Owner) (at : ℕ) (r : ImportRow) (k : SlotKind) → Names p r k → fits_kind k (rights_of r) ≡ true → p.ram ≤ at → at + SLOT_SIZE ≤ p.heap
-      → (is_library_kind k ≡ false → (a : ℕ) × (o ≡ Compartment a)) → Told p n (listed_root (Some (slot_row p o at r k)) no_gate) (entry_cap p n (slot_row p o at r k) (slot_row p o at r k).kind)
+      → (is_library_kind k ≡ false → (a : ℕ) × (o ≡ Compartment a)) → Told p n (listed_root (Some (slot_entry p o at r k)) no_gate) (entry_cap p n (slot_entry p o at r k) (slot_entry p o at r k).kind)
   slot_told n o at r slot.Service names fits low inside owned =
       told_row p n _ _ (run_fit (Listing kind.Service) (rights_of r) (service_rights (rights_of r) fits) refl refl (λ root. refl))
       (native refl refl (record { number = r.first; few = names; starts = refl; ends = refl }))

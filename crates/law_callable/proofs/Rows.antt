@@ -18,7 +18,7 @@ use Rattle.def_image.specs.Parts.{GateRow, CompartmentRow, PartsRow}
 use Rattle.def_image.specs.Members.{gate_address, gate_number}
 use Rattle.def_image.specs.Regions.{table_size, table_length}
 use Rattle.def_image.specs.Sound.{Sound}
-use Rattle.def_boot.specs.Entries.{slot_row, export_row, entry_rows}
+use Rattle.def_boot.specs.Entries.{slot_entry, export_row, entry_rows}
 use Rattle.def_boot.specs.Gates.{gate, gates_of, entries_of}
 use Rattle.def_boot.specs.Rows.{HasRow, HasCompartment, EntryIs, is_nothing, is_trusted, is_code, is_globals, is_slot, is_export, is_library, is_library_slot, is_library_export, is_stack}
 use Rattle.law_boot.proofs.Listing.{entry_of}
@@ -54,7 +54,7 @@ row_root p b k = elim (lt_tells k (length (entry_rows p))) [
 
 -- ---- which numbers they have
 
-slot_no_export : (p : PartsRow) (o : Owner) (at : ℕ) (r : ImportRow) (k : SlotKind) → is_export_kind (slot_row p o at r k).kind ≡ false
+slot_no_export : (p : PartsRow) (o : Owner) (at : ℕ) (r : ImportRow) (k : SlotKind) → is_export_kind (slot_entry p o at r k).kind ≡ false
 slot_no_export p o at r slot.Service = refl
 slot_no_export p o at r slot.Device = refl
 slot_no_export p o at r slot.Shared = refl

@@ -9,9 +9,9 @@ use Rattle.law_granules.proofs.Lists.{cap_back, cap_rest}
 use Rattle.std.proofs.lemmas.List.{length-set}
 use Rattle.def_chunks.specs.declared.heads.TheConstants.{NO_CHUNK}
 use Rattle.def_chunks.specs.declared.rows.Range.{Range}
-use Rattle.def_chunks.specs.Chunks.{Chunk, is_free, total, first_free, head_of, head_at, Lays, IsChunk, AreChunks}
+use Rattle.def_chunks.specs.Chunks.{Chunk, is_free, total_size, first_free, head_of, head_at, Lays, IsChunk, AreChunks}
 use Rattle.def_chunks.specs.Tiles.{chunks, TiledBy, Tiled}
-use Rattle.def_chunks.specs.Changes.{replaced, parts, taken, in_state, linked}
+use Rattle.def_chunks.specs.Changes.{replaced, parts, taken, in_state, with_link}
 use Rattle.def_chunks.specs.Gaps.{LastFree, FreeStands, UsedStands, FreeLinked}
 use Rattle.law_chunks.proofs.Lays.{lays_same, lays_both, lays_join, free_both, none_first, unlinked, relinked, total_both, first_stays, are_split, are_join, total_even, starts_low, starts_high, starts_even}
 use Rattle.law_chunks.proofs.Reading.{Done, done, sits, sits_by, replaced_is}
@@ -47,7 +47,7 @@ free_part c n shape free_ whole some = record {
 }
 
 -- what a split leaves
-split_tiles : (r : Range) (gs hs : List Granule) (xs : List Chunk) (c : Chunk) (ys : List Chunk) (at first : ℕ) → TiledBy r gs (xs ++ c ∷ ys) → at ≡ r.base + total xs → is_free c ≡ true → first % 8 ≡ 0 → 8 ≤ first → first + 8 ≤ c.size → length hs ≡ length gs
+split_tiles : (r : Range) (gs hs : List Granule) (xs : List Chunk) (c : Chunk) (ys : List Chunk) (at first : ℕ) → TiledBy r gs (xs ++ c ∷ ys) → at ≡ r.base + total_size xs → is_free c ≡ true → first % 8 ≡ 0 → 8 ≤ first → first + 8 ≤ c.size → length hs ≡ length gs
     → head_at hs r.ram at ≡ plain (first + (at + first - r.base) * 2 ^ 32)
     → head_at hs r.ram (at + first) ≡ plain (c.size - first + first_free r.base (at + c.size) ys NO_CHUNK * 2 ^ 32)
     → ((p : ℕ) → r.base ≤ p → p % 8 ≡ 0 → (p ≡ at → ⊥) → (p ≡ at + first → ⊥) → head_at hs r.ram p ≡ head_at gs r.ram p)
@@ -137,7 +137,7 @@ record LiesRest (r q : Range) (hs : List Granule) (xs zs : List Chunk) (at : ℕ
   pub lays : Lays hs r.ram r.base r.base xs (first_free r.base at zs NO_CHUNK)
   pub head : q.first ≡ first_free r.base r.base xs (first_free r.base at zs NO_CHUNK)
 
-take_tiles : (r q : Range) (gs hs : List Granule) (xs : List Chunk) (c : Chunk) (ys : List Chunk) (at before bsize number : ℕ) → TiledBy r gs (xs ++ c ∷ ys) → at ≡ r.base + total xs → is_free c ≡ true → 16 ≤ c.size → number < 2 ^ 32 → LastFree xs before bsize → length hs ≡ length gs
+take_tiles : (r q : Range) (gs hs : List Granule) (xs : List Chunk) (c : Chunk) (ys : List Chunk) (at before bsize number : ℕ) → TiledBy r gs (xs ++ c ∷ ys) → at ≡ r.base + total_size xs → is_free c ≡ true → 16 ≤ c.size → number < 2 ^ 32 → LastFree xs before bsize → length hs ≡ length gs
     → head_at hs r.ram at ≡ plain (c.size + 1 + number * 2 ^ 32)
     → Links r q gs hs xs before bsize (first_free r.base (at + c.size) ys NO_CHUNK) at
     → TiledBy q hs (xs ++ (taken number c ++ ys))
@@ -156,7 +156,7 @@ take_tiles r q gs hs xs c ys at before bsize number h place free_ wide small whe
     let old_ys : Lays gs r.ram r.base (at + c.size) ys NO_CHUNK = rw place old.1.1 in
     let beyond : Lays hs r.ram r.base (at + c.size) ys NO_CHUNK = lays_same gs hs r.ram r.base (at + c.size) ys NO_CHUNK
     (λ p s. let lo = starts_low p (at + c.size) ys s in
-    links.rest p (omega (arith, lo, low)) (starts_even p (at + c.size) ys k.below_are (omega (arith, eight, c_whole)) s) (λ e. omega (arith, e, lo, wide)) (λ some e. elim where_ [ inl no_one ↦ some no_one.0 | inr l ↦ (let la = l.link in let lw = ap total l.whole ∙ total_both l.above (l.chunk ∷ l.used) in omega (arith, e, lo, la, lw, place)) ])) old_ys in
+    links.rest p (omega (arith, lo, low)) (starts_even p (at + c.size) ys k.below_are (omega (arith, eight, c_whole)) s) (λ e. omega (arith, e, lo, wide)) (λ some e. elim where_ [ inl no_one ↦ some no_one.0 | inr l ↦ (let la = l.link in let lw = ap total_size l.whole ∙ total_both l.above (l.chunk ∷ l.used) in omega (arith, e, lo, la, lw, place)) ])) old_ys in
     let whole_rest : LiesRest r q hs xs (taken number c ++ ys) at = elim where_ [
       | inl no_one ↦ record {
         lays = lays_same gs hs r.ram r.base r.base xs next
@@ -166,29 +166,29 @@ take_tiles r q gs hs xs c ys at before bsize number h place free_ wide small whe
       }
       | inr l ↦
           let la = l.link in
-          let lw = ap total l.whole ∙ total_both l.above (l.chunk ∷ l.used) in
+          let lw = ap total_size l.whole ∙ total_both l.above (l.chunk ∷ l.used) in
           let ls = l.size_is in
           let ks = are_split l.above (l.chunk ∷ l.used) (rw l.whole at k.above_are) in
           let b_some = ks.1.0.some in
           let b_state : l.chunk.state ≡ 0 = free_state l.chunk l.is in
           let some : before ≡ NO_CHUNK → ⊥ = λ e. omega (arith, e, la, lw, sum, bound, b_some) in
-          let there : r.base + before ≡ r.base + total l.above = omega (arith, la) in
-          let wrote : head_at hs r.ram (r.base + total l.above) ≡ head_of l.chunk next = rw there at (links.link some) ∙ rw (ls, l.is, b_state) (ap plain (omega arith)) in
+          let there : r.base + before ≡ r.base + total_size l.above = omega (arith, la) in
+          let wrote : head_at hs r.ram (r.base + total_size l.above) ≡ head_of l.chunk next = rw there at (links.link some) ∙ rw (ls, l.is, b_state) (ap plain (omega arith)) in
           let b_whole = ks.1.0.whole in
           let above_even = total_even l.above ks.0 in
           record {
             lays = subst (λ (k : List Chunk). Lays hs r.ram r.base r.base k next) (sym l.whole) (relinked gs hs r.ram r.base r.base l.above l.chunk l.used (first_free r.base at (c ∷ ys) NO_CHUNK) next l.is l.others (subst (λ (k : List Chunk). Lays gs r.ram r.base r.base k (first_free r.base at (c ∷ ys) NO_CHUNK)) l.whole old_xs) wrote
                 (λ p s. let hi = starts_high p r.base l.above ks.0 s in links.rest p (starts_low p r.base l.above s) (starts_even p r.base l.above ks.0 (omega (arith, base_even)) s) (λ e. omega (arith, e, hi, lw, place)) (λ some_ e. omega (arith, e, hi, la)))
-                (λ p s. let lo = starts_low p (r.base + total l.above + l.chunk.size) l.used s in let hi = starts_high p (r.base + total l.above + l.chunk.size) l.used ks.1.1 s in
-                links.rest p (omega (arith, lo)) (starts_even p (r.base + total l.above + l.chunk.size) l.used ks.1.1 (omega (arith, base_even, above_even, b_whole)) s) (λ e. omega (arith, e, hi, lw, place)) (λ some_ e. omega (arith, e, lo, la, b_some))));
-            head = links.kept some ∙ h.first ∙ free_both r.base r.base xs (c ∷ ys) NO_CHUNK ∙ ap (λ (k : List Chunk). first_free r.base r.base k (first_free r.base (r.base + total xs) (c ∷ ys) NO_CHUNK)) l.whole ∙ first_stays r.base r.base l.above l.chunk l.used (first_free r.base (r.base + total xs) (c ∷ ys) NO_CHUNK) next l.is ∙ ap (λ (k : List Chunk). first_free r.base r.base k next) (sym l.whole);
+                (λ p s. let lo = starts_low p (r.base + total_size l.above + l.chunk.size) l.used s in let hi = starts_high p (r.base + total_size l.above + l.chunk.size) l.used ks.1.1 s in
+                links.rest p (omega (arith, lo)) (starts_even p (r.base + total_size l.above + l.chunk.size) l.used ks.1.1 (omega (arith, base_even, above_even, b_whole)) s) (λ e. omega (arith, e, hi, lw, place)) (λ some_ e. omega (arith, e, lo, la, b_some))));
+            head = links.kept some ∙ h.first ∙ free_both r.base r.base xs (c ∷ ys) NO_CHUNK ∙ ap (λ (k : List Chunk). first_free r.base r.base k (first_free r.base (r.base + total_size xs) (c ∷ ys) NO_CHUNK)) l.whole ∙ first_stays r.base r.base l.above l.chunk l.used (first_free r.base (r.base + total_size xs) (c ∷ ys) NO_CHUNK) next l.is ∙ ap (λ (k : List Chunk). first_free r.base r.base k next) (sym l.whole);
           }
     ] in
     let first_is : q.first ≡ first_free r.base r.base (xs ++ (taken number c ++ ys)) NO_CHUNK = whole_rest.head ∙ (rw place (sym (free_both r.base r.base xs (taken number c ++ ys) NO_CHUNK))) in
     let mine_ : Lays hs r.ram r.base at (taken number c ++ ys) NO_CHUNK = (mine, beyond) in
     let all_lays : Lays hs r.ram r.base r.base (xs ++ (taken number c ++ ys)) NO_CHUNK = lays_join hs r.ram r.base r.base xs (taken number c ++ ys) NO_CHUNK (rw (← place) whole_rest.lays) (rw (← place) mine_) in
     let shapes : AreChunks (xs ++ (taken number c ++ ys)) = are_join xs (taken number c ++ ys) k.above_are ((record { whole = shape.whole; some = shape.some; used = λ u. wide; states = omega arith; number = small; blank = λ f. absurd (let clash : true ≡ false = sym f in cc) }, k.below_are)) in
-    let all : total (xs ++ (taken number c ++ ys)) ≡ r.length = total_both xs (taken number c ++ ys) ∙ omega (arith, sum) in
+    let all : total_size (xs ++ (taken number c ++ ys)) ≡ r.length = total_both xs (taken number c ++ ys) ∙ omega (arith, sum) in
     let inside = h.inside in
     let s0 = links.same.0 in
     let s1 = links.same.1 in
@@ -219,7 +219,7 @@ sat r gs at size next before bsize h t some = elim t.last [
       let k = sits r gs at h s in
       let ks = are_split l.above (l.chunk ∷ l.used) (subst AreChunks l.whole k.above_are) in
       let la = l.link in
-      let lw = ap total l.whole ∙ total_both l.above (l.chunk ∷ l.used) in
+      let lw = ap total_size l.whole ∙ total_both l.above (l.chunk ∷ l.used) in
       let b_some = ks.1.0.some in
       let even = total_even l.above ks.0 in
       let e0 = h.even.0 in
@@ -237,7 +237,7 @@ sat r gs at size next before bsize h t some = elim t.last [
     e_length r h = h.even.2
 
 pub take_done : (r q : Range) (gs ms hs : List Granule) (at size number before bsize next : ℕ) → Tiled r gs → FreeLinked r gs at size next before bsize → 16 ≤ size → number < 2 ^ 32
-    → ms ≡ linked gs r.ram r.base before bsize next → hs ≡ stored_cap ms (at - r.ram) (plain (size + 1 + number * 2 ^ 32))
+    → ms ≡ with_link gs r.ram r.base before bsize next → hs ≡ stored_cap ms (at - r.ram) (plain (size + 1 + number * 2 ^ 32))
     → q ≡ record r { first = cond (nat_eq before NO_CHUNK) next r.first }
     → Done q hs (replaced at (taken number) r.base (chunks r gs))
 take_done r q gs ms hs at size number before bsize next h t wide small one two is_q =

@@ -1,13 +1,13 @@
 -- What is let go and joined: chunks again, of the same size together, of which no two free ones touch.
 use Rattle.std.proofs.Common.{ℕ, zero, suc, ◌≡◌, ◌+◌, ◌-◌, ◌*◌, ◌/◌, ◌%◌, ◌^◌, ◌<◌, ◌≤◌, ◌⊎◌, inl, inr, ◌||◌, Bool, true, false, not, cond, nat_eq, List, [], ◌∷◌, ◌++◌, map, refl, sym, ap, ◌∙◌, arith, subst}
 use Rattle.law_lists.proofs.Tests.{bool_tells, eq_tells}
-use Rattle.def_chunks.specs.Chunks.{Chunk, is_free, total, AreChunks, BeginsUsed, NoneTouch}
+use Rattle.def_chunks.specs.Chunks.{Chunk, is_free, total_size, AreChunks, BeginsUsed, NoneTouch}
 use Rattle.def_chunks.specs.Changes.{painted_chunk, all_painted, leaves, gap, joined}
 use Rattle.law_chunks.proofs.Lays.{total_both, are_join}
 
 -- ---- gaps
 
-pub gap_total : (n : ℕ) → total (gap n) ≡ n
+pub gap_total : (n : ℕ) → total_size (gap n) ≡ n
 gap_total n = elim (eq_tells n 0) [ inl e ↦ rw e.0 (sym e.1) | inr e ↦ rw e.0 (omega arith) ]
 
 pub gap_are : (n : ℕ) → n % 8 ≡ 0 → AreChunks (gap n)
@@ -45,7 +45,7 @@ stays_used c stays = elim (bool_tells (is_free c)) [
 
 -- ---- what joining keeps
 
-pub joined_total : (before : ℕ) (cs : List Chunk) → total (joined before cs) ≡ before + total cs
+pub joined_total : (before : ℕ) (cs : List Chunk) → total_size (joined before cs) ≡ before + total_size cs
 joined_total before [] = gap_total before ∙ omega arith
 joined_total before (c ∷ cs) = elim (bool_tells (leaves c)) [
   | inl e ↦ rw e (joined_total (before + c.size) cs ∙ omega arith)

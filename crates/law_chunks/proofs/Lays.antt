@@ -2,7 +2,7 @@
 use Rattle.std.proofs.Common.{ℕ, zero, suc, ◌≡◌, ◌+◌, ◌-◌, ◌*◌, ◌/◌, ◌%◌, ◌^◌, ◌<◌, ◌≤◌, ◌⊎◌, inl, inr, Bool, true, false, cond, List, [], ◌∷◌, ◌++◌, refl, sym, ap, ◌∙◌, arith, subst}
 use Rattle.def_words.specs.declared.Cap.{Cap}
 use Rattle.def_memory.specs.declared.Granule.{Granule}
-use Rattle.def_chunks.specs.Chunks.{Chunk, is_free, total, first_free, head_of, head_at, Lays, Starts, AreChunks}
+use Rattle.def_chunks.specs.Chunks.{Chunk, is_free, total_size, first_free, head_of, head_at, Lays, Starts, AreChunks}
 use Rattle.def_chunks.specs.Gaps.{NoFree}
 
 -- what holds the same at each head lays the same chunks
@@ -11,28 +11,28 @@ lays_same gs hs ram base at [] next same h = tt
 lays_same gs hs ram base at (c ∷ cs) next same h = (same at (inl refl) ∙ h.0, lays_same gs hs ram base (at + c.size) cs next (λ p s. same p (inr s)) h.1)
 
 -- chunks one after another
-pub total_both : (xs ys : List Chunk) → total (xs ++ ys) ≡ total xs + total ys
+pub total_both : (xs ys : List Chunk) → total_size (xs ++ ys) ≡ total_size xs + total_size ys
 total_both [] ys = omega arith
 total_both (x ∷ xs) ys = let rest = total_both xs ys in omega (arith, rest)
 
-pub free_both : (base at : ℕ) (xs ys : List Chunk) (next : ℕ) → first_free base at (xs ++ ys) next ≡ first_free base at xs (first_free base (at + total xs) ys next)
+pub free_both : (base at : ℕ) (xs ys : List Chunk) (next : ℕ) → first_free base at (xs ++ ys) next ≡ first_free base at xs (first_free base (at + total_size xs) ys next)
 free_both base at [] ys next = let here : at + 0 ≡ at = omega arith in rw here refl
 free_both base at (x ∷ xs) ys next =
-    let there : at + (x.size + total xs) ≡ at + x.size + total xs = omega arith in
+    let there : at + (x.size + total_size xs) ≡ at + x.size + total_size xs = omega arith in
     rw there (ap (λ n. cond (is_free x) (at - base) n) (free_both base (at + x.size) xs ys next))
 
-pub lays_both : (gs : List Granule) (ram base at : ℕ) (xs ys : List Chunk) (next : ℕ) → Lays gs ram base at (xs ++ ys) next → Lays gs ram base at xs (first_free base (at + total xs) ys next) × Lays gs ram base (at + total xs) ys next
+pub lays_both : (gs : List Granule) (ram base at : ℕ) (xs ys : List Chunk) (next : ℕ) → Lays gs ram base at (xs ++ ys) next → Lays gs ram base at xs (first_free base (at + total_size xs) ys next) × Lays gs ram base (at + total_size xs) ys next
 lays_both gs ram base at [] ys next h = let here : at + 0 ≡ at = omega arith in (tt, rw here h)
 lays_both gs ram base at (x ∷ xs) ys next h =
-    let there : at + (x.size + total xs) ≡ at + x.size + total xs = omega arith in
+    let there : at + (x.size + total_size xs) ≡ at + x.size + total_size xs = omega arith in
     let rest = lays_both gs ram base (at + x.size) xs ys next h.1 in
     (rw there ((h.0 ∙ ap (λ n. head_of x n) (free_both base (at + x.size) xs ys next), rest.0)), rw there rest.1)
 
-pub lays_join : (gs : List Granule) (ram base at : ℕ) (xs ys : List Chunk) (next : ℕ) → Lays gs ram base at xs (first_free base (at + total xs) ys next) → Lays gs ram base (at + total xs) ys next → Lays gs ram base at (xs ++ ys) next
+pub lays_join : (gs : List Granule) (ram base at : ℕ) (xs ys : List Chunk) (next : ℕ) → Lays gs ram base at xs (first_free base (at + total_size xs) ys next) → Lays gs ram base (at + total_size xs) ys next → Lays gs ram base at (xs ++ ys) next
 lays_join gs ram base at [] ys next a b = let here : at + 0 ≡ at = omega arith in rw here at b
 lays_join gs ram base at (x ∷ xs) ys next a b =
-    let there : at + (x.size + total xs) ≡ at + x.size + total xs = omega arith in
-    let a_ : Lays gs ram base at (x ∷ xs) (first_free base (at + x.size + total xs) ys next) = rw there at a in
+    let there : at + (x.size + total_size xs) ≡ at + x.size + total_size xs = omega arith in
+    let a_ : Lays gs ram base at (x ∷ xs) (first_free base (at + x.size + total_size xs) ys next) = rw there at a in
     (a_.0 ∙ ap (λ n. head_of x n) (sym (free_both base (at + x.size) xs ys next)), lays_join gs ram base (at + x.size) xs ys next a_.1 (rw there at b))
 
 -- ---- links
@@ -51,17 +51,17 @@ unlinked gs ram base at (c ∷ cs) n m none_ h = (h.0 ∙ head_used c (first_fre
 
 -- the last free chunk gets another link
 pub relinked : (gs hs : List Granule) (ram base at : ℕ) (xs : List Chunk) (f : Chunk) (us : List Chunk) (n m : ℕ) → is_free f ≡ true → NoFree us → Lays gs ram base at (xs ++ f ∷ us) n
-    → head_at hs ram (at + total xs) ≡ head_of f m
+    → head_at hs ram (at + total_size xs) ≡ head_of f m
     → ((p : ℕ) → Starts p at xs → head_at hs ram p ≡ head_at gs ram p)
-    → ((p : ℕ) → Starts p (at + total xs + f.size) us → head_at hs ram p ≡ head_at gs ram p)
+    → ((p : ℕ) → Starts p (at + total_size xs + f.size) us → head_at hs ram p ≡ head_at gs ram p)
     → Lays hs ram base at (xs ++ f ∷ us) m
 relinked gs hs ram base at xs f us n m free_ none_ h wrote before after =
     let parts = lays_both gs ram base at xs (f ∷ us) n h in
-    let first : (k : ℕ) → first_free base (at + total xs) (f ∷ us) k ≡ at + total xs - base = λ k. rw free_ refl in
-    let link : Lays hs ram base at xs (first_free base (at + total xs) (f ∷ us) m) =
-    lays_same gs hs ram base at xs (first_free base (at + total xs) (f ∷ us) m) before (rw (first m ∙ sym (first n)) parts.0) in
+    let first : (k : ℕ) → first_free base (at + total_size xs) (f ∷ us) k ≡ at + total_size xs - base = λ k. rw free_ refl in
+    let link : Lays hs ram base at xs (first_free base (at + total_size xs) (f ∷ us) m) =
+    lays_same gs hs ram base at xs (first_free base (at + total_size xs) (f ∷ us) m) before (rw (first m ∙ sym (first n)) parts.0) in
     lays_join hs ram base at xs (f ∷ us) m link
-    (wrote ∙ ap (λ k. head_of f k) (sym (none_first base (at + total xs + f.size) us m none_)), lays_same gs hs ram base (at + total xs + f.size) us m after (unlinked gs ram base (at + total xs + f.size) us n m none_ parts.1.1))
+    (wrote ∙ ap (λ k. head_of f k) (sym (none_first base (at + total_size xs + f.size) us m none_)), lays_same gs hs ram base (at + total_size xs + f.size) us m after (unlinked gs ram base (at + total_size xs + f.size) us n m none_ parts.1.1))
 
 -- a link inside doesn't matter where a free chunk stands before it
 pub first_stays : (base at : ℕ) (xs : List Chunk) (b : Chunk) (us : List Chunk) (n m : ℕ) → is_free b ≡ true → first_free base at (xs ++ b ∷ us) n ≡ first_free base at (xs ++ b ∷ us) m
@@ -78,7 +78,7 @@ pub are_join : (xs ys : List Chunk) → AreChunks xs → AreChunks ys → AreChu
 are_join [] ys a b = b
 are_join (x ∷ xs) ys a b = (a.0, are_join xs ys a.1 b)
 
-pub total_even : (cs : List Chunk) → AreChunks cs → total cs % 8 ≡ 0
+pub total_even : (cs : List Chunk) → AreChunks cs → total_size cs % 8 ≡ 0
 total_even [] are = omega arith
 total_even (c ∷ cs) are = let rest = total_even cs are.1 in let whole = are.0.whole in omega (arith, rest, whole)
 
@@ -89,7 +89,7 @@ starts_low p at [] h = absurd h
 starts_low p at (c ∷ cs) (inl h) = omega (arith, h)
 starts_low p at (c ∷ cs) (inr h) = let rest = starts_low p (at + c.size) cs h in omega (arith, rest)
 
-pub starts_high : (p at : ℕ) (cs : List Chunk) → AreChunks cs → Starts p at cs → p + 8 ≤ at + total cs
+pub starts_high : (p at : ℕ) (cs : List Chunk) → AreChunks cs → Starts p at cs → p + 8 ≤ at + total_size cs
 starts_high p at [] are h = absurd h
 starts_high p at (c ∷ cs) are (inl h) = let some = are.0.some in omega (arith, h, some)
 starts_high p at (c ∷ cs) are (inr h) = let rest = starts_high p (at + c.size) cs are.1 h in omega (arith, rest)

@@ -9,7 +9,7 @@ use Rattle.def_machine.specs.Objects.{Each, ApartFrom}
 use Rattle.def_machine.specs.Heap.{Fits, IsPlaceFor}
 use Rattle.def_chunks.specs.declared.rows.Range.{Range}
 use Rattle.def_chunks.specs.declared.rows.Gap.{Gap}
-use Rattle.def_chunks.specs.Chunks.{Chunk, is_free, total, AreChunks, NoneTouch, BeginsUsed}
+use Rattle.def_chunks.specs.Chunks.{Chunk, is_free, total_size, AreChunks, NoneTouch, BeginsUsed}
 use Rattle.def_chunks.specs.Tiles.{chunks, TilesSettled}
 use Rattle.def_chunks.specs.Gaps.{HasRoomAt, IsGap, NoGap}
 use Rattle.def_chunks.specs.Heaps.{objects_in, object_at, quota_named, IsHeapOf, IsUnit}
@@ -21,14 +21,14 @@ Away base length objects = Each (λ q. ApartFrom (record { number = 0; quota = 0
 -- ---- what meets no used chunk lies in one free chunk
 
 -- the used chunk after a free one is met
-meets : (names : List ℕ) (low base length at : ℕ) (cs : List Chunk) → AreChunks cs → BeginsUsed cs → at < base + length → base < at + 8 → base + length ≤ at + total cs → Away base length (objects_in names low at cs) → ⊥
+meets : (names : List ℕ) (low base length at : ℕ) (cs : List Chunk) → AreChunks cs → BeginsUsed cs → at < base + length → base < at + 8 → base + length ≤ at + total_size cs → Away base length (objects_in names low at cs) → ⊥
 meets names low base length at [] are used over near high away = omega (arith, over, high)
 meets names low base length at (d ∷ ds) are used over near high away =
     let both : Away base length (object_at (quota_named names (at - low)) at d ∷ objects_in names low (at + d.size) ds) = rw used at away in
     let wide = are.0.used used in
     elim both.0 [ inl a ↦ omega (arith, a, over) | inr b ↦ omega (arith, b, wide, near) ]
 
-pub in_one : (names : List ℕ) (low base length at : ℕ) (cs : List Chunk) → AreChunks cs → NoneTouch cs → at + 8 ≤ base → base + length ≤ at + total cs → Away base length (objects_in names low at cs) → HasRoomAt base length at cs
+pub in_one : (names : List ℕ) (low base length at : ℕ) (cs : List Chunk) → AreChunks cs → NoneTouch cs → at + 8 ≤ base → base + length ≤ at + total_size cs → Away base length (objects_in names low at cs) → HasRoomAt base length at cs
 in_one names low base length at [] are apart_ above high away = absurd (omega (arith, above, high))
 in_one names low base length at (c ∷ cs) are apart_ above high away =
     let some = are.0.some in
@@ -64,7 +64,7 @@ room_low base length at [] h = absurd h
 room_low base length at (c ∷ cs) (inl h) = h.1
 room_low base length at (c ∷ cs) (inr h) = let rest = room_low base length (at + c.size) cs h in omega (arith, rest)
 
-pub room_high : (base length at : ℕ) (cs : List Chunk) → HasRoomAt base length at cs → base + length ≤ at + total cs
+pub room_high : (base length at : ℕ) (cs : List Chunk) → HasRoomAt base length at cs → base + length ≤ at + total_size cs
 room_high base length at [] h = absurd h
 room_high base length at (c ∷ cs) (inl h) = let here = h.2 in omega (arith, here)
 room_high base length at (c ∷ cs) (inr h) = let rest = room_high base length (at + c.size) cs h in omega (arith, rest)
@@ -82,17 +82,17 @@ room_away names low base length at (c ∷ cs) are (inr h) =
 
 -- ---- places among chunks that stand in a list
 
-pub room_split : (base length at : ℕ) (xs ys : List Chunk) → HasRoomAt base length at (xs ++ ys) → HasRoomAt base length at xs ⊎ HasRoomAt base length (at + total xs) ys
+pub room_split : (base length at : ℕ) (xs ys : List Chunk) → HasRoomAt base length at (xs ++ ys) → HasRoomAt base length at xs ⊎ HasRoomAt base length (at + total_size xs) ys
 room_split base length at [] ys h = let here : at + 0 ≡ at = omega arith in inr (rw here h)
 room_split base length at (x ∷ xs) ys (inl h) = inl (inl h)
 room_split base length at (x ∷ xs) ys (inr h) =
-    let there : at + (x.size + total xs) ≡ at + x.size + total xs = omega arith in
+    let there : at + (x.size + total_size xs) ≡ at + x.size + total_size xs = omega arith in
     elim (room_split base length (at + x.size) xs ys h) [ inl k ↦ inl (inr k) | inr k ↦ inr (rw there k) ]
 
-pub room_second : (base length at : ℕ) (xs ys : List Chunk) → HasRoomAt base length (at + total xs) ys → HasRoomAt base length at (xs ++ ys)
+pub room_second : (base length at : ℕ) (xs ys : List Chunk) → HasRoomAt base length (at + total_size xs) ys → HasRoomAt base length at (xs ++ ys)
 room_second base length at [] ys h = let here : at + 0 ≡ at = omega arith in rw here at h
 room_second base length at (x ∷ xs) ys h =
-    let there : at + (x.size + total xs) ≡ at + x.size + total xs = omega arith in
+    let there : at + (x.size + total_size xs) ≡ at + x.size + total_size xs = omega arith in
     inr (room_second base length (at + x.size) xs ys (rw there at h))
 
 -- ---- the place of the machine's definition
@@ -114,11 +114,11 @@ gap_place i r gs names unit length g of h u gap =
     let low = gap.low in
     let high = gap.high in
     let both = total_both s.above (s.chunk ∷ s.below) in
-    let sum = sym (ap total s.whole) ∙ h.tiled.size in
+    let sum = sym (ap total_size s.whole) ∙ h.tiled.size in
     let base_is = of.base in
     let end_is = of.end in
     let each = u.each g.base gap.aligned in
-    let here : HasRoomAt g.base length (r.base + total s.above) (s.chunk ∷ s.below) = inl (gap.linked.free_stands.is, omega (arith, place, low), omega (arith, place, high, size_is)) in
+    let here : HasRoomAt g.base length (r.base + total_size s.above) (s.chunk ∷ s.below) = inl (gap.linked.free_stands.is, omega (arith, place, low), omega (arith, place, high, size_is)) in
     let holds : HasRoomAt g.base length r.base (chunks r gs) = subst (HasRoomAt g.base length r.base) (sym s.whole) (room_second g.base length r.base s.above (s.chunk ∷ s.below) here) in
     record {
       fits = record {

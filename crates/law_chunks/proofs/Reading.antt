@@ -6,7 +6,7 @@ use Rattle.def_memory.specs.declared.Granule.{Granule}
 use Rattle.def_chunks.specs.declared.heads.TheConstants.{NO_CHUNK}
 use Rattle.def_chunks.specs.declared.rows.Range.{Range}
 use Rattle.def_chunks.specs.declared.rows.Head.{Head}
-use Rattle.def_chunks.specs.Chunks.{Chunk, is_free, total, first_free, head_of, head_at, head_in, Lays, IsChunk, AreChunks}
+use Rattle.def_chunks.specs.Chunks.{Chunk, is_free, total_size, first_free, head_of, head_at, head_in, Lays, IsChunk, AreChunks}
 use Rattle.def_chunks.specs.Tiles.{chunk_of, read, chunks, TiledBy, Tiled}
 use Rattle.def_chunks.specs.Changes.{replaced}
 use Rattle.def_chunks.specs.Gaps.{ChunkStands}
@@ -44,7 +44,7 @@ chunk_back c next shape small =
     ∙ ap (λ n. made c.size c.state (cond (nat_eq c.state 0) 0 n)) told.rest
     ∙ ap (made c.size c.state) number
 
-pub read_is : (gs : List Granule) (ram base end n at : ℕ) (cs : List Chunk) (next : ℕ) → Lays gs ram base at cs next → AreChunks cs → at + total cs ≡ end → total cs + 8 < 2 ^ 32 → total cs ≤ n → read gs ram end n at ≡ cs
+pub read_is : (gs : List Granule) (ram base end n at : ℕ) (cs : List Chunk) (next : ℕ) → Lays gs ram base at cs next → AreChunks cs → at + total_size cs ≡ end → total_size cs + 8 < 2 ^ 32 → total_size cs ≤ n → read gs ram end n at ≡ cs
 read_is gs ram base end zero at [] next h are size small fuel = refl
 read_is gs ram base end (suc n) at [] next h are size small fuel = elim (lt_tells at end) [ inl e ↦ absurd (let lt = e.1 in omega (arith, lt, size)) | inr e ↦ rw e.0 refl ]
 read_is gs ram base end zero at (c ∷ cs) next h are size small fuel = absurd (let some = are.0.some in omega (arith, fuel, some))
@@ -72,7 +72,7 @@ done r hs cs h = let is = chunks_are r hs cs h in record { tiled = subst (TiledB
 
 -- ---- the chunk at an address
 
-pub replaced_is : (f : Chunk → List Chunk) (p at : ℕ) (xs : List Chunk) (c : Chunk) (ys : List Chunk) → AreChunks xs → p ≡ at + total xs → replaced p f at (xs ++ c ∷ ys) ≡ xs ++ (f c ++ ys)
+pub replaced_is : (f : Chunk → List Chunk) (p at : ℕ) (xs : List Chunk) (c : Chunk) (ys : List Chunk) → AreChunks xs → p ≡ at + total_size xs → replaced p f at (xs ++ c ∷ ys) ≡ xs ++ (f c ++ ys)
 replaced_is f p at [] c ys are is = let here : nat_eq at p ≡ true = elim (eq_tells at p) [ inl e ↦ e.0 | inr e ↦ absurd (e.1 (omega (arith, is))) ] in rw here refl
 replaced_is f p at (x ∷ xs) c ys are is =
     let some = are.0.some in
@@ -89,15 +89,15 @@ pub record Sits (r : Range) (gs : List Granule) (at : ℕ) (above : List Chunk) 
   pub over : r.ram ≤ at
   pub eight : at % 8 ≡ 0
   pub even : (at - r.ram) % 8 ≡ 0
-  pub sum : total above + (c.size + total below) ≡ r.length
+  pub sum : total_size above + (c.size + total_size below) ≡ r.length
   pub fits : at + c.size ≤ r.base + r.length
   pub inside : at + c.size ≤ r.ram + 8 * length gs
   pub small : c.size + 8 < 2 ^ 32
 
-pub sits_by : (r : Range) (gs : List Granule) (at : ℕ) (above : List Chunk) (c : Chunk) (below : List Chunk) → TiledBy r gs (above ++ c ∷ below) → at ≡ r.base + total above → Sits r gs at above c below
+pub sits_by : (r : Range) (gs : List Granule) (at : ℕ) (above : List Chunk) (c : Chunk) (below : List Chunk) → TiledBy r gs (above ++ c ∷ below) → at ≡ r.base + total_size above → Sits r gs at above c below
 sits_by r gs at above c below h place =
     let kinds = are_split above (c ∷ below) h.are in
-    let both : total (above ++ c ∷ below) ≡ total above + (c.size + total below) = total_both above (c ∷ below) in
+    let both : total_size (above ++ c ∷ below) ≡ total_size above + (c.size + total_size below) = total_both above (c ∷ below) in
     let size = h.size in
     let e0 = h.even.0 in
     let e1 = h.even.1 in

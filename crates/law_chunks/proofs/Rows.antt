@@ -3,17 +3,17 @@ use Rattle.std.proofs.Common.{ℕ, zero, suc, ◌≡◌, ◌+◌, ◌-◌, ◌*�
 use Rattle.law_lists.proofs.Tests.{bool_tells, eq_tells, lt_tells}
 use Rattle.def_machine.specs.State.{Object}
 use Rattle.def_machine.specs.Objects.{Each, charges, quarantine, placed_among, painted, unpainted}
-use Rattle.def_chunks.specs.Chunks.{Chunk, is_free, total, IsChunk, AreChunks}
+use Rattle.def_chunks.specs.Chunks.{Chunk, is_free, total_size, IsChunk, AreChunks}
 use Rattle.def_chunks.specs.Changes.{parts, painted_chunk, all_painted, leaves, gap, joined}
 use Rattle.def_chunks.specs.Heaps.{object_at, objects_in, quota_named, Distinct, waiting_in}
 use Rattle.law_chunks.proofs.Joins.{gap_total, stays_used}
 
 -- ---- rows one after another
 
-pub objects_both : (names : List ℕ) (base at : ℕ) (xs ys : List Chunk) → objects_in names base at (xs ++ ys) ≡ objects_in names base at xs ++ objects_in names base (at + total xs) ys
+pub objects_both : (names : List ℕ) (base at : ℕ) (xs ys : List Chunk) → objects_in names base at (xs ++ ys) ≡ objects_in names base at xs ++ objects_in names base (at + total_size xs) ys
 objects_both names base at [] ys = let here : at + 0 ≡ at = omega arith in rw here refl
 objects_both names base at (x ∷ xs) ys =
-    let there : at + (x.size + total xs) ≡ at + x.size + total xs = omega arith in
+    let there : at + (x.size + total_size xs) ≡ at + x.size + total_size xs = omega arith in
     let rest = objects_both names base (at + x.size) xs ys in
     rw there (elim (bool_tells (is_free x)) [ inl e ↦ rw e rest | inr e ↦ rw e (ap (λ l. object_at (quota_named names (at - base)) at x ∷ l) rest) ])
 
@@ -55,11 +55,11 @@ rows_low names base at (c ∷ cs) =
     let rest = each_more (λ q. at + c.size + 8 ≤ q.base) (λ q. at + 8 ≤ q.base) (objects_in names base (at + c.size) cs) (λ r low. omega (arith, low)) (rows_low names base (at + c.size) cs) in
     elim (bool_tells (is_free c)) [ inl e ↦ rw e rest | inr e ↦ rw e ((omega arith, rest)) ]
 
-pub rows_high : (names : List ℕ) (base at : ℕ) (cs : List Chunk) → AreChunks cs → Each (λ q. q.base + q.length ≤ at + total cs) (objects_in names base at cs)
+pub rows_high : (names : List ℕ) (base at : ℕ) (cs : List Chunk) → AreChunks cs → Each (λ q. q.base + q.length ≤ at + total_size cs) (objects_in names base at cs)
 rows_high names base at [] are = tt
 rows_high names base at (c ∷ cs) are =
     let some = are.0.some in
-    let rest = each_more (λ q. q.base + q.length ≤ at + c.size + total cs) (λ q. q.base + q.length ≤ at + (c.size + total cs)) (objects_in names base (at + c.size) cs) (λ r high. omega (arith, high)) (rows_high names base (at + c.size) cs are.1) in
+    let rest = each_more (λ q. q.base + q.length ≤ at + c.size + total_size cs) (λ q. q.base + q.length ≤ at + (c.size + total_size cs)) (objects_in names base (at + c.size) cs) (λ r high. omega (arith, high)) (rows_high names base (at + c.size) cs are.1) in
     elim (bool_tells (is_free c)) [ inl e ↦ rw e rest | inr e ↦ rw e ((omega (arith, some), rest)) ]
 
 -- ---- an object appears between others

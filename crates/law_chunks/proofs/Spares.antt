@@ -10,7 +10,7 @@ use Rattle.def_memory.specs.Accesses.{stored_cap}
 use Rattle.def_memory.specs.Ranges.{IsZeroed}
 use Rattle.law_granules.proofs.Lists.{cap_rest, cap_marks}
 use Rattle.def_chunks.specs.declared.rows.Range.{Range}
-use Rattle.def_chunks.specs.Chunks.{Chunk, is_free, total, Starts, AreChunks}
+use Rattle.def_chunks.specs.Chunks.{Chunk, is_free, total_size, Starts, AreChunks}
 use Rattle.def_chunks.specs.Tiles.{TiledBy}
 use Rattle.def_chunks.specs.Changes.{InUse, Spared, KeepsRest, NoTagComes, OnlyHeads}
 use Rattle.law_chunks.proofs.Lays.{starts_low, starts_high}
@@ -23,16 +23,16 @@ in_use_low p at [] h = absurd h
 in_use_low p at (c ∷ cs) (inl h) = h.1
 in_use_low p at (c ∷ cs) (inr h) = let rest = in_use_low p (at + c.size) cs h in omega (arith, rest)
 
-pub in_use_high : (p at : ℕ) (cs : List Chunk) → InUse p at cs → p < at + total cs
+pub in_use_high : (p at : ℕ) (cs : List Chunk) → InUse p at cs → p < at + total_size cs
 in_use_high p at [] h = absurd h
 in_use_high p at (c ∷ cs) (inl h) = let here = h.2 in omega (arith, here)
 in_use_high p at (c ∷ cs) (inr h) = let rest = in_use_high p (at + c.size) cs h in omega (arith, rest)
 
-pub in_use_split : (p at : ℕ) (xs ys : List Chunk) → InUse p at (xs ++ ys) → InUse p at xs ⊎ InUse p (at + total xs) ys
+pub in_use_split : (p at : ℕ) (xs ys : List Chunk) → InUse p at (xs ++ ys) → InUse p at xs ⊎ InUse p (at + total_size xs) ys
 in_use_split p at [] ys h = let here : at + 0 ≡ at = omega arith in inr (rw here h)
 in_use_split p at (x ∷ xs) ys (inl h) = inl (inl h)
 in_use_split p at (x ∷ xs) ys (inr h) =
-    let there : at + (x.size + total xs) ≡ at + x.size + total xs = omega arith in
+    let there : at + (x.size + total_size xs) ≡ at + x.size + total_size xs = omega arith in
     elim (in_use_split p (at + x.size) xs ys h) [ inl k ↦ inl (inr k) | inr k ↦ inr (rw there k) ]
 
 pub in_use_first : (p at : ℕ) (xs ys : List Chunk) → InUse p at xs → InUse p at (xs ++ ys)
@@ -40,10 +40,10 @@ in_use_first p at [] ys h = absurd h
 in_use_first p at (x ∷ xs) ys (inl h) = inl h
 in_use_first p at (x ∷ xs) ys (inr h) = inr (in_use_first p (at + x.size) xs ys h)
 
-pub in_use_second : (p at : ℕ) (xs ys : List Chunk) → InUse p (at + total xs) ys → InUse p at (xs ++ ys)
+pub in_use_second : (p at : ℕ) (xs ys : List Chunk) → InUse p (at + total_size xs) ys → InUse p at (xs ++ ys)
 in_use_second p at [] ys h = let here : at + 0 ≡ at = omega arith in rw here at h
 in_use_second p at (x ∷ xs) ys h =
-    let there : at + (x.size + total xs) ≡ at + x.size + total xs = omega arith in
+    let there : at + (x.size + total_size xs) ≡ at + x.size + total_size xs = omega arith in
     inr (in_use_second p (at + x.size) xs ys (rw there at h))
 
 -- ---- and those that aren't
@@ -61,30 +61,30 @@ starts_first p at [] ys h = absurd h
 starts_first p at (x ∷ xs) ys (inl h) = inl h
 starts_first p at (x ∷ xs) ys (inr h) = inr (starts_first p (at + x.size) xs ys h)
 
-pub starts_second : (p at : ℕ) (xs ys : List Chunk) → Starts p (at + total xs) ys → Starts p at (xs ++ ys)
+pub starts_second : (p at : ℕ) (xs ys : List Chunk) → Starts p (at + total_size xs) ys → Starts p at (xs ++ ys)
 starts_second p at [] ys h = let here : at + 0 ≡ at = omega arith in rw here at h
 starts_second p at (x ∷ xs) ys h =
-    let there : at + (x.size + total xs) ≡ at + x.size + total xs = omega arith in
+    let there : at + (x.size + total_size xs) ≡ at + x.size + total_size xs = omega arith in
     inr (starts_second p (at + x.size) xs ys (rw there at h))
 
-pub starts_split : (p at : ℕ) (xs ys : List Chunk) → Starts p at (xs ++ ys) → Starts p at xs ⊎ Starts p (at + total xs) ys
+pub starts_split : (p at : ℕ) (xs ys : List Chunk) → Starts p at (xs ++ ys) → Starts p at xs ⊎ Starts p (at + total_size xs) ys
 starts_split p at [] ys h = let here : at + 0 ≡ at = omega arith in inr (rw here h)
 starts_split p at (x ∷ xs) ys (inl h) = inl (inl h)
 starts_split p at (x ∷ xs) ys (inr h) =
-    let there : at + (x.size + total xs) ≡ at + x.size + total xs = omega arith in
+    let there : at + (x.size + total_size xs) ≡ at + x.size + total_size xs = omega arith in
     elim (starts_split p (at + x.size) xs ys h) [ inl k ↦ inl (inr k) | inr k ↦ inr (rw there k) ]
 
 -- the chunk after these
-pub starts_there : (p at : ℕ) (xs : List Chunk) (c : Chunk) (ys : List Chunk) → p ≡ at + total xs → Starts p at (xs ++ c ∷ ys)
+pub starts_there : (p at : ℕ) (xs : List Chunk) (c : Chunk) (ys : List Chunk) → p ≡ at + total_size xs → Starts p at (xs ++ c ∷ ys)
 starts_there p at xs c ys is = starts_second p at xs (c ∷ ys) (inl is)
 
 -- a granule of a free chunk
-pub free_unused : (p at : ℕ) (xs : List Chunk) (c : Chunk) (ys : List Chunk) → is_free c ≡ true → at + total xs ≤ p → p < at + total xs + c.size → InUse p at (xs ++ c ∷ ys) → ⊥
+pub free_unused : (p at : ℕ) (xs : List Chunk) (c : Chunk) (ys : List Chunk) → is_free c ≡ true → at + total_size xs ≤ p → p < at + total_size xs + c.size → InUse p at (xs ++ c ∷ ys) → ⊥
 free_unused p at xs c ys free_ low high h = elim (in_use_split p at xs (c ∷ ys) h) [
   | inl k ↦ (let below = in_use_high p at xs k in omega (arith, below, low))
   | inr k ↦ elim k [
     | inl here ↦ (let used = here.0 in let clash : true ≡ false = sym free_ ∙ used in cc)
-    | inr later ↦ (let over = in_use_low p (at + total xs + c.size) ys later in omega (arith, over, high))
+    | inr later ↦ (let over = in_use_low p (at + total_size xs + c.size) ys later in omega (arith, over, high))
   ]
 ]
 

@@ -5,7 +5,7 @@ use Rattle.def_memory.specs.declared.Granule.{Granule}
 use Rattle.def_machine.specs.State.{Object}
 use Rattle.def_machine.specs.Objects.{Each}
 use Rattle.def_chunks.specs.declared.rows.Range.{Range}
-use Rattle.def_chunks.specs.Chunks.{Chunk, is_free, total, AreChunks}
+use Rattle.def_chunks.specs.Chunks.{Chunk, is_free, total_size, AreChunks}
 use Rattle.def_chunks.specs.Tiles.{chunks}
 use Rattle.def_chunks.specs.Heaps.{HeapRow, objects_in, objects_of, Laid}
 use Rattle.def_chunks.specs.Kept.{StandsIn, InOrder}
@@ -40,14 +40,14 @@ objects_inside h gs l =
     each_three h.range (objects_in h.names base base (chunks h.range gs))
     (rows_even h.names base base (chunks h.range gs) (omega (arith, base_even)) t.are)
     (rows_low h.names base base (chunks h.range gs))
-    (each_more (λ q. q.base + q.length ≤ base + total (chunks h.range gs)) (λ q. q.base + q.length ≤ base + h.range.length) (objects_in h.names base base (chunks h.range gs)) (λ r high. omega (arith, high, size)) (rows_high h.names base base (chunks h.range gs) t.are))
+    (each_more (λ q. q.base + q.length ≤ base + total_size (chunks h.range gs)) (λ q. q.base + q.length ≤ base + h.range.length) (objects_in h.names base base (chunks h.range gs)) (λ r high. omega (arith, high, size)) (rows_high h.names base base (chunks h.range gs) t.are))
 
 pub objects_apart : (h : HeapRow) (gs : List Granule) → Laid h gs → InOrder (objects_of h gs)
 unfolding objects_of
 objects_apart h gs l = rows_ordered h.names h.range.base h.range.base (chunks h.range gs) l.settled.tiled.are
 
 -- the chunk of each object has 16 bytes or more
-rows_fit : (names : List ℕ) (base at : ℕ) (cs : List Chunk) → AreChunks cs → 16 * length (objects_in names base at cs) ≤ total cs
+rows_fit : (names : List ℕ) (base at : ℕ) (cs : List Chunk) → AreChunks cs → 16 * length (objects_in names base at cs) ≤ total_size cs
 rows_fit names base at [] are = omega arith
 rows_fit names base at (c ∷ cs) are =
     let rest = rows_fit names base (at + c.size) cs are.1 in

@@ -8,7 +8,7 @@ use Rattle.serde_json.specs.Read.{read}
 use Rattle.def_desc.specs.declared.faults.Fault.{Fault}
 use Rattle.def_desc.specs.Rows.{DescRow}
 use Rattle.def_desc.specs.Reading.{description_of}
-use Rattle.def_desc.specs.WellFormed.{WellFormed, IsFaulty, IsText, IsNoText, fault_of, text_fault}
+use Rattle.def_desc.specs.WellFormed.{WellFormed, IsFaulty, IsText, IsNoText, fault_of, json_fault}
 use Rattle.def_desc.specs.Described.{IsDescribed, DescriptionHasFault}
 
 -- a value without a fault is a description
@@ -17,7 +17,7 @@ judged bytes d None text fault = inl (description_of d, (d, (text, fault, refl))
 judged bytes d (Some f) text fault = inr (f, inr (d, (text, fault)))
 
 no_text : (bytes : List ℕ) → IsNoText bytes → DescriptionHasFault bytes
-no_text bytes none = (text_fault, inl (refl, none))
+no_text bytes none = (json_fault, inl (refl, none))
 
 -- text is JSON or it isn't
 parsed : (bytes : List ℕ) (value : Option Data) → IsUtf8 bytes → read bytes ≡ value → IsDescribed bytes ⊎ DescriptionHasFault bytes

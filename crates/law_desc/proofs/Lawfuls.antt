@@ -11,9 +11,9 @@ use Rattle.def_image.specs.Sound.{IsWithin}
 use Rattle.def_desc.specs.declared.faults.PartWord.TheVariants as part
 use Rattle.def_desc.specs.Members.{list_at}
 use Rattle.def_desc.specs.Tables.{members_of}
-use Rattle.def_desc.specs.Limits.{number_in}
+use Rattle.def_desc.specs.Limits.{number_or_zero}
 use Rattle.def_desc.specs.References.{import_of}
-use Rattle.def_desc.specs.Reading.{device_of, shared_of, sealed_of, compartment_of, quota_of, export_of, library_of, limport_of, lexport_of, thread_of, description_of}
+use Rattle.def_desc.specs.Reading.{device_of, shared_of, sealed_of, compartment_of_object, quota_of, export_of, library_of, limport_of, lexport_of, thread_of, description_of}
 use Rattle.def_desc.specs.Rows.{QuotaRow, LimportRow, DescRow}
 use Rattle.def_desc.specs.WellFormed.{WellFormed, fault_of}
 use Rattle.def_desc.specs.Lawful.{IsLawful, IsLawfulDevice, IsLawfulShared, IsLawfulSealed, IsLawfulCompartment, IsLawfulExport, IsLawfulImport, IsLawfulLibrary, IsLawfulThread, IsLent}
@@ -26,7 +26,7 @@ use Rattle.law_desc.proofs.Parts.{part_good, firmware_good, ram_good, version_is
 
 -- ---- compartments and libraries
 
-compartment_lawful : (d x : Data) → At (Good d) part.Compartment d x → Segment part.Compartment x → IsLawfulCompartment (description_of d) (compartment_of x)
+compartment_lawful : (d x : Data) → At (Good d) part.Compartment d x → Segment part.Compartment x → IsLawfulCompartment (description_of d) (compartment_of_object x)
 unfolding members_of
 compartment_lawful d x h s =
     let m = (part_good part.Compartment x true true h.itself.kinds h.itself.limits).each in
@@ -36,7 +36,7 @@ compartment_lawful d x h s =
     let quotas = list_at (codes "quotas") x in
     let keys = list_at (codes "keys") x in
     let exports = list_at (codes "exports") x in
-    let numbers = all_so (In (Good d) part.Key x i) (λ k. IsWithin 13 15 (number_in k)) keys (λ k g. key_lawful d x k i g.item g.itself) inner.keys in
+    let numbers = all_so (In (Good d) part.Key x i) (λ k. IsWithin 13 15 (number_or_zero k)) keys (λ k g. key_lawful d x k i g.item g.itself) inner.keys in
     record {
       code = code_lawful (get (codes "code") x) m.1.0.there m.1.0.kept;
       globals = (given_globals d x h).1;
@@ -44,18 +44,18 @@ compartment_lawful d x h s =
       gates = gates_named d x i s inner;
       imports = few_rows import_of (codes "imports") 128 false (get (codes "imports") x) m.1.1.1.0.kept;
       quotas = few_rows quota_of (codes "quotas") 16 false (get (codes "quotas") x) m.1.1.1.1.0.kept;
-      keys = few_rows number_in (codes "keys") 3 false (get (codes "keys") x) m.1.1.1.1.1.0.kept;
+      keys = few_rows number_or_zero (codes "keys") 3 false (get (codes "keys") x) m.1.1.1.1.1.0.kept;
       exports = few_rows export_of (codes "exports") 64 false (get (codes "exports") x) m.1.1.1.1.1.1.0.kept;
       import = all_mapped (IsLawfulImport (description_of d)) import_of imports
           (all_so (In (Good d) part.Import x i) (λ y. IsLawfulImport (description_of d) (import_of y)) imports (λ y g. import_lawful d x y i g.item g.itself) inner.imports);
       quota = all_mapped (λ (q : QuotaRow). q.limit ≤ 2147483647) quota_of quotas
           (all_so (In (Good d) part.Quota x i) (λ y. (quota_of y).limit ≤ 2147483647) quotas (λ y g. quota_lawful d x y i g.item g.itself) inner.quotas);
-      key = all_mapped (IsWithin 13 15) number_in keys numbers;
+      key = all_mapped (IsWithin 13 15) number_or_zero keys numbers;
       export = all_mapped IsLawfulExport export_of exports
           (all_so (In (Good d) part.Export x i) (λ y. IsLawfulExport (export_of y)) exports (λ y g. export_lawful d x y i g.item g.itself) inner.exports);
     }
   where
-    given_globals : (d x : Data) → At (Good d) part.Compartment d x → IsWithin 0 MOST_BYTES (compartment_of x).globals
+    given_globals : (d x : Data) → At (Good d) part.Compartment d x → IsWithin 0 MOST_BYTES (compartment_of_object x).globals
     given_globals d x h =
         let m = (part_good part.Compartment x true true h.itself.kinds h.itself.limits).each in
         given_or (codes "globals") 0 MOST_BYTES 0 (get (codes "globals") x) (omega arith) (omega arith, omega arith) m.1.1.0.there m.1.1.0.kept
@@ -131,8 +131,8 @@ value_lawful d e =
           (all_so (At (Good d) part.Shared d) (λ x. IsLawfulShared (shared_of x)) shared (λ x g. shared_lawful d x g.index g.itself) w.shared);
       sealed_object = all_mapped IsLawfulSealed sealed_of sealed
           (all_so (At (Good d) part.Sealed d) (λ x. IsLawfulSealed (sealed_of x)) sealed (λ x g. sealed_lawful d x g.index g.itself) w.sealed);
-      compartment = all_mapped (IsLawfulCompartment (description_of d)) compartment_of compartments
-          (all_so (λ x. At (Good d) part.Compartment d x × Segment part.Compartment x) (λ x. IsLawfulCompartment (description_of d) (compartment_of x)) compartments
+      compartment = all_mapped (IsLawfulCompartment (description_of d)) compartment_of_object compartments
+          (all_so (λ x. At (Good d) part.Compartment d x × Segment part.Compartment x) (λ x. IsLawfulCompartment (description_of d) (compartment_of_object x)) compartments
           (λ x g. compartment_lawful d x g.0 g.1) (all_both (At (Good d) part.Compartment d) (Segment part.Compartment) compartments w.compartments segments.compartments));
       library = all_mapped (IsLawfulLibrary (description_of d)) library_of libraries
           (all_so (λ x. At (Good d) part.Library d x × Segment part.Library x) (λ x. IsLawfulLibrary (description_of d) (library_of x)) libraries

@@ -10,7 +10,7 @@ use Rattle.serde_json.specs.Find.{as_array}
 use Rattle.law_lists.proofs.Tests.{le_tells, lt_tells, both_left, both_right}
 use Rattle.def_image.specs.Sound.{IsWithin}
 use Rattle.def_desc.specs.declared.tables.Shape.TheVariants as shape
-use Rattle.def_desc.specs.Members.{number_of, list_in}
+use Rattle.def_desc.specs.Members.{natural_of, list_in}
 use Rattle.def_desc.specs.Tables.{row}
 use Rattle.def_desc.specs.Kinds.{is_kind_there}
 use Rattle.def_desc.specs.Limits.{keeps_there}
@@ -37,7 +37,7 @@ cut_below n = elim (lt_tells n (2 ^ 32)) [
 
 -- what is read of an optional number, with a default
 abbrev pub read_or : ℕ → Option Data → ℕ
-read_or default o = cut (unwrap_or (option_and_then number_of o) default)
+read_or default o = cut (unwrap_or (option_and_then natural_of o) default)
 
 number_kept : (low high default : ℕ) (n : Option ℕ) → high < 2 ^ 32 → is_some n ≡ true → is_in_range low high (unwrap_or n 0) ≡ true → IsWithin low high (cut (unwrap_or n default))
 number_kept low high default None small there kept = absurd (let no : false ≡ true = there in cc)
@@ -51,7 +51,7 @@ pub needed : (name : List ℕ) (low high : ℕ) (o : Option Data) → high < 2 ^
     → is_kind_there (row name (shape.Number low high) true) o ≡ true → keeps_there (row name (shape.Number low high) true) o ≡ true
     → IsWithin low high (read_or 0 o)
 needed name low high None small there kept = absurd (let no : false ≡ true = there in cc)
-needed name low high (Some v) small there kept = number_kept low high 0 (number_of v) small there kept
+needed name low high (Some v) small there kept = number_kept low high 0 (natural_of v) small there kept
 
 pub given_or : (name : List ℕ) (low high default : ℕ) (o : Option Data) → high < 2 ^ 32 → IsWithin low high default
     → is_kind_there (row name (shape.Number low high) false) o ≡ true → keeps_there (row name (shape.Number low high) false) o ≡ true
@@ -60,7 +60,7 @@ given_or name low high default None small within there kept =
     let top = within.1 in
     let same : cut default ≡ default = cut_small default (omega (arith, top, small)) in
     rw same within
-given_or name low high default (Some v) small within there kept = number_kept low high default (number_of v) small there kept
+given_or name low high default (Some v) small within there kept = number_kept low high default (natural_of v) small there kept
 
 -- a multiple of 16 within limits
 multiple_kept : (low high : ℕ) (n : Option ℕ) → high < 2 ^ 32 → is_some n ≡ true
@@ -78,7 +78,7 @@ pub needed_multiple : (name : List ℕ) (low high : ℕ) (o : Option Data) → h
     → is_kind_there (row name (shape.Multiple low high) true) o ≡ true → keeps_there (row name (shape.Multiple low high) true) o ≡ true
     → IsWithin low high (read_or 0 o) × (read_or 0 o % 16 ≡ 0)
 needed_multiple name low high None small there kept = absurd (let no : false ≡ true = there in cc)
-needed_multiple name low high (Some v) small there kept = multiple_kept low high (number_of v) small there kept
+needed_multiple name low high (Some v) small there kept = multiple_kept low high (natural_of v) small there kept
 
 -- ---- lists
 

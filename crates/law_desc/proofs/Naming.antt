@@ -15,11 +15,11 @@ use Rattle.def_desc.specs.declared.faults.PartWord.TheVariants as part
 use Rattle.def_desc.specs.Members.{text_or, list_at}
 use Rattle.def_desc.specs.Tables.{Inner, outer_lists, inner_lists}
 use Rattle.def_desc.specs.Walk.{Spot, items_from, inside, spots_of}
-use Rattle.def_desc.specs.Names.{key_name, named, Spaces, no_names, joined, first_twice}
-use Rattle.def_desc.specs.Limits.{number_in}
+use Rattle.def_desc.specs.Names.{key_name, part_name, Spaces, no_names, with_part_name, first_twice}
+use Rattle.def_desc.specs.Limits.{number_or_zero}
 use Rattle.def_desc.specs.References.{import_of}
-use Rattle.def_desc.specs.Reading.{device_of, shared_of, sealed_of, compartment_of, quota_of, export_of, library_of, limport_of, lexport_of, thread_of, description_of}
-use Rattle.def_desc.specs.Rows.{SharedRow, SealedRow, ImportRow, QuotaRow, ExportRow, CompartmentRow, LimportRow, LexportRow, LibraryRow, ThreadRow}
+use Rattle.def_desc.specs.Reading.{device_of, shared_of, sealed_of, compartment_of_object, quota_of, export_of, library_of, limport_of, lexport_of, thread_of, description_of}
+use Rattle.def_desc.specs.Rows.{DescShared, DescSealed, ImportRow, QuotaRow, ExportRow, DescCompartment, LimportRow, LexportRow, LibraryRow, DescThread}
 use Rattle.def_desc.specs.Named.{device_names, shared_names, sealed_names, owner_names, slot_names, export_names, library_slot_names, library_export_names}
 use Rattle.def_desc.specs.Lawful.{AreNames}
 use Rattle.law_desc.proofs.Lists.{Fresh, fresh_once}
@@ -141,26 +141,26 @@ outer_fresh space mine is d none bare h e =
 
 devices_fresh : (d : Data) → first_twice no_names (spots_of d) ≡ None → Fresh [] (map (text_or (codes "name")) (list_at (codes "devices") d))
 unfolding is_device AreOthers outer_lists inner_lists
-devices_fresh d e = subst (Fresh []) (append-nil (map (named part.Device) (list_at (codes "devices") d)))
+devices_fresh d e = subst (Fresh []) (append-nil (map (part_name part.Device) (list_at (codes "devices") d)))
     (outer_fresh (λ (m : Spaces). m.devices) is_device devices_space d refl refl (tt, (tt, (tt, ((refl, (refl, (refl, (refl, tt)))), ((refl, (refl, tt)), (tt, tt)))))) e)
 
 shared_fresh : (d : Data) → first_twice no_names (spots_of d) ≡ None → Fresh [] (map (text_or (codes "name")) (list_at (codes "shared") d))
 unfolding is_shared AreOthers outer_lists inner_lists
-shared_fresh d e = subst (Fresh []) (append-nil (map (named part.Shared) (list_at (codes "shared") d)))
+shared_fresh d e = subst (Fresh []) (append-nil (map (part_name part.Shared) (list_at (codes "shared") d)))
     (outer_fresh (λ (m : Spaces). m.shared) is_shared shared_space d refl refl (tt, (tt, (tt, ((refl, (refl, (refl, (refl, tt)))), ((refl, (refl, tt)), (tt, tt)))))) e)
 
 sealed_fresh : (d : Data) → first_twice no_names (spots_of d) ≡ None → Fresh [] (map (text_or (codes "name")) (list_at (codes "sealed") d))
 unfolding is_sealed AreOthers outer_lists inner_lists
-sealed_fresh d e = subst (Fresh []) (append-nil (map (named part.Sealed) (list_at (codes "sealed") d)))
+sealed_fresh d e = subst (Fresh []) (append-nil (map (part_name part.Sealed) (list_at (codes "sealed") d)))
     (outer_fresh (λ (m : Spaces). m.sealed) is_sealed sealed_space d refl refl (tt, (tt, (tt, ((refl, (refl, (refl, (refl, tt)))), ((refl, (refl, tt)), (tt, tt)))))) e)
 
 owners_fresh : (d : Data) → first_twice no_names (spots_of d) ≡ None → Fresh [] (map (text_or (codes "name")) (list_at (codes "compartments") d)
     ++ map (text_or (codes "name")) (list_at (codes "libraries") d) ++ map (text_or (codes "name")) (list_at (codes "threads") d))
 unfolding is_owner AreOthers outer_lists inner_lists
 owners_fresh d e =
-    let c = map (named part.Compartment) (list_at (codes "compartments") d) in
-    let l = map (named part.Library) (list_at (codes "libraries") d) in
-    let t = map (named part.Thread) (list_at (codes "threads") d) in
+    let c = map (part_name part.Compartment) (list_at (codes "compartments") d) in
+    let l = map (part_name part.Library) (list_at (codes "libraries") d) in
+    let t = map (part_name part.Thread) (list_at (codes "threads") d) in
     subst (Fresh []) (ap (λ z. c ++ (l ++ z)) (append-nil t) ∙ sym (append_assoc c l t))
     (outer_fresh (λ (m : Spaces). m.owners) is_owner owners_space d refl refl (tt, (tt, (tt, ((refl, (refl, (refl, (refl, tt)))), ((refl, (refl, tt)), (tt, tt)))))) e)
 
@@ -176,11 +176,11 @@ outer_names d w e =
     record {
       devices = names_so (λ (x : DeviceRow). x.name) device_of (list_at (codes "devices") d)
           (named_by (map name (list_at (codes "devices") d)) (devices_fresh d e) (formed_of (At (Good d) part.Device d) name (list_at (codes "devices") d) (λ x h. h.itself.named) w.devices));
-      shared = names_so (λ (x : SharedRow). x.name) shared_of (list_at (codes "shared") d)
+      shared = names_so (λ (x : DescShared). x.name) shared_of (list_at (codes "shared") d)
           (named_by (map name (list_at (codes "shared") d)) (shared_fresh d e) (formed_of (At (Good d) part.Shared d) name (list_at (codes "shared") d) (λ x h. h.itself.named) w.shared));
-      sealed = names_so (λ (x : SealedRow). x.name) sealed_of (list_at (codes "sealed") d)
+      sealed = names_so (λ (x : DescSealed). x.name) sealed_of (list_at (codes "sealed") d)
           (named_by (map name (list_at (codes "sealed") d)) (sealed_fresh d e) (formed_of (At (Good d) part.Sealed d) name (list_at (codes "sealed") d) (λ x h. h.itself.named) w.sealed));
-      owners = rw (map-map (λ (x : CompartmentRow). x.name) compartment_of c, map-map (λ (x : LibraryRow). x.name) library_of l, map-map (λ (x : ThreadRow). x.name) thread_of t)
+      owners = rw (map-map (λ (x : DescCompartment). x.name) compartment_of_object c, map-map (λ (x : LibraryRow). x.name) library_of l, map-map (λ (x : DescThread). x.name) thread_of t)
           (named_by (map name c ++ map name l ++ map name t) (owners_fresh d e)
           (all_joined (λ n. is_name n ≡ true) (map name c ++ map name l) (map name t)
           (all_joined (λ n. is_name n ≡ true) (map name c) (map name l)
@@ -204,19 +204,19 @@ inner_all owner i (l ∷ ls) h =
 
 -- names of one space inside an owner
 inner_fresh : (space : Spaces → List (List ℕ)) (mine : PartWord → Bool) → IsSpace space mine is_inner → (part : PartWord) (x : Data) → (s : Segment part x)
-    → AllByRecursion (λ (l : Inner). is_inner l.part ≡ true) (inner_lists part) → Fresh (space (joined part (named part x) s.before)) (taken_by mine x (inner_lists part))
+    → AllByRecursion (λ (l : Inner). is_inner l.part ≡ true) (inner_lists part) → Fresh (space (with_part_name part (part_name part x) s.before)) (taken_by mine x (inner_lists part))
 inner_fresh space mine is part x s h =
-    let m = joined part (named part x) s.before in
+    let m = with_part_name part (part_name part x) s.before in
     subst (Fresh (space m)) (inside_taken mine x s.index (inner_lists part))
     (fresh_in space mine is_inner is m (inside x s.index (inner_lists part)) (inner_all x s.index (inner_lists part) h) s.once)
 
 slots_fresh : (x : Data) → Segment part.Compartment x → Fresh [] (codes "switch" ∷ map (text_or (codes "as")) (list_at (codes "imports") x)
-    ++ map (text_or (codes "name")) (list_at (codes "quotas") x) ++ map (λ k. key_name (number_in k)) (list_at (codes "keys") x))
+    ++ map (text_or (codes "name")) (list_at (codes "quotas") x) ++ map (λ k. key_name (number_or_zero k)) (list_at (codes "keys") x))
 unfolding is_slot is_inner inner_lists Fresh
 slots_fresh x s =
-    let a = map (named part.Import) (list_at (codes "imports") x) in
-    let b = map (named part.Quota) (list_at (codes "quotas") x) in
-    let c = map (named part.Key) (list_at (codes "keys") x) in (
+    let a = map (part_name part.Import) (list_at (codes "imports") x) in
+    let b = map (part_name part.Quota) (list_at (codes "quotas") x) in
+    let c = map (part_name part.Key) (list_at (codes "keys") x) in (
       refl,
       subst (Fresh (codes "switch" ∷ [])) (ap (λ z. a ++ (b ++ z)) (append-nil c) ∙ sym (append_assoc a b c))
           (inner_fresh (λ (m : Spaces). m.slots) is_slot slots_space part.Compartment x s (refl, (refl, (refl, (refl, tt))))),
@@ -224,17 +224,17 @@ slots_fresh x s =
 
 gates_fresh : (x : Data) → Segment part.Compartment x → Fresh [] (map (text_or (codes "name")) (list_at (codes "exports") x))
 unfolding is_gate is_inner inner_lists
-gates_fresh x s = subst (Fresh []) (append-nil (map (named part.Export) (list_at (codes "exports") x)))
+gates_fresh x s = subst (Fresh []) (append-nil (map (part_name part.Export) (list_at (codes "exports") x)))
     (inner_fresh (λ (m : Spaces). m.exports) is_gate gates_space part.Compartment x s (refl, (refl, (refl, (refl, tt)))))
 
 library_slots_fresh : (x : Data) → Segment part.Library x → Fresh [] (map (text_or (codes "as")) (list_at (codes "imports") x))
 unfolding is_slot is_inner inner_lists
-library_slots_fresh x s = subst (Fresh []) (append-nil (map (named part.Limport) (list_at (codes "imports") x)))
+library_slots_fresh x s = subst (Fresh []) (append-nil (map (part_name part.Limport) (list_at (codes "imports") x)))
     (inner_fresh (λ (m : Spaces). m.slots) is_slot slots_space part.Library x s (refl, (refl, tt)))
 
 library_gates_fresh : (x : Data) → Segment part.Library x → Fresh [] (map (text_or (codes "name")) (list_at (codes "exports") x))
 unfolding is_gate is_inner inner_lists
-library_gates_fresh x s = subst (Fresh []) (append-nil (map (named part.Lexport) (list_at (codes "exports") x)))
+library_gates_fresh x s = subst (Fresh []) (append-nil (map (part_name part.Lexport) (list_at (codes "exports") x)))
     (inner_fresh (λ (m : Spaces). m.exports) is_gate gates_space part.Library x s (refl, (refl, tt)))
 
 -- a key's name has the form of one
@@ -248,27 +248,27 @@ key_formed n w = elim (le_tells n 13) [
   ]
 ]
 
-pub slots_named : (d x : Data) (i : ℕ) → Segment part.Compartment x → InCompartment (Good d) x i → AllByRecursion (λ k. IsWithin 13 15 (number_in k)) (list_at (codes "keys") x)
-    → AreNames (slot_names (compartment_of x))
+pub slots_named : (d x : Data) (i : ℕ) → Segment part.Compartment x → InCompartment (Good d) x i → AllByRecursion (λ k. IsWithin 13 15 (number_or_zero k)) (list_at (codes "keys") x)
+    → AreNames (slot_names (compartment_of_object x))
 slots_named d x i s h keys =
     let a = list_at (codes "imports") x in
     let b = list_at (codes "quotas") x in
     let c = list_at (codes "keys") x in
     let an = map (text_or (codes "as")) a in
     let bn = map (text_or (codes "name")) b in
-    let cn = map (λ k. key_name (number_in k)) c in
-    rw (map-map (λ (r : ImportRow). r.alias) import_of a, map-map (λ (r : QuotaRow). r.name) quota_of b, map-map key_name number_in c)
+    let cn = map (λ k. key_name (number_or_zero k)) c in
+    rw (map-map (λ (r : ImportRow). r.alias) import_of a, map-map (λ (r : QuotaRow). r.name) quota_of b, map-map key_name number_or_zero c)
     (named_by (codes "switch" ∷ an ++ bn ++ cn) (slots_fresh x s) (
       refl,
       all_joined (λ n. is_name n ≡ true) (an ++ bn) cn
           (all_joined (λ n. is_name n ≡ true) an bn
           (formed_of (In (Good d) part.Import x i) (text_or (codes "as")) a (λ y g. g.itself.named) h.imports)
           (formed_of (In (Good d) part.Quota x i) (text_or (codes "name")) b (λ y g. g.itself.named) h.quotas))
-          (all_mapped (λ n. is_name n ≡ true) (λ k. key_name (number_in k)) c
-          (all_so (λ k. IsWithin 13 15 (number_in k)) (λ k. is_name (key_name (number_in k)) ≡ true) c (λ k w. key_formed (number_in k) w) keys)),
+          (all_mapped (λ n. is_name n ≡ true) (λ k. key_name (number_or_zero k)) c
+          (all_so (λ k. IsWithin 13 15 (number_or_zero k)) (λ k. is_name (key_name (number_or_zero k)) ≡ true) c (λ k w. key_formed (number_or_zero k) w) keys)),
     ))
 
-pub gates_named : (d x : Data) (i : ℕ) → Segment part.Compartment x → InCompartment (Good d) x i → AreNames (export_names (compartment_of x))
+pub gates_named : (d x : Data) (i : ℕ) → Segment part.Compartment x → InCompartment (Good d) x i → AreNames (export_names (compartment_of_object x))
 gates_named d x i s h =
     let es = list_at (codes "exports") x in
     names_so (λ (r : ExportRow). r.name) export_of es

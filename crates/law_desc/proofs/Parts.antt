@@ -17,13 +17,13 @@ use Rattle.def_desc.specs.declared.Ram.{Ram}
 use Rattle.def_desc.specs.declared.faults.PartWord.{PartWord}
 use Rattle.def_desc.specs.declared.faults.PartWord.TheVariants as part
 use Rattle.def_desc.specs.declared.tables.Shape.TheVariants as shape
-use Rattle.def_desc.specs.Members.{number_of, list_at, member_at, text_at, text_of, text_or, number_or}
+use Rattle.def_desc.specs.Members.{natural_of, list_at, member_at, text_at, text_value, text_or, number_or}
 use Rattle.def_desc.specs.Tables.{Member, row, members_of, form_names}
 use Rattle.def_desc.specs.Walk.{place, spot, ram_spots}
 use Rattle.def_desc.specs.Kinds.{has_member, has_more, is_kind_there, has_one_form, has_its_rights}
-use Rattle.def_desc.specs.Limits.{keeps_member, keeps_there, keeps_file, keeps_version, keeps_ram, version_of, number_in, characters}
+use Rattle.def_desc.specs.Limits.{keeps_member, keeps_there, keeps_file, keeps_version, keeps_ram, version_of, number_or_zero, characters}
 use Rattle.def_desc.specs.References.{target_of, import_of, rights_fit, target_fits, target_resolves, target_is_served, resolves, is_served}
-use Rattle.def_desc.specs.Reading.{cut, code_of, hexadecimal_word, ram_of, device_of, shared_of, sealed_of, quota_of, export_of, limport_of, thread_of, compartment_of, library_of, description_of}
+use Rattle.def_desc.specs.Reading.{cut, code_of_object, hexadecimal_word, ram_of, device_of, shared_of, sealed_of, quota_of, export_of, limport_of, thread_of, compartment_of_object, library_of, description_of}
 use Rattle.def_desc.specs.Rows.{Target}
 use Rattle.def_desc.specs.Lawful.{IsLawfulCode, IsLawfulShared, IsLawfulSealed, IsLawfulExport, IsLawfulImport, IsLawfulThread, IsLent}
 use Rattle.law_desc.proofs.Members.{within_is, read_or, needed, given_or, needed_multiple, cut_small, cut_below, few_rows, word_small, bytes_small, bytes_half}
@@ -66,7 +66,7 @@ shared_lawful d x i g =
 sealed_few : (o : Option Data) → is_kind_there (row (codes "bytes") (shape.Bytes 1 MOST_BYTES) true) o ≡ true → keeps_there (row (codes "bytes") (shape.Bytes 1 MOST_BYTES) true) o ≡ true
     → IsWithin 1 MOST_BYTES (length (unwrap_or (option_and_then as_str o) []) / 2)
 sealed_few None there kept = absurd (let no : false ≡ true = there in cc)
-sealed_few (Some v) there kept = within_is 1 MOST_BYTES (length (text_of v) / 2) kept
+sealed_few (Some v) there kept = within_is 1 MOST_BYTES (length (text_value v) / 2) kept
 
 pub sealed_lawful : (d x : Data) (i : ℕ) → Good d (spot (place part.Sealed i 0) d x) → IsLawfulSealed (sealed_of x)
 unfolding members_of
@@ -85,21 +85,21 @@ device_small x = cut_below (number_or 0 (codes "base") x)
 -- ---- code
 
 pub code_lawful : (o : Option Data) → is_kind_there (row (codes "code") shape.Code true) o ≡ true → keeps_there (row (codes "code") shape.Code true) o ≡ true
-    → IsLawfulCode (code_of (unwrap_or o null))
+    → IsLawfulCode (code_of_object (unwrap_or o null))
 code_lawful None there kept = absurd (let no : false ≡ true = there in cc)
 code_lawful (Some c) there kept =
     let ws = list_at (codes "words") c in
     let few = nat_le (length ws) 262144 in
     let file = keeps_file (text_at (codes "file") c) in
     record {
-      words = all_mapped (λ w. w < 2 ^ 32) (λ w. hexadecimal_word (text_of w)) ws (all_words ws);
-      few = subst (λ n. n ≤ 262144) (sym (length-map ws (λ w. hexadecimal_word (text_of w)))) (leb-true (length ws) 262144 (both_left few file kept));
+      words = all_mapped (λ w. w < 2 ^ 32) (λ w. hexadecimal_word (text_value w)) ws (all_words ws);
+      few = subst (λ n. n ≤ 262144) (sym (length-map ws (λ w. hexadecimal_word (text_value w)))) (leb-true (length ws) 262144 (both_left few file kept));
       file = λ name is. within_is 1 255 (characters name) (subst (λ z. keeps_file z ≡ true) is (both_right few file kept));
     }
   where
-    all_words : (ws : List Data) → AllByRecursion (λ w. hexadecimal_word (text_of w) < 2 ^ 32) ws
+    all_words : (ws : List Data) → AllByRecursion (λ w. hexadecimal_word (text_value w) < 2 ^ 32) ws
     all_words [] = tt
-    all_words (w ∷ ws) = (word_small (text_of w), all_words ws)
+    all_words (w ∷ ws) = (word_small (text_value w), all_words ws)
 
 -- ---- what stands inside a compartment or library
 
@@ -119,9 +119,9 @@ quota_lawful d owner x i j g =
     let m = (part_good part.Quota x true true g.kinds g.limits).each in
     (needed (codes "limit") 0 2147483647 (get (codes "limit") x) (omega arith) m.1.0.there m.1.0.kept).1
 
-pub key_lawful : (d owner x : Data) (i j : ℕ) → Good d (spot (place part.Key i j) owner x) → IsWithin 13 15 (number_in x)
+pub key_lawful : (d owner x : Data) (i j : ℕ) → Good d (spot (place part.Key i j) owner x) → IsWithin 13 15 (number_or_zero x)
 unfolding members_of
-key_lawful d owner x i j g = within_is 13 15 (number_in x) g.limits
+key_lawful d owner x i j g = within_is 13 15 (number_or_zero x) g.limits
 
 target_good : (d : Data) (o : Option Target) (rights : List ℕ) (t : Target) → o ≡ Some t → target_resolves d o ≡ true → target_fits o rights ≡ true → target_is_served o ≡ true
     → (resolves d t.form t.name ≡ true) × (rights_fit t.form rights ≡ true) × (is_served t.form t.name ≡ true)
@@ -177,9 +177,9 @@ pub record FirmwareGood (d : Data) : Type 0 where
 -- the version is read whole, and so is the sweep rate
 uncut : (low high default : ℕ) (o : Option Data) (needed : Bool) (name : List ℕ) → high < 2 ^ 32 → default ≤ high
     → is_kind_there (row name (shape.Number low high) needed) o ≡ true → keeps_there (row name (shape.Number low high) needed) o ≡ true
-    → read_or default o ≡ unwrap_or (option_and_then number_of o) default
+    → read_or default o ≡ unwrap_or (option_and_then natural_of o) default
 uncut low high default None needed name small le there kept = cut_small default (omega (arith, le, small))
-uncut low high default (Some v) needed name small le there kept = by (number_of v) there kept
+uncut low high default (Some v) needed name small le there kept = by (natural_of v) there kept
   where
     by : (n : Option ℕ) → is_some n ≡ true → is_in_range low high (unwrap_or n 0) ≡ true → cut (unwrap_or n default) ≡ unwrap_or n default
     by None t k = absurd (let no : false ≡ true = t in cc)
@@ -205,7 +205,7 @@ firmware_good d g =
       devices = few_rows device_of (codes "devices") 16 false (get (codes "devices") d) m.1.1.1.1.1.0.kept;
       shared = few_rows shared_of (codes "shared") 64 false (get (codes "shared") d) m.1.1.1.1.1.1.0.kept;
       sealed = few_rows sealed_of (codes "sealed") 64 false (get (codes "sealed") d) m.1.1.1.1.1.1.1.0.kept;
-      compartments = few_rows compartment_of (codes "compartments") 64 false (get (codes "compartments") d) m.1.1.1.1.1.1.1.1.0.kept;
+      compartments = few_rows compartment_of_object (codes "compartments") 64 false (get (codes "compartments") d) m.1.1.1.1.1.1.1.1.0.kept;
       libraries = few_rows library_of (codes "libraries") 32 false (get (codes "libraries") d) m.1.1.1.1.1.1.1.1.1.0.kept;
       threads = rw (length-map (list_at (codes "threads") d) thread_of, same) threads;
     }
@@ -241,9 +241,9 @@ ram_by d x g =
   where
     uncut_multiple : (high : ℕ) (o : Option Data) (name : List ℕ) (low : ℕ) → high < 2 ^ 32
         → is_kind_there (row name (shape.Multiple low high) true) o ≡ true → keeps_there (row name (shape.Multiple low high) true) o ≡ true
-        → read_or 0 o ≡ unwrap_or (option_and_then number_of o) 0
+        → read_or 0 o ≡ unwrap_or (option_and_then natural_of o) 0
     uncut_multiple high None name low small there kept = absurd (let no : false ≡ true = there in cc)
-    uncut_multiple high (Some v) name low small there kept = by (number_of v) there kept
+    uncut_multiple high (Some v) name low small there kept = by (natural_of v) there kept
       where
         by : (n : Option ℕ) → is_some n ≡ true → (is_in_range low high (unwrap_or n 0) && (unwrap_or n 0 % 16 == 0)) ≡ true → cut (unwrap_or n 0) ≡ unwrap_or n 0
         by None t k = absurd (let no : false ≡ true = t in cc)

@@ -18,9 +18,9 @@ use Rattle.def_desc.specs.declared.tables.TheConstants.{SERVICES, POSTURES}
 use Rattle.def_desc.specs.Members.{text_or, list_at, says}
 use Rattle.def_desc.specs.Tables.{row, service_of, posture_of}
 use Rattle.def_desc.specs.Kinds.{is_kind_there}
-use Rattle.def_desc.specs.Reading.{device_of, shared_of, sealed_of, compartment_of, export_of, library_of, lexport_of, description_of}
-use Rattle.def_desc.specs.References.{target, target_or, names_at, export_name, exports_in, exports_at, resolves, is_taken, is_served}
-use Rattle.def_desc.specs.Rows.{Target, SharedRow, SealedRow}
+use Rattle.def_desc.specs.Reading.{device_of, shared_of, sealed_of, compartment_of_object, export_of, library_of, lexport_of, description_of}
+use Rattle.def_desc.specs.References.{target, target_or, names_at, export_name, exports_in, exports_at, resolves, is_service_taken, is_served}
+use Rattle.def_desc.specs.Rows.{Target, DescShared, DescSealed}
 use Rattle.def_desc.specs.Named.{device_names, shared_names, sealed_names}
 use Rattle.def_desc.specs.Lawful.{Has, IsCallImport, IsLent, IsServed, Resolves}
 use Rattle.law_desc.proofs.Lists.{has_mapped, among_maps, among_flat}
@@ -69,13 +69,13 @@ pub shared_there : (d : Data) (name : List ℕ) → among name (names_at (codes 
 shared_there d name e =
     let xs = list_at (codes "shared") d in
     let h = among_maps (text_or (codes "name")) name xs e in
-    subst (Has (shared_names (description_of d))) (sym h.gives) (has_mapped (λ (x : SharedRow). x.name) (map shared_of xs) (shared_of h.from) (has_mapped shared_of xs h.from h.listed))
+    subst (Has (shared_names (description_of d))) (sym h.gives) (has_mapped (λ (x : DescShared). x.name) (map shared_of xs) (shared_of h.from) (has_mapped shared_of xs h.from h.listed))
 
 pub sealed_there : (d : Data) (name : List ℕ) → among name (names_at (codes "sealed") d) ≡ true → Has (sealed_names (description_of d)) name
 sealed_there d name e =
     let xs = list_at (codes "sealed") d in
     let h = among_maps (text_or (codes "name")) name xs e in
-    subst (Has (sealed_names (description_of d))) (sym h.gives) (has_mapped (λ (x : SealedRow). x.name) (map sealed_of xs) (sealed_of h.from) (has_mapped sealed_of xs h.from h.listed))
+    subst (Has (sealed_names (description_of d))) (sym h.gives) (has_mapped (λ (x : DescSealed). x.name) (map sealed_of xs) (sealed_of h.from) (has_mapped sealed_of xs h.from h.listed))
 
 full_name : Data → Data → List ℕ
 full_name owner x = export_name (text_or (codes "name") owner) (text_or (codes "name") x)
@@ -92,9 +92,9 @@ call_there d name e =
     let es = list_at (codes "exports") h.from in
     let k = among_maps (full_name h.from) name es (subst (λ l. among name l ≡ true) (exports_are h.from) h.among_it) in
     record {
-      owner = compartment_of h.from;
+      owner = compartment_of_object h.from;
       gate = export_of k.from;
-      listed = has_mapped compartment_of cs h.from h.listed;
+      listed = has_mapped compartment_of_object cs h.from h.listed;
       exported = has_mapped export_of es k.from k.listed;
       spelled = k.gives;
     }
@@ -114,10 +114,10 @@ lent_there d name e =
       spelled = k.gives;
     }
 
-pub served_there : (name : List ℕ) → is_taken (service_of name) ≡ true → IsServed name
+pub served_there : (name : List ℕ) → is_service_taken (service_of name) ≡ true → IsServed name
 served_there name e = by (service_of name) refl e
   where
-    by : (o : Option ℕ) → service_of name ≡ o → is_taken o ≡ true → IsServed name
+    by : (o : Option ℕ) → service_of name ≡ o → is_service_taken o ≡ true → IsServed name
     by None is h = absurd (let no : false ≡ true = h in cc)
     by (Some n) is h = (n, is, (service_least name n is, leb-true n last_service h))
 

@@ -17,7 +17,7 @@ use Rattle.def_desc.specs.Limits.{keeps_limits}
 use Rattle.def_desc.specs.References.{refers_at, rights_fit_at, is_served_at}
 use Rattle.def_desc.specs.Addresses.{address_fault}
 use Rattle.def_desc.specs.Reading.{description_of}
-use Rattle.def_desc.specs.WellFormed.{place_of, first_failing, fault, fault_or, first_fault, fault_of}
+use Rattle.def_desc.specs.WellFormed.{spot_place, first_failing, fault, fault_or, first_fault, fault_of}
 use Rattle.law_lists.proofs.Alls.{all_left, all_right}
 
 -- ---- no fault
@@ -26,10 +26,10 @@ none_fails : (test : Spot → Bool) (ss : List Spot) → first_failing test ss �
 none_fails test [] e = tt
 none_fails test (s ∷ ss) e = by (test s) refl e (λ h. none_fails test ss h)
   where
-    by : (b : Bool) → test s ≡ b → option_map place_of (cond (not b) (Some s) (find (λ s. not (test s)) ss)) ≡ None
+    by : (b : Bool) → test s ≡ b → option_map spot_place (cond (not b) (Some s) (find (λ s. not (test s)) ss)) ≡ None
         → (first_failing test ss ≡ None → AllByRecursion (λ s. test s ≡ true) ss) → (test s ≡ true) × AllByRecursion (λ s. test s ≡ true) ss
     by true is h rest = (is, rest h)
-    by false is h rest = absurd (let no : Some (place_of s) ≡ None = h in cc)
+    by false is h rest = absurd (let no : Some (spot_place s) ≡ None = h in cc)
 
 neither : (n : ℕ) (o : Option Place) (rest : Option Fault) → fault_or n o rest ≡ None → (o ≡ None) × (rest ≡ None)
 neither n None rest e = (refl, e)

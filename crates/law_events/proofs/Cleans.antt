@@ -25,7 +25,7 @@ use Rattle.def_step.specs.Switch.{called, new_top, room_of, room_exponent}
 use Rattle.def_step.specs.Routines.{Leaves, switch}
 use Rattle.law_moves.proofs.Cleans.{EachAt, stack_zero}
 use Rattle.def_safety.specs.Calling.{stack_up_to}
-use Rattle.def_safety.specs.Clean.{Answers, CleanEntry, CleanReturn, HandsBack, IsArgument, IsCalleeEnd, IsPostureOf, LetsThrough, StackZero, TakesNone, arguments_of, callee_of, frame_of_call, high_of, minus_one, off, on, plainly, whole}
+use Rattle.def_safety.specs.Clean.{AnswersNumber, CleanEntry, CleanReturn, HandsBack, IsArgument, IsCalleeEnd, IsPostureOf, LetsThrough, StackZero, TakesNone, arguments_of, callee_of, frame_of_call, high_of, minus_one, off, on, plainly, whole}
 use Rattle.def_confined.specs.Facts.{Facts}
 use Rattle.law_events.proofs.Calling.{room_is, code_tagged, globals_tagged, sentry_tagged, stack_tagged}
 use Rattle.law_events.proofs.Switching.{entered_state, switch_told, checks_say, caller_of}
@@ -328,8 +328,8 @@ back_clean i s t f g gs frames =
     let b = left_clean i s t f g gs (answer i (thread s t) f 10) (answer i (thread s t) f 11) frames in
     (b.clean, (lets i f.export (register (thread s t) 10) (register (thread (returned i s t (f ∷ g ∷ gs)) t) 10) b.c10, lets i f.export (register (thread s t) 11) (register (thread (returned i s t (f ∷ g ∷ gs)) t) 11) b.c11))
 
-pub value_clean : (i : Image) (s : State) (t value : ℕ) (f g : Frame) (gs : List Frame) → (thread s t).frames ≡ f ∷ g ∷ gs → CleanReturn i s t f (g ∷ gs) (ended_with i s t value (f ∷ g ∷ gs)) × Answers (ended_with i s t value (f ∷ g ∷ gs)) t value
+pub value_clean : (i : Image) (s : State) (t value : ℕ) (f g : Frame) (gs : List Frame) → (thread s t).frames ≡ f ∷ g ∷ gs → CleanReturn i s t f (g ∷ gs) (ended_with i s t value (f ∷ g ∷ gs)) × AnswersNumber (ended_with i s t value (f ∷ g ∷ gs)) t value
 value_clean i s t value f g gs frames = (let b = left_clean i s t f g gs (plain value) (plain 0) frames in (b.clean, (b.c10, b.c11)))
 
-pub unwind_clean : (i : Image) (s : State) (t : ℕ) (f g : Frame) (gs : List Frame) → (thread s t).frames ≡ f ∷ g ∷ gs → CleanReturn i s t f (g ∷ gs) (unwound i s t (f ∷ g ∷ gs)) × Answers (unwound i s t (f ∷ g ∷ gs)) t minus_one
+pub unwind_clean : (i : Image) (s : State) (t : ℕ) (f g : Frame) (gs : List Frame) → (thread s t).frames ≡ f ∷ g ∷ gs → CleanReturn i s t f (g ∷ gs) (unwound i s t (f ∷ g ∷ gs)) × AnswersNumber (unwound i s t (f ∷ g ∷ gs)) t minus_one
 unwind_clean i s t f g gs frames = value_clean i s t UNWOUND f g gs frames

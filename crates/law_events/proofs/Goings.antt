@@ -4,7 +4,7 @@ use Rattle.std.specs.Prelude.{unwrap_or}
 use Rattle.def_words.specs.declared.Cap.{Cap}
 use Rattle.def_words.specs.declared.Trap.{Trap}
 use Rattle.def_words.specs.Capability.{raised}
-use Rattle.def_words.specs.Jumped.{linked}
+use Rattle.def_words.specs.Jumped.{return_link}
 use Rattle.def_memory.specs.Granules.{plain}
 use Rattle.def_reach.specs.Roots.{is_native}
 use Rattle.def_machine.specs.Image.{Image, root}
@@ -42,5 +42,5 @@ goes_to i s t p l x puts derived says = onward_jumps i s t p l x.parts x.held x.
 pub goes_on : (i : Image) (s : State) (t : ℕ) (l : Cap) → Fetching i s t → Puts i s t l → Jumps i s t (raised (thread s t).pcc 4) (thread s t).posture l
 goes_on i s t l x puts = goes_to i s t (raised (thread s t).pcc 4) l x puts (raised_derived (thread s t).pcc 4) (raised_runs (thread s t).pcc 4 x.fetched.executes)
 
-pub leaves_link : (i : Image) (s : State) (t : ℕ) → Fetching i s t → Puts i s t (linked (thread s t).pcc (thread s t).posture)
-leaves_link i s t x = link_puts i s t (linked (thread s t).pcc (thread s t).posture) x.held x.other x.fetched.some (linked_links (thread s t).pcc (thread s t).posture x.fetched.executes)
+pub leaves_link : (i : Image) (s : State) (t : ℕ) → Fetching i s t → Puts i s t (return_link (thread s t).pcc (thread s t).posture)
+leaves_link i s t x = link_puts i s t (return_link (thread s t).pcc (thread s t).posture) x.held x.other x.fetched.some (linked_links (thread s t).pcc (thread s t).posture x.fetched.executes)

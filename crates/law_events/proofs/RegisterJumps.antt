@@ -10,7 +10,7 @@ use Rattle.def_words.specs.Authority.{cap_address}
 use Rattle.def_words.specs.Permissions.{bit, has, execute}
 use Rattle.def_words.specs.Seals.{cap_seal, posture_through, is_jump_taken, is_unsealed}
 use Rattle.def_words.specs.Capability.{with_address}
-use Rattle.def_words.specs.Jumped.{opened, linked}
+use Rattle.def_words.specs.Jumped.{opened, return_link}
 use Rattle.def_words.specs.Narrows.{IsOpened}
 use Rattle.law_words.proofs.Narrowing.{Addressed, addressed}
 use Rattle.law_words.proofs.Words.{address_small}
@@ -170,7 +170,7 @@ pub jump_fits : (b : Platform) (s : State) (t to at n : ℕ) → Wired b → Fet
     → FlowFits b.image s t (register_jumped to at (register (thread s t) at) n (thread s t).pcc (thread s t).posture (named_by b.image (register (thread s t) at)))
 jump_fits b s t to at n wired f small = by_checks
     (λ o. FlowFits b.image s t (unless o (record {
-      link = Some (linked (thread s t).pcc (thread s t).posture);
+      link = Some (return_link (thread s t).pcc (thread s t).posture);
       pcc = with_address (opened (register (thread s t) at)) (register_target (register (thread s t) at) n);
       posture = posture_after b.image (thread s t).posture (register (thread s t) at);
     })))

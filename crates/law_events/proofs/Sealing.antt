@@ -23,7 +23,7 @@ use Rattle.def_confined.specs.Facts.{Facts}
 use Rattle.def_step.specs.Switch.{return_checks}
 use Rattle.def_step.specs.Routines.{Ran, answers, tells, code}
 use Rattle.def_step.specs.Quotas.{Allocation, Refused, Made, allocation, quota_in, gives_back}
-use Rattle.def_step.specs.Tokens.{with_row, sealed_token, opened_token, key_of, token_of, made_token, by_key, opens, frees_token, token_key, token_new, token_open, token_free}
+use Rattle.def_step.specs.Tokens.{with_row, sealed_token, opened_token, key_of, token_object, made_token, by_key, opens, frees_token, token_key, token_new, token_open, token_free}
 use Rattle.law_moves.proofs.Moves.{untagged_puts, same_puts, derived_puts}
 use Rattle.law_moves.proofs.Allocates.{add_object_confined, object_puts}
 use Rattle.law_moves.proofs.Deeds.{allocate_licensed}
@@ -126,7 +126,7 @@ token_new_stands i s t parts facts k runs =
 
 -- ---- a token is opened
 
-opened_stands : (i : Image) (s : State) (t key : ℕ) (o : Option Object) → Returning i s t → token_of s key (register (thread s t) 11) ≡ o → RoutineKeeps i s t (opens s t (register (thread s t) 11) o)
+opened_stands : (i : Image) (s : State) (t key : ℕ) (o : Option Object) → Returning i s t → token_object s key (register (thread s t) 11) ≡ o → RoutineKeeps i s t (opens s t (register (thread s t) 11) o)
 opened_stands i s t key None r is = (answers_keeps i s t (code 8) r (untagged_puts i s t (code 8) refl), tt)
 opened_stands i s t key (Some o) r is =
     let token = token_says s key (register (thread s t) 11) o is in (
@@ -138,15 +138,15 @@ opened_stands i s t key (Some o) r is =
 
 pub token_open_stands : (i : Image) (s : State) (t : ℕ) → Partitioned i → Keeps i s → s.running ≡ Some t → RoutineKeeps i s t (token_open s t)
 token_open_stands i s t parts k runs =
-    let ran : ℕ → Ran = λ key. opens s t (register (thread s t) 11) (token_of s key (register (thread s t) 11)) in
+    let ran : ℕ → Ran = λ key. opens s t (register (thread s t) 11) (token_object s key (register (thread s t) 11)) in
     checked_stands i s t (return_checks (register (thread s t) 1)) (by_key s t (key_of s (register (thread s t) 10)) ran) (return_tells (register (thread s t) 1)) (λ none.
     let says = return_says (register (thread s t) 1) none in
     let r : Returning i s t = record { parts = parts; keeps = k; runs = runs; tagged = says.tagged; sealed = says.sealed } in
-    key_stands i s t (key_of s (register (thread s t) 10)) ran r (λ key. opened_stands i s t key (token_of s key (register (thread s t) 11)) r refl))
+    key_stands i s t (key_of s (register (thread s t) 10)) ran r (λ key. opened_stands i s t key (token_object s key (register (thread s t) 11)) r refl))
 
 -- ---- a token is freed
 
-gone_stands : (i : Image) (s : State) (t key : ℕ) (o : Option Object) → Charging i s t → token_of s key (register (thread s t) 12) ≡ o → RoutineKeeps i s t (frees_token i s t (quota_in s t) o)
+gone_stands : (i : Image) (s : State) (t key : ℕ) (o : Option Object) → Charging i s t → token_object s key (register (thread s t) 12) ≡ o → RoutineKeeps i s t (frees_token i s t (quota_in s t) o)
 gone_stands i s t key None c is = (answers_keeps i s t (code 8) c.returning (untagged_puts i s t (code 8) refl), tt)
 gone_stands i s t key (Some r) c is = chosen (RoutineKeeps i s t) (r.quota == quota_in s t) (gives_back i s t r) (tells s t (code 6))
     (λ same. given_stands i s t r (register (thread s t) 12) c (token_found s key (register (thread s t) 12) r (quota_in s t) is (eqb-true r.quota (quota_in s t) same)))
@@ -154,6 +154,6 @@ gone_stands i s t key (Some r) c is = chosen (RoutineKeeps i s t) (r.quota == qu
 
 pub token_free_stands : (i : Image) (s : State) (t : ℕ) → Partitioned i → Facts i → Keeps i s → s.running ≡ Some t → RoutineKeeps i s t (token_free i s t)
 token_free_stands i s t parts facts k runs =
-    let ran : ℕ → Ran = λ key. frees_token i s t (quota_in s t) (token_of s key (register (thread s t) 12)) in
+    let ran : ℕ → Ran = λ key. frees_token i s t (quota_in s t) (token_object s key (register (thread s t) 12)) in
     quota_stands i s t (by_key s t (key_of s (register (thread s t) 11)) ran) parts facts k runs
-    (λ c. key_stands i s t (key_of s (register (thread s t) 11)) ran c.returning (λ key. gone_stands i s t key (token_of s key (register (thread s t) 12)) c refl))
+    (λ c. key_stands i s t (key_of s (register (thread s t) 11)) ran c.returning (λ key. gone_stands i s t key (token_object s key (register (thread s t) 12)) c refl))

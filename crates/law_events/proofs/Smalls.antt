@@ -6,7 +6,7 @@ use Rattle.law_lists.proofs.Tests.{chosen}
 use Rattle.def_instr.specs.declared.Instr.{Instr}
 use Rattle.def_instr.specs.declared.Instr.TheVariants.{Lb, Lh, Lw, Clc, Lbu, Lhu, Sb, Sh, Sw, Csc}
 use Rattle.def_instr.specs.declared.Fields.{Fields}
-use Rattle.def_instr.specs.Reading.{upper_of, jump_of, register_jump_of, branch_of, load_of, store_of, shift_of, immediate_of, base_of, alternate_of, multiply_of, register_of, fence_of, call_of, system_of, one_source_of, two_source_of, unnumbered_of, capability_of, instruction_of, instruction_in, cut_of, one_small, two_small, three_small}
+use Rattle.def_instr.specs.Reading.{upper_of, jump_of, register_jump_of, branch_of, load_instruction, store_instruction, shift_of, immediate_of, base_instruction, alternate_of, multiply_of, register_instruction, fence_of, call_of, system_of, one_source_of, two_source_of, unnumbered_of, capability_of, instruction_of, instruction_in, cut_of, one_small, two_small, three_small}
 use Rattle.def_step.specs.Accesses.{access_of}
 use Rattle.def_step.specs.Operands.{operands_of}
 
@@ -53,10 +53,10 @@ small_register_jump f = tested (f.funct3 == 0 && two_small f.rd f.rs1) _ (λ is.
 small_branch : (f : Fields) → IsSmall (branch_of f)
 small_branch f = tested (two_small f.rs1 f.rs2) _ (λ is. either (f.funct3 == 0) _ _ (first f.rs1 f.rs2 is) (either (f.funct3 == 1) _ _ (first f.rs1 f.rs2 is) (either (f.funct3 == 4) _ _ (first f.rs1 f.rs2 is) (either (f.funct3 == 5) _ _ (first f.rs1 f.rs2 is) (either (f.funct3 == 6) _ _ (first f.rs1 f.rs2 is) (either (f.funct3 == 7) _ _ (first f.rs1 f.rs2 is) tt))))))
 
-small_load : (f : Fields) → IsSmall (load_of f)
+small_load : (f : Fields) → IsSmall (load_instruction f)
 small_load f = tested (two_small f.rd f.rs1) _ (λ is. either (f.funct3 == 0) _ _ (second f.rd f.rs1 is) (either (f.funct3 == 1) _ _ (second f.rd f.rs1 is) (either (f.funct3 == 2) _ _ (second f.rd f.rs1 is) (either (f.funct3 == 3) _ _ (second f.rd f.rs1 is) (either (f.funct3 == 4) _ _ (second f.rd f.rs1 is) (either (f.funct3 == 5) _ _ (second f.rd f.rs1 is) tt))))))
 
-small_store : (f : Fields) → IsSmall (store_of f)
+small_store : (f : Fields) → IsSmall (store_instruction f)
 small_store f = tested (two_small f.rs1 f.rs2) _ (λ is. either (f.funct3 == 0) _ _ (first f.rs1 f.rs2 is) (either (f.funct3 == 1) _ _ (first f.rs1 f.rs2 is) (either (f.funct3 == 2) _ _ (first f.rs1 f.rs2 is) (either (f.funct3 == 3) _ _ (first f.rs1 f.rs2 is) tt))))
 
 small_shift : (f : Fields) → f.rs1 < 16 → IsSmall (shift_of f)
@@ -65,7 +65,7 @@ small_shift f small = either (f.funct3 == 1 && f.funct7 == 0x00) _ _ small (eith
 small_immediate : (f : Fields) → IsSmall (immediate_of f)
 small_immediate f = tested (two_small f.rd f.rs1) _ (λ is. either (f.funct3 == 0) _ _ (second f.rd f.rs1 is) (either (f.funct3 == 2) _ _ (second f.rd f.rs1 is) (either (f.funct3 == 3) _ _ (second f.rd f.rs1 is) (either (f.funct3 == 4) _ _ (second f.rd f.rs1 is) (either (f.funct3 == 6) _ _ (second f.rd f.rs1 is) (either (f.funct3 == 7) _ _ (second f.rd f.rs1 is) (small_shift f (second f.rd f.rs1 is))))))))
 
-small_base : (f : Fields) → f.rs1 < 16 → IsSmall (base_of f)
+small_base : (f : Fields) → f.rs1 < 16 → IsSmall (base_instruction f)
 small_base f small = either (f.funct3 == 0) _ _ small (either (f.funct3 == 1) _ _ small (either (f.funct3 == 2) _ _ small (either (f.funct3 == 3) _ _ small (either (f.funct3 == 4) _ _ small (either (f.funct3 == 5) _ _ small (either (f.funct3 == 6) _ _ small (either (f.funct3 == 7) _ _ small tt)))))))
 
 small_alternate : (f : Fields) → f.rs1 < 16 → IsSmall (alternate_of f)
@@ -74,7 +74,7 @@ small_alternate f small = either (f.funct3 == 0) _ _ small (either (f.funct3 == 
 small_multiply : (f : Fields) → f.rs1 < 16 → IsSmall (multiply_of f)
 small_multiply f small = either (f.funct3 == 0) _ _ small (either (f.funct3 == 1) _ _ small (either (f.funct3 == 2) _ _ small (either (f.funct3 == 3) _ _ small (either (f.funct3 == 4) _ _ small (either (f.funct3 == 5) _ _ small (either (f.funct3 == 6) _ _ small (either (f.funct3 == 7) _ _ small tt)))))))
 
-small_register : (f : Fields) → IsSmall (register_of f)
+small_register : (f : Fields) → IsSmall (register_instruction f)
 small_register f = tested (three_small f.rd f.rs1 f.rs2) _ (λ is.
     let parts = and_parts (two_small f.rd f.rs1) (nat_lt f.rs2 16) is in
     let small = second f.rd f.rs1 parts.0 in

@@ -21,7 +21,7 @@ use Rattle.def_confined.specs.Holding.{EndFits}
 use Rattle.def_confined.specs.Keeps.{Keeps}
 use Rattle.def_confined.specs.Partitioned.{Partitioned}
 use Rattle.def_step.specs.Switch.{return_checks}
-use Rattle.def_step.specs.Routines.{Leaves, answered, answers, tells, code, checked, word_checks, stops, waits, wait, wakes, wake}
+use Rattle.def_step.specs.Routines.{Leaves, answered, answers, tells, code, checked, word_checks, stops, waits, wait, threads_woken, wake}
 use Rattle.law_moves.proofs.Moves.{untagged_puts}
 use Rattle.law_moves.proofs.Ticks.{restatused_keeps}
 use Rattle.law_moves.proofs.Checks.{AllTell, register_tells, plain_tells}
@@ -141,16 +141,16 @@ answers_statuses s t v = record {
 
 pub wake_stands : (i : Image) (s : State) (t : ℕ) → Partitioned i → Keeps i s → s.running ≡ Some t → RoutineKeeps i s t (wake i s t)
 wake_stands i s t parts k runs =
-    checked_stands i s t (return_checks (register (thread s t) 1)) (checked (word_checks i s (register (thread s t) 10)) (Leaves (wakes s t (cap_address (register (thread s t) 10)) (cap_address (register (thread s t) 11))) None))
+    checked_stands i s t (return_checks (register (thread s t) 1)) (checked (word_checks i s (register (thread s t) 10)) (Leaves (threads_woken s t (cap_address (register (thread s t) 10)) (cap_address (register (thread s t) 11))) None))
     (return_tells (register (thread s t) 1))
     (λ none.
     let says = return_says (register (thread s t) 1) none in
     let returning : Returning i s t = record { parts = parts; keeps = k; runs = runs; tagged = says.tagged; sealed = says.sealed } in
-    checked_stands i s t (word_checks i s (register (thread s t) 10)) (Leaves (wakes s t (cap_address (register (thread s t) 10)) (cap_address (register (thread s t) 11))) None)
+    checked_stands i s t (word_checks i s (register (thread s t) 10)) (Leaves (threads_woken s t (cap_address (register (thread s t) 10)) (cap_address (register (thread s t) 11))) None)
     (word_tells i s (register (thread s t) 10))
     (λ passes. (wakes_keeps (cap_address (register (thread s t) 10)) (cap_address (register (thread s t) 11)) returning, tt)))
   where
-    wakes_keeps : (address most : ℕ) → Returning i s t → Keeps i (wakes s t address most)
+    wakes_keeps : (address most : ℕ) → Returning i s t → Keeps i (threads_woken s t address most)
     wakes_keeps address most r =
         woken_keeps i (answers s t (integer (woken_count address most (statuses_of s.threads)))) address most (statuses_of s.threads) (answers_statuses s t (integer (woken_count address most (statuses_of s.threads))))
         (answers_keeps i s t (integer (woken_count address most (statuses_of s.threads))) r (untagged_puts i s t (integer (woken_count address most (statuses_of s.threads))) refl))

@@ -12,7 +12,7 @@ ghost use Rattle.def_step.specs.Quotas.{allocate, free, remaining};
 ghost use Rattle.def_step.specs.Routines.{Leaves, switch, sleep, yield, wait, wake};
 ghost use Rattle.def_step.specs.Tokens.{token_key, token_new, token_open, token_free};
 ghost use Rattle.def_confined.specs.Facts.{Facts};
-ghost use Rattle.def_safety.specs.Clean.{Answers, CleanEntry, CleanReturn, HandsBack, minus_one};
+ghost use Rattle.def_safety.specs.Clean.{AnswersNumber, CleanEntry, CleanReturn, HandsBack, minus_one};
 ghost use Rattle.def_events.specs.Stands.{RoutineKeeps};
 
 /// What each routine comes to stands: a trap is one that may be told; what it leaves is confined, with all
@@ -64,9 +64,9 @@ pub fn routines_clean()
     ensures value { (i : Image) (s : State) (t value : ℕ) (f g : Frame) (gs : List Frame)
         → (thread s t).frames ≡ f ∷ g ∷ gs
         → CleanReturn i s t f (g ∷ gs) (ended_with i s t value (f ∷ g ∷ gs))
-        × Answers (ended_with i s t value (f ∷ g ∷ gs)) t value }
+        × AnswersNumber (ended_with i s t value (f ∷ g ∷ gs)) t value }
     ensures unwind { (i : Image) (s : State) (t : ℕ) (f g : Frame) (gs : List Frame)
         → (thread s t).frames ≡ f ∷ g ∷ gs
         → CleanReturn i s t f (g ∷ gs) (unwound i s t (f ∷ g ∷ gs))
-        × Answers (unwound i s t (f ∷ g ∷ gs)) t minus_one }
+        × AnswersNumber (unwound i s t (f ∷ g ∷ gs)) t minus_one }
 {}

@@ -13,9 +13,9 @@ use Rattle.def_source.specs.declared.parts.Statement.{Statement}
 use Rattle.def_source.specs.Source.{Name, Statements, positive, program_of}
 use Rattle.def_object.specs.declared.Place.{Place}
 use Rattle.def_object.specs.declared.Fault.{Fault}
-use Rattle.def_object.specs.Object.{Labels, number_word, is_short, upper_part, rest_part, advanced, fault_from, fault_in, label_in, slot_of, undeclared_in, instruction_bytes, section_bytes, bytes_from, text_of, initial_of}
-use Rattle.def_desc.specs.Reading.{compartment_of}
-use Rattle.def_link.specs.Owners.{Unit as OwnerUnit, Built, compartment_unit, assembled_or, read_or, checked, first_lost, placed_or, unit_built}
+use Rattle.def_object.specs.Object.{Labels, number_word, is_short, upper_part, rest_part, place_after, fault_from, fault_in, label_in, slot_of, undeclared_in, instruction_bytes, section_bytes, bytes_from, text_of, initial_of}
+use Rattle.def_desc.specs.Reading.{compartment_of_object}
+use Rattle.def_link.specs.Owners.{Unit as OwnerUnit, Built, compartment_unit, assembled_or, read_or, unit_checked, first_lost, placed_or, unit_built}
 use Rattle.def_gen.specs.Description.{compartment_with}
 use Rattle.def_gen.specs.Sources.{source_with}
 use Rattle.law_gen.proofs.Twice.{slots_of}
@@ -87,7 +87,7 @@ abbrev Grows : Part Name → Type 0
 Grows q =
     (labels : Labels) (slots : List Name) (t : ℕ)
     → (length (section_bytes section.Text labels slots (at_text t) q) ≤ 8)
-    × ((u : ℕ) × (advanced (at_text t) q ≡ at_text u))
+    × ((u : ℕ) × (place_after (at_text t) q ≡ at_text u))
 
 abbrev AllGrow : Statements → Type 0
 AllGrow ss = AllByRecursion (λ (s : Statement Name). Grows s.part) ss
@@ -98,9 +98,9 @@ grown labels slots t (s ∷ ss) h =
     let step = h.0 labels slots t in
     let here : length (section_bytes section.Text labels slots (at_text t) s.part) ≤ 8 = step.0 in
     let rest : length (bytes_from section.Text labels slots (at_text step.1.0) ss) ≤ 8 * length ss = grown labels slots step.1.0 ss h.1 in
-    let next : length (bytes_from section.Text labels slots (advanced (at_text t) s.part) ss) ≤ 8 * length ss =
+    let next : length (bytes_from section.Text labels slots (place_after (at_text t) s.part) ss) ≤ 8 * length ss =
     subst (λ p. length (bytes_from section.Text labels slots p ss) ≤ 8 * length ss) (sym step.1.1) rest in
-    let sum = length-append (section_bytes section.Text labels slots (at_text t) s.part) (bytes_from section.Text labels slots (advanced (at_text t) s.part) ss) in
+    let sum = length-append (section_bytes section.Text labels slots (at_text t) s.part) (bytes_from section.Text labels slots (place_after (at_text t) s.part) ss) in
     omega (arith, sum, here, next)
 
 number_grows : (rd : ℕ) (n : Number) → Grows (part.LoadImmediate rd n)
@@ -133,7 +133,7 @@ built_with last size i = record {
 }
 
 abbrev unit_with : Bool → Bool → ℕ → ℕ → OwnerUnit
-unit_with last passes globals i = compartment_unit i (compartment_of (compartment_with last passes globals i))
+unit_with last passes globals i = compartment_unit i (compartment_of_object (compartment_with last passes globals i))
 
 none_lost : (last passes : Bool) (globals size i : ℕ) → first_lost (built_with last size i) 0 (unit_with last passes globals i).exports ≡ None
 unfolding label_in
@@ -144,9 +144,9 @@ none_lost false false globals size i = rw (some_text false size i) refl
 
 read_as : (last passes : Bool) (globals size i : ℕ) (source : List ℕ) → program_of source ≡ Ok (statements_with last size i)
     → unit_built (unit_with last passes globals i) source
-    ≡ checked (unit_with last passes globals i) (assembled_or (unit_with last passes globals i).owner (slots_of last) (statements_with last size i) (undeclared_in (slots_of last) (statements_with last size i)) (fault_in (statements_with last size i)))
-read_as true passes globals size i source e = ap (λ r. checked (unit_with true passes globals i) (read_or (unit_with true passes globals i).owner (slots_of true) r)) e
-read_as false passes globals size i source e = ap (λ r. checked (unit_with false passes globals i) (read_or (unit_with false passes globals i).owner (slots_of false) r)) e
+    ≡ unit_checked (unit_with last passes globals i) (assembled_or (unit_with last passes globals i).owner (slots_of last) (statements_with last size i) (undeclared_in (slots_of last) (statements_with last size i)) (fault_in (statements_with last size i)))
+read_as true passes globals size i source e = ap (λ r. unit_checked (unit_with true passes globals i) (read_or (unit_with true passes globals i).owner (slots_of true) r)) e
+read_as false passes globals size i source e = ap (λ r. unit_checked (unit_with false passes globals i) (read_or (unit_with false passes globals i).owner (slots_of false) r)) e
 
 pub unit_is : (last passes : Bool) (globals m i : ℕ) → m < 32 → i < 64
     → unit_built (unit_with last passes globals i) (source_with last (8 * (1 + m)) i) ≡ Ok (built_with last (8 * (1 + m)) i)
@@ -155,6 +155,6 @@ unit_is last passes globals m i hm hi =
     let u : OwnerUnit = unit_with last passes globals i in
     let ss : Statements = statements_with last size i in
     read_as last passes globals size i (source_with last size i) (program_is last m i hm hi)
-    ∙ ap (λ (o : Option ℕ). checked u (assembled_or u.owner (slots_of last) ss o (fault_in ss))) (no_undeclared last size i)
-    ∙ ap (λ (f : Option Fault). checked u (assembled_or u.owner (slots_of last) ss None f)) (no_fault last size i (omega arith) (omega arith))
+    ∙ ap (λ (o : Option ℕ). unit_checked u (assembled_or u.owner (slots_of last) ss o (fault_in ss))) (no_undeclared last size i)
+    ∙ ap (λ (f : Option Fault). unit_checked u (assembled_or u.owner (slots_of last) ss None f)) (no_fault last size i (omega arith) (omega arith))
     ∙ ap (placed_or u.owner (built_with last size i)) (none_lost last passes globals size i)

@@ -10,13 +10,13 @@ use Rattle.def_profile.specs.Areas.{area_length}
 use Rattle.serde_json.specs.Data.{Data}
 use Rattle.def_layout.specs.Placement.{placed, last_end, needed}
 use Rattle.def_image.specs.Parts.{PartsRow}
-use Rattle.def_desc.specs.Rows.{CompartmentRow, DescRow}
-use Rattle.def_desc.specs.Reading.{cut, compartment_of, description_of}
-use Rattle.def_link.specs.Owners.{Unit as OwnerUnit, Built, numbered, compartment_unit, units_of, with_front, all_built}
+use Rattle.def_desc.specs.Rows.{DescCompartment, DescRow}
+use Rattle.def_desc.specs.Reading.{cut, compartment_of_object, description_of}
+use Rattle.def_link.specs.Owners.{Unit as OwnerUnit, Built, numbered, compartment_unit, units_of, built_before, all_built}
 use Rattle.def_link.specs.Linked.{BuiltCompartment, compartments_with, compartment_sizes, sizes_of, parts_of, built_parts, linked_with, linked}
 use Rattle.def_gen.specs.declared.TheConstants.{RAM_BASE, RAM_SIZE}
 use Rattle.def_gen.specs.Numbers.{count_of, chosen, globals_of, passes_data, is_last}
-use Rattle.def_gen.specs.Description.{firmware_over, list, compartments, firmware}
+use Rattle.def_gen.specs.Description.{firmware_over, array_data, compartments, firmware}
 use Rattle.def_gen.specs.Sources.{source_with, sources}
 use Rattle.law_gen.proofs.Lists.{list_items}
 use Rattle.law_gen.proofs.Owned.{one}
@@ -39,8 +39,8 @@ record IsSmall (p : Plan) : Type 0 where
   globals : (i : ℕ) → p.globals i ≤ 1024
   units : (i : ℕ) → p.units i < 32
 
-abbrev pub row_at : Plan → ℕ → CompartmentRow
-row_at p i = compartment_of (one p.last p.passes p.globals i)
+abbrev pub row_at : Plan → ℕ → DescCompartment
+row_at p i = compartment_of_object (one p.last p.passes p.globals i)
 
 abbrev source_at : Plan → ℕ → List ℕ
 source_at p i = source_with (p.last i) (8 * (1 + p.units i)) i
@@ -48,18 +48,18 @@ source_at p i = source_with (p.last i) (8 * (1 + p.units i)) i
 abbrev built_at : Plan → ℕ → Built
 built_at p i = built_with (p.last i) (8 * (1 + p.units i)) i
 
-rows_map : (f : ℕ → Data) (a m : ℕ) → map compartment_of (map f (range_with_len a m)) ≡ map (λ i. compartment_of (f i)) (range_with_len a m)
+rows_map : (f : ℕ → Data) (a m : ℕ) → map compartment_of_object (map f (range_with_len a m)) ≡ map (λ i. compartment_of_object (f i)) (range_with_len a m)
 rows_map f a zero = refl
-rows_map f a (suc m) = ap (λ (l : List CompartmentRow). compartment_of (f a) ∷ l) (rows_map f (a + 1) m)
+rows_map f a (suc m) = ap (λ (l : List DescCompartment). compartment_of_object (f a) ∷ l) (rows_map f (a + 1) m)
 
 all_units : (p : Plan) → IsSmall p → (a m : ℕ) → a + m ≤ 64
     → all_built (numbered compartment_unit a (map (row_at p) (range_with_len a m))) (map (source_at p) (range_with_len a m)) ≡ Ok (map (built_at p) (range_with_len a m))
 unfolding all_built
 all_units p small a zero le = refl
 all_units p small a (suc m) le =
-    ap (λ r. with_front r (all_built (numbered compartment_unit (a + 1) (map (row_at p) (range_with_len (a + 1) m))) (map (source_at p) (range_with_len (a + 1) m))))
+    ap (λ r. built_before r (all_built (numbered compartment_unit (a + 1) (map (row_at p) (range_with_len (a + 1) m))) (map (source_at p) (range_with_len (a + 1) m))))
     (unit_is (p.last a) (p.passes a) (p.globals a) (p.units a) a (small.units a) (omega arith))
-    ∙ ap (with_front (Ok (built_at p a))) (all_units p small (a + 1) m (omega arith))
+    ∙ ap (built_before (Ok (built_at p a))) (all_units p small (a + 1) m (omega arith))
 
 -- ---- sizes
 
@@ -75,7 +75,7 @@ cut_small n most le = by (nat_lt n (2 ^ 32))
 
 -- code, exports and globals of one compartment
 one_takes : (last passes : Bool) (globals size i : ℕ) → globals ≤ 1024
-    → Takes (compartment_sizes (record { row = compartment_of (one (λ k. last) (λ k. passes) (λ k. globals) i); built = built_with last size i } ∷ [])) 1720
+    → Takes (compartment_sizes (record { row = compartment_of_object (one (λ k. last) (λ k. passes) (λ k. globals) i); built = built_with last size i } ∷ [])) 1720
 one_takes last passes globals size i le = by last passes
   where
     three : (a b c : ℕ) → a ≤ 216 → b ≤ 48 → c ≤ 1024 → Takes (a ∷ b ∷ c ∷ []) 1720
@@ -95,7 +95,7 @@ one_takes last passes globals size i le = by last passes
         let few = cut_small globals 1024 le in
         omega (arith, none, few)
 
-    by : (l q : Bool) → Takes (compartment_sizes (record { row = compartment_of (one (λ k. l) (λ k. q) (λ k. globals) i); built = built_with l size i } ∷ [])) 1720
+    by : (l q : Bool) → Takes (compartment_sizes (record { row = compartment_of_object (one (λ k. l) (λ k. q) (λ k. globals) i); built = built_with l size i } ∷ [])) 1720
     by true true = let few = few_text true size i in three _ _ _ (omega (arith, few)) (omega arith) (initial_small true)
     by true false = let few = few_text true size i in three _ _ _ (omega (arith, few)) (omega arith) (initial_small true)
     by false true = let few = few_text false size i in three _ _ _ (omega (arith, few)) (omega arith) (initial_small false)
@@ -114,7 +114,7 @@ abbrev owners_of : Plan → List Data
 owners_of p = map (one p.last p.passes p.globals) (range_with_len 0 p.count)
 
 abbrev rows_in : Plan → DescRow
-rows_in p = description_of (firmware_over p.count (list (owners_of p)))
+rows_in p = description_of (firmware_over p.count (array_data (owners_of p)))
 
 abbrev sources_of : Plan → List (List ℕ)
 sources_of p = map (source_at p) (range_with_len 0 p.count)
@@ -123,24 +123,24 @@ abbrev all_with : Plan → List BuiltCompartment
 all_with p = with_built p 0 p.count
 
 same_rows : (p : Plan) → (rows_in p).compartments ≡ map (row_at p) (range_with_len 0 p.count)
-same_rows p = ap (map compartment_of) (list_items (owners_of p)) ∙ rows_map (one p.last p.passes p.globals) 0 p.count
+same_rows p = ap (map compartment_of_object) (list_items (owners_of p)) ∙ rows_map (one p.last p.passes p.globals) 0 p.count
 
 all_are_built : (p : Plan) → IsSmall p → all_built (units_of (rows_in p)) (sources_of p) ≡ Ok (map (built_at p) (range_with_len 0 p.count))
 all_are_built p small =
     let most : p.count ≤ 64 = small.most in
     ap (λ (us : List OwnerUnit). all_built us (sources_of p)) (append-nil (numbered compartment_unit 0 (rows_in p).compartments))
-    ∙ ap (λ (rs : List CompartmentRow). all_built (numbered compartment_unit 0 rs) (sources_of p)) (same_rows p)
+    ∙ ap (λ (rs : List DescCompartment). all_built (numbered compartment_unit 0 rs) (sources_of p)) (same_rows p)
     ∙ all_units p small 0 p.count (omega arith)
 
 all_taken : (p : Plan) → compartments_with (rows_in p).compartments (take (length (rows_in p).compartments) (map (built_at p) (range_with_len 0 p.count))) ≡ all_with p
 all_taken p =
     let bs : List Built = map (built_at p) (range_with_len 0 p.count) in
-    let rs : List CompartmentRow = map (row_at p) (range_with_len 0 p.count) in
+    let rs : List DescCompartment = map (row_at p) (range_with_len 0 p.count) in
     let few : length bs ≤ length rs =
     (let first : length bs ≡ p.count = length-map-range_with_len (built_at p) 0 p.count in
     let second : length rs ≡ p.count = length-map-range_with_len (row_at p) 0 p.count in
     omega (arith, first, second)) in
-    ap (λ (l : List CompartmentRow). compartments_with l (take (length l) bs)) (same_rows p)
+    ap (λ (l : List DescCompartment). compartments_with l (take (length l) bs)) (same_rows p)
     ∙ ap (compartments_with rs) (take_all (length rs) bs few)
 
 nil_more : (ns : List ℕ) (a : ℕ) → Takes ns a → Takes (ns ++ []) a
@@ -219,7 +219,7 @@ pub seed_units : (seed : ℕ) → units_of (description_of (firmware seed)) ≡ 
 unfolding firmware compartments
 seed_units seed =
     append-nil (numbered compartment_unit 0 (rows_in (plan seed)).compartments)
-    ∙ ap (λ (rs : List CompartmentRow). numbered compartment_unit 0 rs) (same_rows (plan seed))
+    ∙ ap (λ (rs : List DescCompartment). numbered compartment_unit 0 rs) (same_rows (plan seed))
 
 pub generated_links : (seed : ℕ) → linked (description_of (firmware seed)) (sources seed) ≡ Ok (parts_of_seed seed)
 unfolding firmware compartments sources

@@ -12,7 +12,7 @@ use Rattle.def_source.specs.declared.parts.Section.TheVariants as section
 use Rattle.def_source.specs.declared.parts.Part.{Part}
 use Rattle.def_source.specs.declared.parts.Part.TheVariants as part
 use Rattle.def_source.specs.declared.parts.Line.{Line}
-use Rattle.def_source.specs.Source.{Name, Statements, positive, negative, before, line_of, row_line, line_tokens, head_of, directive_of, register_of, register_at, register_comma, address_at, two_registers, three_registers, two_registers_number, two_registers_target, register_number, register_target, register_name, register_address, one_register, one_number, one_target, lines_of, section_after, line_statements, with_front, goes_on, program_from, program_of}
+use Rattle.def_source.specs.Source.{Name, Statements, positive, negative, before, line_of, row_line, line_tokens, statement_head, directive_of, register_of, register_at, register_comma, address_at, two_registers, three_registers, two_registers_number, two_registers_target, register_number, register_and_target, register_name, register_address, one_register, one_number, one_target, lines_of, section_after, line_statements, with_front, line_then, program_from, program_of}
 use Rattle.def_gen.specs.Sources.{line, lines_with, source_with}
 
 -- ---- numbers below a number, one by one
@@ -89,7 +89,7 @@ abbrev SizeRead : ℕ → Type 0
 SizeRead m = line_of section.Text (codes " li a1, " ++ decimal (8 * (1 + m))) ≡ Ok (taken (8 * (1 + m)))
 
 sizes_read : (m : ℕ) → m < 32 → SizeRead m
-unfolding line_of row_line line_tokens head_of directive_of register_of register_at register_comma address_at two_registers three_registers two_registers_number two_registers_target register_number register_target register_name register_address one_register one_number one_target digits
+unfolding line_of row_line line_tokens statement_head directive_of register_of register_at register_comma address_at two_registers three_registers two_registers_number two_registers_target register_number register_and_target register_name register_address one_register one_number one_target digits
 sizes_read m lt = below SizeRead 32 m (refl, (refl, (refl, (refl, (refl, (refl, (refl, (refl, (refl, (refl, (refl, (refl, (refl, (refl, (refl, (refl, (refl, (refl, (refl, (refl, (refl, (refl, (refl, (refl, (refl, (refl, (refl, (refl, (refl, (refl, (refl, (refl, tt)))))))))))))))))))))))))))))))) lt
 
 sizes_clear : (m : ℕ) → m < 32 → is_clear (codes " li a1, " ++ decimal (8 * (1 + m))) ≡ true
@@ -100,7 +100,7 @@ abbrev IndexRead : ℕ → Type 0
 IndexRead i = line_of section.Text (codes " li a0, " ++ decimal i) ≡ Ok (numbered i)
 
 indexes_read : (i : ℕ) → i < 64 → IndexRead i
-unfolding line_of row_line line_tokens head_of directive_of register_of register_at register_comma address_at two_registers three_registers two_registers_number two_registers_target register_number register_target register_name register_address one_register one_number one_target digits
+unfolding line_of row_line line_tokens statement_head directive_of register_of register_at register_comma address_at two_registers three_registers two_registers_number two_registers_target register_number register_and_target register_name register_address one_register one_number one_target digits
 indexes_read i lt = below IndexRead 64 i (refl, (refl, (refl, (refl, (refl, (refl, (refl, (refl, (refl, (refl, (refl, (refl, (refl, (refl, (refl, (refl, (refl, (refl, (refl, (refl, (refl, (refl, (refl, (refl, (refl, (refl, (refl, (refl, (refl, (refl, (refl, (refl, (refl, (refl, (refl, (refl, (refl, (refl, (refl, (refl, (refl, (refl, (refl, (refl, (refl, (refl, (refl, (refl, (refl, (refl, (refl, (refl, (refl, (refl, (refl, (refl, (refl, (refl, (refl, (refl, (refl, (refl, (refl, (refl, tt)))))))))))))))))))))))))))))))))))))))))))))))))))))))))))))))) lt
 
 indexes_clear : (i : ℕ) → i < 64 → is_clear (codes " li a0, " ++ decimal i) ≡ true
@@ -114,7 +114,7 @@ AreRead (l ∷ ls) (x ∷ xs) = (is_clear l ≡ true) × (line_of section.Text l
 AreRead _ _ = ⊥
 
 all_read : (last : Bool) (m i : ℕ) → m < 32 → i < 64 → AreRead (lines_with last (8 * (1 + m)) i) (read_with last (8 * (1 + m)) i)
-unfolding line_of row_line line_tokens head_of directive_of register_of register_at register_comma address_at two_registers three_registers two_registers_number two_registers_target register_number register_target register_name register_address one_register one_number one_target
+unfolding line_of row_line line_tokens statement_head directive_of register_of register_at register_comma address_at two_registers three_registers two_registers_number two_registers_target register_number register_and_target register_name register_address one_register one_number one_target
 all_read true m i hm hi = (refl, refl, refl, (refl, refl, refl, (refl, refl, refl, (sizes_clear m hm, sizes_read m hm, refl, (refl, refl, refl, (refl, refl, refl, (refl, refl, refl, (refl, refl, refl, (refl, refl, refl, (refl, refl, refl, (refl, refl, refl, (refl, refl, refl, (indexes_clear i hi, indexes_read i hi, refl, (refl, refl, refl, (refl, refl, refl, (refl, refl, refl, (refl, refl, refl, tt)))))))))))))))))
 all_read false m i hm hi = (refl, refl, refl, (refl, refl, refl, (refl, refl, refl, (sizes_clear m hm, sizes_read m hm, refl, (refl, refl, refl, (refl, refl, refl, (refl, refl, refl, (refl, refl, refl, (refl, refl, refl, (refl, refl, refl, (refl, refl, refl, (refl, refl, refl, (refl, refl, refl, (refl, refl, refl, (refl, refl, refl, (indexes_clear i hi, indexes_read i hi, refl, (refl, refl, refl, (refl, refl, refl, (refl, refl, refl, (refl, refl, refl, tt))))))))))))))))))))
 
@@ -129,7 +129,7 @@ reads n [] [] h = refl
 reads n [] (x ∷ xs) h = absurd h
 reads n (l ∷ ls) [] h = absurd h
 reads n (l ∷ ls) (x ∷ xs) h =
-    ap (λ r. goes_on n section.Text r (λ t. program_from t (n + 1) ls)) h.1
+    ap (λ r. line_then n section.Text r (λ t. program_from t (n + 1) ls)) h.1
     ∙ ap (λ s. with_front (line_statements n x) (program_from s (n + 1) ls)) h.2
     ∙ ap (with_front (line_statements n x)) (reads (n + 1) ls xs h.3)
 

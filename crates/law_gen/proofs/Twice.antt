@@ -6,14 +6,14 @@ use Rattle.serde_json.specs.Data.{Data}
 use Rattle.def_texts.specs.Names.{among}
 use Rattle.def_desc.specs.declared.faults.PartWord.TheVariants as part
 use Rattle.def_desc.specs.Tables.{inner_lists}
-use Rattle.def_desc.specs.Names.{Spaces, name_of, space_of, joined, first_twice}
+use Rattle.def_desc.specs.Names.{Spaces, spot_name, name_space, with_part_name, first_twice}
 use Rattle.def_desc.specs.Walk.{Spot, spot, place, inside, each_from}
-use Rattle.def_gen.specs.Description.{compartment_with, compartment_name, thread_json}
+use Rattle.def_gen.specs.Description.{compartment_with, name_of_compartment, thread_json}
 use Rattle.law_gen.proofs.Lists.{own_spots}
 use Rattle.law_gen.proofs.Named.{new_name, not_first, not_second, not_after, added}
 use Rattle.law_gen.proofs.Owned.{one}
 
-pub passes_on : (seen : Spaces) (s : Spot) (ss : List Spot) → among (name_of s) (space_of s.place.part seen) ≡ false → first_twice seen (s ∷ ss) ≡ first_twice (joined s.place.part (name_of s) seen) ss
+pub passes_on : (seen : Spaces) (s : Spot) (ss : List Spot) → among (spot_name s) (name_space s.place.part seen) ≡ false → first_twice seen (s ∷ ss) ≡ first_twice (with_part_name s.place.part (spot_name s) seen) ss
 passes_on seen s ss h = rw h refl
 
 abbrev pub slots_of : Bool → List (List ℕ)
@@ -26,7 +26,7 @@ moved seen i last = record {
   devices = seen.devices;
   shared = seen.shared;
   sealed = seen.sealed;
-  owners = seen.owners ++ compartment_name i ∷ [];
+  owners = seen.owners ++ name_of_compartment i ∷ [];
   slots = slots_of last;
   exports = codes "go" ∷ [];
 }
@@ -51,34 +51,34 @@ inside_twice seen owners false true globals i more = refl
 inside_twice seen owners false false globals i more = refl
 
 own_twice : (d : Data) (last passes : Bool) (globals i : ℕ) (seen : Spaces) (more : List Spot)
-    → among (compartment_name i) seen.owners ≡ false
+    → among (name_of_compartment i) seen.owners ≡ false
     → first_twice seen (own_spots d i (compartment_with last passes globals i) ++ more) ≡ first_twice (moved seen i last) more
 own_twice d last passes globals i seen more h =
     let rest : List Spot = inside (compartment_with last passes globals i) i (inner_lists part.Compartment) ++ more in
     passes_on seen (spot (place part.Compartment i 0) d (compartment_with last passes globals i)) rest h
-    ∙ ap (λ (o : List (List ℕ)). first_twice (begun seen o) rest) (added seen.owners (compartment_name i) h)
-    ∙ inside_twice seen (seen.owners ++ compartment_name i ∷ []) last passes globals i more
+    ∙ ap (λ (o : List (List ℕ)). first_twice (begun seen o) rest) (added seen.owners (name_of_compartment i) h)
+    ∙ inside_twice seen (seen.owners ++ name_of_compartment i ∷ []) last passes globals i more
 
 pub owners_twice : (d : Data) (last passes : ℕ → Bool) (globals : ℕ → ℕ) (a m : ℕ) (seen : Spaces) (more : List Spot)
-    → a + m ≤ 64 → seen.owners ≡ map compartment_name (range_with_len 0 a)
-    → ((now : Spaces) → now.owners ≡ map compartment_name (range_with_len 0 (a + m)) → first_twice now more ≡ None)
+    → a + m ≤ 64 → seen.owners ≡ map name_of_compartment (range_with_len 0 a)
+    → ((now : Spaces) → now.owners ≡ map name_of_compartment (range_with_len 0 (a + m)) → first_twice now more ≡ None)
     → first_twice seen (each_from part.Compartment d a (map (one last passes globals) (range_with_len a m)) ++ more) ≡ None
 owners_twice d last passes globals a zero seen more le e k =
     let same : a ≡ a + 0 = omega arith in
-    k seen (e ∙ ap (λ n. map compartment_name (range_with_len 0 n)) same)
+    k seen (e ∙ ap (λ n. map name_of_compartment (range_with_len 0 n)) same)
 owners_twice d last passes globals a (suc m) seen more le e k =
     let own : List Spot = own_spots d a (one last passes globals a) in
     let rest : List Spot = each_from part.Compartment d (a + 1) (map (one last passes globals) (range_with_len (a + 1) m)) in
-    let new : among (compartment_name a) seen.owners ≡ false = ap (among (compartment_name a)) e ∙ new_name a 0 a (omega arith) (omega arith) in
-    let grown : seen.owners ++ compartment_name a ∷ [] ≡ map compartment_name (range_with_len 0 (a + 1)) =
-    ap (λ (o : List (List ℕ)). o ++ compartment_name a ∷ []) e ∙ sym (map-range_with_len_more compartment_name 0 a a (omega arith)) in
+    let new : among (name_of_compartment a) seen.owners ≡ false = ap (among (name_of_compartment a)) e ∙ new_name a 0 a (omega arith) (omega arith) in
+    let grown : seen.owners ++ name_of_compartment a ∷ [] ≡ map name_of_compartment (range_with_len 0 (a + 1)) =
+    ap (λ (o : List (List ℕ)). o ++ name_of_compartment a ∷ []) e ∙ sym (map-range_with_len_more name_of_compartment 0 a a (omega arith)) in
     let same : (a + 1) + m ≡ a + suc m = omega arith in
     ap (first_twice seen) (append_assoc own rest more)
     ∙ own_twice d (last a) (passes a) (globals a) a seen (rest ++ more) new
     ∙ owners_twice d last passes globals (a + 1) m (moved seen a (last a)) more (omega arith) grown
-    (λ now f. k now (f ∙ ap (λ n. map compartment_name (range_with_len 0 n)) same))
+    (λ now f. k now (f ∙ ap (λ n. map name_of_compartment (range_with_len 0 n)) same))
 
-pub threads_twice : (d : Data) (count : ℕ) (now : Spaces) → now.owners ≡ map compartment_name (range_with_len 0 count)
+pub threads_twice : (d : Data) (count : ℕ) (now : Spaces) → now.owners ≡ map name_of_compartment (range_with_len 0 count)
     → first_twice now (spot (place part.Thread 0 0) d (thread_json count (codes "a")) ∷ spot (place part.Thread 1 0) d (thread_json count (codes "b")) ∷ []) ≡ None
 threads_twice d count now e =
     let first : among (codes "a") now.owners ≡ false = ap (among (codes "a")) e ∙ not_first 0 count in

@@ -8,7 +8,7 @@ use Rattle.def_memory.specs.Granules.{granule_at, cap_in, caps_from}
 use Rattle.def_machine.specs.State.{Frame}
 use Rattle.def_machine.specs.Memory.{filtered_in, is_marked_in}
 use Rattle.def_words.specs.Authority.{cap_base}
-use Rattle.def_areas.specs.Areas.{low_word, high_word, frame_place, frame_at, caller_actor, caller_top, caller_handling, frames_from}
+use Rattle.def_areas.specs.Areas.{low_half, high_half, frame_place, frame_at, caller_actor, caller_top, caller_handling, frames_from}
 use Rattle.def_machine.specs.Slices.{filtered_between, kept_granules, kept_frame, kept_frames, kept_registers, KeepsWords}
 use Rattle.law_hidden.proofs.Slices.{zero_passes}
 
@@ -29,11 +29,11 @@ registers_kept f z gs k (suc n) =
     rw (held_kept f z gs k) (ap (λ cs. f (8 * k) (cap_in gs k) ∷ cs) (registers_kept f z gs (k + 1) n ∙ ap (λ m. kept_registers f m (caps_from gs (k + 1) n)) next))
 
 -- words of a frame stay
-low_kept : (f : ℕ → Cap → Cap) → KeepsWords f → (gs : List Granule) (k : ℕ) → low_word (cap_in (kept_granules f 0 gs) k) ≡ low_word (cap_in gs k)
-low_kept f z gs k = ap low_word (held_kept f z gs k) ∙ ap (λ w. w % 2 ^ 32) (z.word_is (8 * k) (cap_in gs k))
+low_kept : (f : ℕ → Cap → Cap) → KeepsWords f → (gs : List Granule) (k : ℕ) → low_half (cap_in (kept_granules f 0 gs) k) ≡ low_half (cap_in gs k)
+low_kept f z gs k = ap low_half (held_kept f z gs k) ∙ ap (λ w. w % 2 ^ 32) (z.word_is (8 * k) (cap_in gs k))
 
-high_kept : (f : ℕ → Cap → Cap) → KeepsWords f → (gs : List Granule) (k : ℕ) → high_word (cap_in (kept_granules f 0 gs) k) ≡ high_word (cap_in gs k)
-high_kept f z gs k = ap high_word (held_kept f z gs k) ∙ ap (λ w. w / 2 ^ 32) (z.word_is (8 * k) (cap_in gs k))
+high_kept : (f : ℕ → Cap → Cap) → KeepsWords f → (gs : List Granule) (k : ℕ) → high_half (cap_in (kept_granules f 0 gs) k) ≡ high_half (cap_in gs k)
+high_kept f z gs k = ap high_half (held_kept f z gs k) ∙ ap (λ w. w / 2 ^ 32) (z.word_is (8 * k) (cap_in gs k))
 
 saved_kept : (f : ℕ → Cap → Cap) → KeepsWords f → (gs : List Granule) (k j m : ℕ) → 8 * (k + j) ≡ m → cap_in (kept_granules f 0 gs) (k + j) ≡ f m (cap_in gs (k + j))
 saved_kept f z gs k j m is = held_kept f z gs (k + j) ∙ ap (λ n. f n (cap_in gs (k + j))) is

@@ -11,7 +11,7 @@ use Rattle.def_words.specs.declared.Trap.{Trap}
 use Rattle.def_words.specs.Authority.{cap_address, cap_base}
 use Rattle.def_words.specs.Capability.{integer, untagged}
 use Rattle.def_words.specs.Loaded.{attenuated, lost_through, stored_through}
-use Rattle.def_words.specs.Permissions.{has, bit, among, removed, cap_perms, global, load_global, load_mutable, memory_capability, store_data, store_local}
+use Rattle.def_words.specs.Permissions.{has, bit, is_among, removed, cap_perms, global, load_global, load_mutable, memory_capability, store_data, store_local}
 use Rattle.def_words.specs.Seals.{cap_seal, is_unsealed}
 use Rattle.def_memory.specs.declared.Granule.{Granule}
 use Rattle.def_memory.specs.Granules.{plain, nothing, granule_at}
@@ -43,37 +43,37 @@ use Rattle.def_safety.specs.Used.{access_start, authority_of, value_of}
 -- ---- a word
 
 -- what a load takes is gone
-lost_gone : (by c : Cap) (p : ℕ) → among p (lost_through by c) ≡ true → has (attenuated by c) p ≡ false
+lost_gone : (by c : Cap) (p : ℕ) → is_among p (lost_through by c) ≡ true → has (attenuated by c) p ≡ false
 unfolding attenuated removed
 lost_gone by c p lost = elim (bool_tells (has (attenuated by c) p)) [
   | inl there ↦
-      let kept : ℕ → Bool = λ q. bit (cap_perms c) q && not (among q (lost_through by c)) in
-      let small = where_small (λ q. bit (cap_perms c) q && not (among q (lost_through by c))) in
+      let kept : ℕ → Bool = λ q. bit (cap_perms c) q && not (is_among q (lost_through by c)) in
+      let small = where_small (λ q. bit (cap_perms c) q && not (is_among q (lost_through by c))) in
       let w : WithSet c (attenuated by c) (removed (cap_perms c) (lost_through by c)) = with_set c (attenuated by c) (removed (cap_perms c) (lost_through by c)) small refl in
       let stays : bit (removed (cap_perms c) (lost_through by c)) p ≡ true = normal_within (removed (cap_perms c) (lost_through by c)) p (ap (λ s. bit s p) (sym w.rights) ∙ there) in
       elim (le_tells 12 p) [
         | inl t ↦ absurd (let none : bit (removed (cap_perms c) (lost_through by c)) p ≡ false = bit_past (removed (cap_perms c) (lost_through by c)) p small t.1 in cc)
         | inr t ↦
-            let parts = and_parts (bit (cap_perms c) p) (not (among p (lost_through by c))) (sym (bit_where (λ q. bit (cap_perms c) q && not (among q (lost_through by c))) p t.1) ∙ stays) in
+            let parts = and_parts (bit (cap_perms c) p) (not (is_among p (lost_through by c))) (sym (bit_where (λ q. bit (cap_perms c) q && not (is_among q (lost_through by c))) p t.1) ∙ stays) in
             absurd (let other : not true ≡ true = subst (λ x. not x ≡ true) lost parts.1 in cc)
       ]
   | inr off ↦ off
 ]
 
 module _ (by c : Cap) where
-  loses_store : is_unsealed c ≡ true → has by load_mutable ≡ false → among store_data (lost_through by c) ≡ true
+  loses_store : is_unsealed c ≡ true → has by load_mutable ≡ false → is_among store_data (lost_through by c) ≡ true
   loses_store open_one off = rw (open_one, off) refl
 
-  loses_mutable : is_unsealed c ≡ true → has by load_mutable ≡ false → among load_mutable (lost_through by c) ≡ true
+  loses_mutable : is_unsealed c ≡ true → has by load_mutable ≡ false → is_among load_mutable (lost_through by c) ≡ true
   loses_mutable open_one off = rw (open_one, off) refl
 
-  loses_global : has by load_global ≡ false → among global (lost_through by c) ≡ true
+  loses_global : has by load_global ≡ false → is_among global (lost_through by c) ≡ true
   loses_global off = elim (bool_tells (is_unsealed c)) [
     | inl open_one ↦ elim (bool_tells (has by load_mutable)) [ inl on ↦ rw (open_one, on, off) refl | inr lacks ↦ rw (open_one, lacks, off) refl ]
     | inr sealed ↦ rw (sealed, off) refl
   ]
 
-  loses_capture : is_unsealed c ≡ true → has by load_global ≡ false → among load_global (lost_through by c) ≡ true
+  loses_capture : is_unsealed c ≡ true → has by load_global ≡ false → is_among load_global (lost_through by c) ≡ true
   loses_capture open_one off = elim (bool_tells (has by load_mutable)) [ inl on ↦ rw (open_one, on, off) refl | inr lacks ↦ rw (open_one, lacks, off) refl ]
 
   unsealed_test : cap_seal c ≡ 0 → is_unsealed c ≡ true

@@ -31,7 +31,7 @@ use Rattle.def_step.specs.declared.TheConstants.{TRAP_RECORD}
 use Rattle.def_step.specs.Handlers.{record_end, record_words, words_written, handled, handler_entered}
 use Rattle.def_step.specs.Instructions.{Effect, put_done}
 use Rattle.def_step.specs.Quotas.{let_go}
-use Rattle.def_step.specs.Routines.{answered, answers, wakes}
+use Rattle.def_step.specs.Routines.{answered, answers, threads_woken}
 use Rattle.law_moves.proofs.Frees.{freed_cap}
 use Rattle.law_routines.proofs.Leaving.{stopped}
 use Rattle.law_moves.proofs.Slices.{granule_at_slice, register_at_slice, thread_sliced}
@@ -268,7 +268,7 @@ module _ (i : Image) (S R K : Cap → Type 0) (L : Cap → Posture → Type 0) (
   status_thread (y ∷ ys) (z ∷ zs) zero h = record { pcc = h.pcc; registers = h.registers; frames = h.frames }
   status_thread (y ∷ ys) (z ∷ zs) (suc t) h = status_thread ys zs t h
 
-  pub wakes_has : (s : State) (t address most : ℕ) → Everywhere S s → K (register (thread s t) 1) → Everywhere C (wakes s t address most)
+  pub wakes_has : (s : State) (t address most : ℕ) → Everywhere S s → K (register (thread s t) 1) → Everywhere C (threads_woken s t address most)
   wakes_has s t address most h back =
       let told = answers_led s t (integer (woken_count address most (statuses_of s.threads))) h back (x.widens.none (integer (woken_count address most (statuses_of s.threads))) refl) in
       record {

@@ -19,7 +19,7 @@ use Rattle.def_step.specs.declared.Event.TheVariants.{Step, Tick, Sweep, Input}
 use Rattle.def_step.specs.Events.{noted, with_deed, stepped}
 use Rattle.def_step.specs.Instructions.{executed}
 use Rattle.def_machine.specs.Platform.{Platform}
-use Rattle.def_safety.specs.Clean.{Answers, CleanEntry, CleanReturn, minus_one}
+use Rattle.def_safety.specs.Clean.{AnswersNumber, CleanEntry, CleanReturn, minus_one}
 use Rattle.law_events.proofs.Cleans.{enters_clean, unwind_clean, switched_thread}
 use Rattle.law_events.proofs.Events.{ready_keeps}
 use Rattle.def_safety.specs.Each.{ready}
@@ -114,14 +114,14 @@ step_trap P b s d cause code register act told counted h = step_case (λ (r : St
         counted (executed b (ready b s) t).0 (with_deed (executed b (ready b s) t).0.counts (executed b (ready b s) t).1) (subst (λ (z : State). P z) (sym by) here)
 
 step_unwinds : (b : Platform) (s : State) (d : Deed) (cause code register : ℕ) (f g : Frame) (gs : List Frame) → d.act ≡ acts.Trap cause code register → (thread (ready b s) d.thread).frames ≡ f ∷ g ∷ gs → enters_handler b (ready b s) d.thread f ≡ false → (stepped b s).1 ≡ Some d
-    → CleanReturn b.image (ready b s) d.thread f (g ∷ gs) (stepped b s).0 × Answers (stepped b s).0 d.thread minus_one
+    → CleanReturn b.image (ready b s) d.thread f (g ∷ gs) (stepped b s).0 × AnswersNumber (stepped b s).0 d.thread minus_one
 step_unwinds b s d cause code register f g gs act frames not told = step_trap Unwinds b s d cause code register act told (λ z c h. (counted_return b.image (ready b s) d.thread f (g ∷ gs) z c h.0, h.1))
     (subst (λ (fs : List Frame). Unwinds (trap_taken b.image (ready b s) d.thread (record { cause = cause; code = code; register = register }) fs)) (sym frames)
     (subst Unwinds (sym (unwound_case b.image (ready b s) d.thread (record { cause = cause; code = code; register = register }) f (g ∷ gs) not))
     (unwind_clean b.image (ready b s) d.thread f g gs frames)))
   where
     Unwinds : State → Type 0
-    Unwinds z = CleanReturn b.image (ready b s) d.thread f (g ∷ gs) z × Answers z d.thread minus_one
+    Unwinds z = CleanReturn b.image (ready b s) d.thread f (g ∷ gs) z × AnswersNumber z d.thread minus_one
 
 step_handles : (b : Platform) (s : State) (d : Deed) (cause code register : ℕ) (f : Frame) (fs : List Frame) → Partitioned b.image → Facts b.image → Keeps b.image s → d.act ≡ acts.Trap cause code register → (thread (ready b s) d.thread).frames ≡ f ∷ fs → enters_handler b (ready b s) d.thread f ≡ true → (stepped b s).1 ≡ Some d
     → HandlerBegins b.image (ready b s) d.thread (record { cause = cause; code = code; register = register }) f fs (stepped b s).0

@@ -29,7 +29,7 @@ use Rattle.def_step.specs.Events.{picked_as, picked_from, preempted_from, preemp
 use Rattle.def_step.specs.Instructions.{executed}
 use Rattle.def_step.specs.Quotas.{let_go, quota_in}
 use Rattle.def_step.specs.Routines.{answers}
-use Rattle.def_step.specs.Tokens.{key_of, opened_token, sealed_token, token_of, with_row}
+use Rattle.def_step.specs.Tokens.{key_of, opened_token, sealed_token, token_object, with_row}
 use Rattle.def_safety.specs.Each.{ready}
 use Rattle.def_safety.specs.Everywhere.{FrameHas, Everywhere}
 use Rattle.def_safety.specs.Opening.{FindsSealed, MayOpen}
@@ -86,7 +86,7 @@ record Found (b : Platform) (P : Cap → Type 0) (s : State) (t : ℕ) (d : Cap)
   pub key : Object
   pub token : Object
   pub key_found : key_of s (register (thread s t) 10) ≡ Some key
-  pub token_found : token_of s key.number (register (thread s t) 11) ≡ Some token
+  pub token_found : token_object s key.number (register (thread s t) 11) ≡ Some token
   pub was : P (register (thread s t) 11)
   pub answer : d ≡ opened_token (register (thread s t) 11)
 

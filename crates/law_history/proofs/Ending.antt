@@ -21,7 +21,7 @@ use Rattle.law_routines.proofs.Leaving.{Moves}
 use Rattle.law_routines.proofs.Stepping.{Steps, IfDone, carried, executed_left}
 use Rattle.def_step.specs.Handlers.{handled, handler_entered}
 use Rattle.def_safety.specs.Calls.{HandsPlain}
-use Rattle.def_safety.specs.Clean.{Answers, AnswersPlainly, CleanReturn, HandsBack, LetsThrough, plainly, whole}
+use Rattle.def_safety.specs.Clean.{AnswersNumber, AnswersPlainly, CleanReturn, HandsBack, LetsThrough, plainly, whole}
 use Rattle.law_events.proofs.Cleans.{back_clean, value_clean}
 
 -- the thread has at least so many frames
@@ -76,7 +76,7 @@ deep_ends b s t z deep f g gs ended =
     absurd (omega (arith, deep, before, after))
 
 -- an integer and 0 are untagged
-answered : (b : Platform) (s : State) (t value : ℕ) (f g : Frame) (gs : List Frame) (z : State) → CleanReturn b.image s t f (g ∷ gs) z × Answers z t value → Left b s t f (g ∷ gs) z
+answered : (b : Platform) (s : State) (t value : ℕ) (f g : Frame) (gs : List Frame) (z : State) → CleanReturn b.image s t f (g ∷ gs) z × AnswersNumber z t value → Left b s t f (g ∷ gs) z
 answered b s t value f g gs z h = (h.0, λ plain_one. (ap (λ (c : Cap). c.tag) h.1.0, ap (λ (c : Cap). c.tag) h.1.1))
 
 -- what an export lets through that passes plain values is untagged

@@ -41,7 +41,7 @@ use Rattle.def_step.specs.Operands.{operands_of, class_of}
 use Rattle.def_step.specs.Quotas.{Made, allocation, is_quota_cap, quota_in, whole_of, let_go}
 use Rattle.def_step.specs.Routines.{answers}
 use Rattle.def_step.specs.Switch.{switch_checks, called, room_exponent, room_of, frame_top}
-use Rattle.def_step.specs.Tokens.{with_row, sealed_token, opened_token, key_of, token_of}
+use Rattle.def_step.specs.Tokens.{with_row, sealed_token, opened_token, key_of, token_object}
 use Rattle.def_safety.specs.Comes.{IsLoadedFrom}
 use Rattle.def_safety.specs.Everywhere.{FrameHas, ThreadHas, Everywhere}
 use Rattle.def_safety.specs.Gives.{IsGivenOwn, code, back, globals, TellsCall, Gives, to_callee, stack, to_handler}
@@ -72,9 +72,9 @@ pub record Regular (C : Cap → Type 0) (s z : State) : Type 0 where
 pub record Specials (Q : State → Type 0) (b : Platform) (s : State) (t : ℕ) : Type 0 where
   pub hands : is_quota_cap (register (thread s t) 10) ≡ true → (size : ℕ) (r : Object) → allocation b.image s (quota_in s t) size ≡ Made r → Q (answers (with_object s r) t (object_cap r))
   pub frees : (r : Object) → whole_of s.objects (quota_in s t) (register (thread s t) 11) ≡ Some r → Q (answers (let_go b.image s t r) t (integer 0))
-  pub gives : (key : ℕ) (r : Object) → token_of s key (register (thread s t) 12) ≡ Some r → Q (answers (let_go b.image s t r) t (integer 0))
+  pub gives : (key : ℕ) (r : Object) → token_object s key (register (thread s t) 12) ≡ Some r → Q (answers (let_go b.image s t r) t (integer 0))
   pub seals : is_quota_cap (register (thread s t) 10) ≡ true → (size : ℕ) (key : Option ℕ) (r : Object) → allocation b.image s (quota_in s t) size ≡ Made r → IsKeyOf s key → Q (answers (with_object (with_row s r key) r) t (sealed_token r))
-  pub opens : (s.running ≡ Some t → MayOpen b s t) → (k r : Object) → key_of s (register (thread s t) 10) ≡ Some k → token_of s k.number (register (thread s t) 11) ≡ Some r → Q (answers s t (opened_token (register (thread s t) 11)))
+  pub opens : (s.running ≡ Some t → MayOpen b s t) → (k r : Object) → key_of s (register (thread s t) 10) ≡ Some k → token_object s k.number (register (thread s t) 11) ≡ Some r → Q (answers s t (opened_token (register (thread s t) 11)))
 
 -- ---- what an instruction does
 

@@ -40,7 +40,7 @@ use Rattle.def_step.specs.Jumps.{Flowed}
 use Rattle.def_step.specs.Operands.{class_of, operands_of}
 use Rattle.def_step.specs.Switch.{called, frame_top, switch_checks}
 use Rattle.def_step.specs.Quotas.{Made, allocation, let_go, quota_in}
-use Rattle.def_step.specs.Routines.{answered, answers, wakes}
+use Rattle.def_step.specs.Routines.{answered, answers, threads_woken}
 use Rattle.def_step.specs.Tokens.{opened_token, sealed_token, with_row}
 use Rattle.def_safety.specs.Comes.{IsNew, Stood, given, result}
 use Rattle.def_safety.specs.Clean.{callee_of, high_of}
@@ -259,7 +259,7 @@ module _ (b : Platform) (s : State) (t : ℕ) (runs : s.running ≡ Some t) (par
       tells = λ n. regular (answers s t (integer n)) None (told_own None n);
       enters = λ none. regular (entering b.image s t (called b.image.entries (thread s t)) (high_of b.image s t)) (call_of b s t) (entered_own none);
       stops = λ status. regular (stopped s t status) None (with_thread_own None status);
-      wakes = λ address most. regular (wakes s t address most) None
+      wakes = λ address most. regular (threads_woken s t address most) None
           (status_thread b.image Held Hand Lead Link (Ends None) (ends None) (answers s t (integer (woken_count address most (statuses_of s.threads)))).threads (woken address most (statuses_of s.threads)) t (told_own None (woken_count address most (statuses_of s.threads))));
       hands = λ quota size r is o. answers_own (option_map (deed_told s t) o) (answers (with_object s r) t (object_cap r)) (object_cap r) (object r (new_object (answers (with_object s r) t (object_cap r)) size r is refl) refl);
       frees = λ r is o. regular (answers (let_go b.image s t r) t (integer 0)) (option_map (deed_told s t) o) (gone_own r (option_map (deed_told s t) o));

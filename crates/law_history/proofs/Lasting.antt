@@ -17,7 +17,7 @@ use Rattle.def_step.specs.Events.{preempted, scheduled, continued, one_more_step
 use Rattle.def_step.specs.Instructions.{executed}
 use Rattle.def_step.specs.Quotas.{let_go}
 use Rattle.def_step.specs.Routines.{answers}
-use Rattle.def_step.specs.Tokens.{key_of, opened_token, sealed_token, token_of, with_row}
+use Rattle.def_step.specs.Tokens.{key_of, opened_token, sealed_token, token_object, with_row}
 use Rattle.def_safety.specs.Everywhere.{Everywhere}
 use Rattle.def_safety.specs.Each.{ready}
 use Rattle.def_safety.specs.Opening.{MayOpen, OpensObject, StaysShut}
@@ -44,7 +44,7 @@ pub record Opens (b : Platform) (s : State) (t n : ℕ) : Type 0 where
   pub key : Object
   pub token : Object
   pub key_found : key_of s (register (thread s t) 10) ≡ Some key
-  pub token_found : token_of s key.number (register (thread s t) 11) ≡ Some token
+  pub token_found : token_object s key.number (register (thread s t) 11) ≡ Some token
   pub number : token.number ≡ n
 
 module _ (b : Platform) (s : State) (t : ℕ) (g : Standing b s t) (n : ℕ) (below : n < s.next) (h : Everywhere (ShutTo b.image n) s) where
@@ -64,7 +64,7 @@ module _ (b : Platform) (s : State) (t : ℕ) (g : Standing b s t) (n : ℕ) (be
       (let_go_has (ShutTo b.image n) (ShutTo b.image n) (shut_passes b.image n).widens b.image s t r h)
       (λ tagged. absurd (let clash : false ≡ true = tagged in cc)))
 
-  opened_stays : MayOpen b s t → (k r : Object) → key_of s (register (thread s t) 10) ≡ Some k → token_of s k.number (register (thread s t) 11) ≡ Some r → Stays (answers s t (opened_token (register (thread s t) 11)))
+  opened_stays : MayOpen b s t → (k r : Object) → key_of s (register (thread s t) 10) ≡ Some k → token_object s k.number (register (thread s t) 11) ≡ Some r → Stays (answers s t (opened_token (register (thread s t) 11)))
   opened_stays may k r key token = elim (eq_tells r.number n) [
     | inl same ↦ inl (record { may = may; key = k; token = r; key_found = key; token_found = token; number = same.1 })
     | inr other ↦ inr (answers_has b.image (ShutTo b.image n) (ShutTo b.image n) (shut_passes b.image n) s t (opened_token (register (thread s t) 11)) h

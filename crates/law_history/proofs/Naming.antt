@@ -14,7 +14,7 @@ use Rattle.def_confined.specs.Capabilities.{Rooted, heap_cap}
 use Rattle.def_confined.specs.Confined.{ObjectFits}
 use Rattle.def_step.specs.Instructions.{executed}
 use Rattle.def_step.specs.Quotas.{is_whole, whole_of, without_row, quota_in}
-use Rattle.def_step.specs.Tokens.{row_among, token_of}
+use Rattle.def_step.specs.Tokens.{row_among, token_object}
 use Rattle.def_safety.specs.Everywhere.{FrameHas, Everywhere}
 use Rattle.def_safety.specs.Tokened.{IsKeyRow, IsTokenRow, KeysNamed}
 use Rattle.law_moves.proofs.Quarantines.{quarantine_each}
@@ -147,7 +147,7 @@ module _ (b : Platform) (s : State) (t : ℕ) (g : Standing b s t) (some : Each 
       let unsealed = w.unsealed in
       omega (arith, sealed, unsealed)
 
-  pub given_no_key : (key : ℕ) (r : Object) → token_of s key (register (thread s t) 12) ≡ Some r → Any (IsKeyRow r.number) s.tokens → ⊥
+  pub given_no_key : (key : ℕ) (r : Object) → token_object s key (register (thread s t) 12) ≡ Some r → Any (IsKeyRow r.number) s.tokens → ⊥
   given_no_key key r is there = key_or_token key r.number s.tokens g.rows.differ there (row_there key r.number s.tokens (token_says s key (register (thread s t) 12) r is).row)
 
   pub executed_named : AllShut b.image s → Named s.objects s.tokens → Named (executed b s t).0.objects (executed b s t).0.tokens

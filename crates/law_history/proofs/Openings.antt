@@ -27,7 +27,7 @@ use Rattle.def_step.specs.declared.Event.TheVariants.{Step}
 use Rattle.def_step.specs.Events.{continued, happens, noted, with_deed}
 use Rattle.def_step.specs.Instructions.{executed, ran}
 use Rattle.def_step.specs.Routines.{answered, answers, code}
-use Rattle.def_step.specs.Tokens.{is_all_of, is_key_row, is_row_of, as_key, as_token, key_of, opened_token, sealed_object, token_of, token_open}
+use Rattle.def_step.specs.Tokens.{is_all_of, is_key_row, is_row_of, as_key, as_token, key_of, opened_token, sealed_object, token_object, token_open}
 use Rattle.def_safety.specs.Opening.{FindsSealed, HoldsBoth, IsKeyIn, IsSealedOf, IsTokenIn, IsUnsealedOf, MayOpen, OpensTokens}
 use Rattle.def_safety.specs.Tokened.{IsWhole, TokenFits, Tokened}
 use Rattle.law_events.proofs.Events.{ready_keeps}
@@ -104,7 +104,7 @@ key_found s c r apart some x = ap (as_key s.tokens) (sealed_found s c r apart so
     (λ is. refl)
     (λ not. absurd (let clash : false ≡ true = sym not ∙ there_key r.number s.tokens x.row in cc))
 
-token_is_found : (s : State) (key : ℕ) (c : Cap) (r : Object) → AllApart s.objects → Each IsFilled s.objects → IsTokenIn s key c r → token_of s key c ≡ Some r
+token_is_found : (s : State) (key : ℕ) (c : Cap) (r : Object) → AllApart s.objects → Each IsFilled s.objects → IsTokenIn s key c r → token_object s key c ≡ Some r
 token_is_found s key c r apart some x = ap (as_token s.tokens key) (sealed_found s c r apart some x.sealed)
     ∙ chosen (λ (o : Option Object). o ≡ Some r) (list_any (is_row_of key r.number) s.tokens) (Some r) None
     (λ is. refl)
@@ -119,7 +119,7 @@ module _ (i : Image) (s : State) (held : Confined i s) (h : Tokened i s) where
         row = key_there k.number s.tokens says.1;
       }
 
-  token_in : (t n key : ℕ) (r : Object) → token_of s key (register (thread s t) n) ≡ Some r → IsTokenIn s key (register (thread s t) n) r
+  token_in : (t n key : ℕ) (r : Object) → token_object s key (register (thread s t) n) ≡ Some r → IsTokenIn s key (register (thread s t) n) r
   token_in t n key r e =
       let says = token_says s key (register (thread s t) n) r e in
       record {
@@ -152,7 +152,7 @@ runs_routine : (b : Platform) (s : State) (t : ℕ) → MayOpen b s t → execut
 unfolding executed
 runs_routine b s t m = let fetched = m.routine.fetched in let routine = m.routine.routine in rw (fetched, routine) refl
 
-pub leaves_opened : (b : Platform) (s : State) (t : ℕ) (k r : Object) → MayOpen b s t → key_of s (register (thread s t) 10) ≡ Some k → token_of s k.number (register (thread s t) 11) ≡ Some r → executed b s t ≡ (answers s t (opened_token (register (thread s t) 11)), None)
+pub leaves_opened : (b : Platform) (s : State) (t : ℕ) (k r : Object) → MayOpen b s t → key_of s (register (thread s t) 10) ≡ Some k → token_object s k.number (register (thread s t) 11) ≡ Some r → executed b s t ≡ (answers s t (opened_token (register (thread s t) 11)), None)
 leaves_opened b s t k r m key token = runs_routine b s t m ∙ here
   where
     here : ran b s t (token_open s t) ≡ (answers s t (opened_token (register (thread s t) 11)), None)
@@ -164,7 +164,7 @@ leaves_no_key b s t m key = runs_routine b s t m ∙ here
     here : ran b s t (token_open s t) ≡ (answers s t (code 7), None)
     here = rw (m.returns, key) refl
 
-leaves_no_token : (b : Platform) (s : State) (t : ℕ) (k : Object) → MayOpen b s t → key_of s (register (thread s t) 10) ≡ Some k → token_of s k.number (register (thread s t) 11) ≡ None → executed b s t ≡ (answers s t (code 8), None)
+leaves_no_token : (b : Platform) (s : State) (t : ℕ) (k : Object) → MayOpen b s t → key_of s (register (thread s t) 10) ≡ Some k → token_object s k.number (register (thread s t) 11) ≡ None → executed b s t ≡ (answers s t (code 8), None)
 leaves_no_token b s t k m key token = runs_routine b s t m ∙ here
   where
     here : ran b s t (token_open s t) ≡ (answers s t (code 8), None)
@@ -211,7 +211,7 @@ opens_tokens b s parts k tokened t m =
         | inl is ↦ step_tells_none b s t _ m.routine.runs (leaves_no_key b (ready b s) t m is)
         | inr some ↦ absurd (none some.0 ((finds.keys t 10 some.0).0 some.1))
       ];
-      no_token = λ key is none. elim (option_tells (token_of (ready b s) key.number (register (thread (ready b s) t) 11))) [
+      no_token = λ key is none. elim (option_tells (token_object (ready b s) key.number (register (thread (ready b s) t) 11))) [
         | inl absent ↦ step_tells_none b s t _ m.routine.runs (leaves_no_token b (ready b s) t key m ((finds.keys t 10 key).1 is) absent)
         | inr some ↦ absurd (none some.0 ((finds.tokens t 11 key.number some.0).0 some.1))
       ];
@@ -225,7 +225,7 @@ opens_tokens b s parts k tokened t m =
     only_both : FindsSealed (ready b s) → (register (thread (happens b s Step).0 t) 10).tag ≡ true → (key : Object) × ((token : Object) × HoldsBoth (ready b s) t key token)
     only_both finds tagged = elim (option_tells (key_of (ready b s) (register (thread (ready b s) t) 10))) [
       | inl none ↦ absurd (refused 7 (leaves_no_key b (ready b s) t m none) tagged)
-      | inr key ↦ elim (option_tells (token_of (ready b s) key.0.number (register (thread (ready b s) t) 11))) [
+      | inr key ↦ elim (option_tells (token_object (ready b s) key.0.number (register (thread (ready b s) t) 11))) [
         | inl none ↦ absurd (refused 8 (leaves_no_token b (ready b s) t key.0 m key.1 none) tagged)
         | inr token ↦ (key.0, (token.0, record { key_is = (finds.keys t 10 key.0).0 key.1; token_is = (finds.tokens t 11 key.0.number token.0).0 token.1 }))
       ]

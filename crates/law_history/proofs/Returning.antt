@@ -11,7 +11,7 @@ use Rattle.def_profile.specs.declared.answers.TheConstants.{UNWOUND}
 use Rattle.def_step.specs.Events.{continued, noted, stepped, with_deed}
 use Rattle.def_step.specs.Handlers.{handler_value, return_taken}
 use Rattle.def_step.specs.Instructions.{after_fetch, executed, goes_on}
-use Rattle.def_safety.specs.Clean.{Answers, AnswersHandled, CleanReturn, HandsBack}
+use Rattle.def_safety.specs.Clean.{AnswersNumber, AnswersHandled, CleanReturn, HandsBack}
 use Rattle.def_safety.specs.Each.{ready}
 use Rattle.def_safety.specs.Routine.{RunsReturn}
 use Rattle.law_events.proofs.Cleans.{back_clean, value_clean}
@@ -56,15 +56,15 @@ step_hands b s t f g gs r frames not = step_returns (λ x. CleanReturn b.image (
     (λ other. back_clean b.image (ready b s) t f g gs frames))
 
 -- what a handler answers, said by its c10
-handled_answers : (s z : State) (t : ℕ) → Answers z t (handler_value (thread s t)) → AnswersHandled s t z
+handled_answers : (s z : State) (t : ℕ) → AnswersNumber z t (handler_value (thread s t)) → AnswersHandled s t z
 handled_answers s z t h = elim (eq_tells (cap_address (register (thread s t) 10)) 1) [
   | inl one ↦ (
-    (λ is. subst (λ (x : Bool). Answers z t (cond x (cap_address (register (thread s t) 11)) UNWOUND)) one.0 h),
+    (λ is. subst (λ (x : Bool). AnswersNumber z t (cond x (cap_address (register (thread s t) 11)) UNWOUND)) one.0 h),
     (λ other. absurd (other one.1)),
   )
   | inr other ↦ (
     (λ is. absurd (other.1 is)),
-    (λ not. subst (λ (x : Bool). Answers z t (cond x (cap_address (register (thread s t) 11)) UNWOUND)) other.0 h),
+    (λ not. subst (λ (x : Bool). AnswersNumber z t (cond x (cap_address (register (thread s t) 11)) UNWOUND)) other.0 h),
   )
 ]
 

@@ -34,9 +34,9 @@ use Rattle.def_step.specs.Instructions.{Effect, space_of, put_done, deed, deed_t
 use Rattle.def_step.specs.Native.{native}
 use Rattle.def_step.specs.Operands.{operands_of}
 use Rattle.def_step.specs.Quotas.{Allocation, Refused, Made, allocation, is_quota_cap, quota_in, by_quota, allocated, allocate, freed_as, free, whole_of, let_go, gives_back}
-use Rattle.def_step.specs.Routines.{Ran, Traps, Leaves, answers, tells, code, checked, switched_to, switch, wakes}
+use Rattle.def_step.specs.Routines.{Ran, Traps, Leaves, answers, tells, code, checked, switched_to, switch, threads_woken}
 use Rattle.def_step.specs.Switch.{Switched, TooDeep, NoStack, Enters, return_checks, switch_checks, called, with_room, past_checks, frame_top}
-use Rattle.def_step.specs.Tokens.{with_row, sealed_token, opened_token, key_of, token_of, made_token, by_key, opens, frees_token, token_key, token_new, token_open, token_free}
+use Rattle.def_step.specs.Tokens.{with_row, sealed_token, opened_token, key_of, token_object, made_token, by_key, opens, frees_token, token_key, token_new, token_open, token_free}
 use Rattle.def_events.specs.Leaving.{Left, IfRan}
 use Rattle.law_routines.proofs.Cases.{by_next}
 use Rattle.law_history.proofs.Numbered.{by_number}
@@ -51,12 +51,12 @@ pub record Deals (At : Type 0) (Q : State → Option (ℕ × Act) → Type 0) (i
   pub tells : (n : ℕ) → Q (answers s t (integer n)) None
   pub enters : first_failed (switch_checks (stack_base i t) (frame_top (thread s t).frames) (thread s t)) ≡ None → Q (entering i s t (called i.entries (thread s t)) (high_of i s t)) (Some (call_told s t (called i.entries (thread s t))))
   pub stops : (status : Status) → Q (stopped s t status) None
-  pub wakes : (address most : ℕ) → Q (wakes s t address most) None
+  pub wakes : (address most : ℕ) → Q (threads_woken s t address most) None
   pub hands : is_quota_cap (register (thread s t) 10) ≡ true → (size : ℕ) (r : Object) → allocation i s (quota_in s t) size ≡ Made r → (o : Option (ℕ × Act)) → Q (answers (with_object s r) t (object_cap r)) o
   pub frees : (r : Object) → whole_of s.objects (quota_in s t) (register (thread s t) 11) ≡ Some r → (o : Option (ℕ × Act)) → Q (answers (let_go i s t r) t (integer 0)) o
-  pub gives : (key : ℕ) (r : Object) → token_of s key (register (thread s t) 12) ≡ Some r → (o : Option (ℕ × Act)) → Q (answers (let_go i s t r) t (integer 0)) o
+  pub gives : (key : ℕ) (r : Object) → token_object s key (register (thread s t) 12) ≡ Some r → (o : Option (ℕ × Act)) → Q (answers (let_go i s t r) t (integer 0)) o
   pub seals : is_quota_cap (register (thread s t) 10) ≡ true → (size : ℕ) (key : Option ℕ) (r : Object) → allocation i s (quota_in s t) size ≡ Made r → IsKeyOf s key → (o : Option (ℕ × Act)) → Q (answers (with_object (with_row s r key) r) t (sealed_token r)) o
-  pub opens : At → first_failed (return_checks (register (thread s t) 1)) ≡ None → (k r : Object) → key_of s (register (thread s t) 10) ≡ Some k → token_of s k.number (register (thread s t) 11) ≡ Some r → Q (answers s t (opened_token (register (thread s t) 11))) None
+  pub opens : At → first_failed (return_checks (register (thread s t) 1)) ≡ None → (k r : Object) → key_of s (register (thread s t) 10) ≡ Some k → token_object s k.number (register (thread s t) 11) ≡ Some r → Q (answers s t (opened_token (register (thread s t) 11))) None
 
 -- what comes after checks that passed
 passed_left : (Q : State → Option (ℕ × Act) → Type 0) (cs : List Check) (r : Ran) → (first_failed cs ≡ None → Left Q r) → Left Q (checked cs r)
@@ -113,17 +113,17 @@ module _ (At : Type 0) (Q : State → Option (ℕ × Act) → Type 0) (i : Image
 
   opened_left : At → Left Q (token_open s t)
   opened_left at = passed_left Q (return_checks (register (thread s t) 1)) _ (λ returns. keyed_left (key_of s (register (thread s t) 10)) _
-      (λ k is. by_found returns k is (token_of s k.number (register (thread s t) 11)) refl))
+      (λ k is. by_found returns k is (token_object s k.number (register (thread s t) 11)) refl))
     where
-      by_found : first_failed (return_checks (register (thread s t) 1)) ≡ None → (k : Object) → key_of s (register (thread s t) 10) ≡ Some k → (o : Option Object) → token_of s k.number (register (thread s t) 11) ≡ o → Left Q (opens s t (register (thread s t) 11) o)
+      by_found : first_failed (return_checks (register (thread s t) 1)) ≡ None → (k : Object) → key_of s (register (thread s t) 10) ≡ Some k → (o : Option Object) → token_object s k.number (register (thread s t) 11) ≡ o → Left Q (opens s t (register (thread s t) 11) o)
       by_found returns k key None is = d.tells (4294967296 - 8)
       by_found returns k key (Some r) is = d.opens at returns k r key is
 
   given_left : Left Q (token_free i s t)
   given_left = charged_left _ (λ quota. keyed_left (key_of s (register (thread s t) 11)) _
-      (λ k is. by_found k.number (token_of s k.number (register (thread s t) 12)) refl))
+      (λ k is. by_found k.number (token_object s k.number (register (thread s t) 12)) refl))
     where
-      by_found : (key : ℕ) (o : Option Object) → token_of s key (register (thread s t) 12) ≡ o → Left Q (frees_token i s t (quota_in s t) o)
+      by_found : (key : ℕ) (o : Option Object) → token_object s key (register (thread s t) 12) ≡ o → Left Q (frees_token i s t (quota_in s t) o)
       by_found key None is = d.tells (4294967296 - 8)
       by_found key (Some r) is = chosen (Left Q) (r.quota == quota_in s t) (gives_back i s t r) (tells s t (code 6))
           (λ same. d.gives key r is _)

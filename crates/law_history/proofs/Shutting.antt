@@ -18,7 +18,7 @@ use Rattle.def_confined.specs.Facts.{Facts}
 use Rattle.def_step.specs.Instructions.{executed}
 use Rattle.def_step.specs.Quotas.{let_go, without_row}
 use Rattle.def_step.specs.Routines.{answers}
-use Rattle.def_step.specs.Tokens.{row_among, with_row, sealed_token, opened_token, token_of}
+use Rattle.def_step.specs.Tokens.{row_among, with_row, sealed_token, opened_token, token_object}
 use Rattle.def_safety.specs.Everywhere.{Everywhere}
 use Rattle.def_safety.specs.Tokened.{IsKeyRow, KeysShut}
 use Rattle.law_history.proofs.Changes.{answers_has, let_go_has}
@@ -104,7 +104,7 @@ module _ (b : Platform) (s : State) (t : ℕ) (g : Standing b s t) where
       (λ n key tagged. absurd (let clash : false ≡ true = tagged in cc))
 
   -- what token_open opens is of the object that it found
-  pub opened_object : (n key : ℕ) (r : Object) → token_of s key (register (thread s t) 11) ≡ Some r → heap_cap b.image (opened_token (register (thread s t) 11)) ≡ true → cap_base (opened_token (register (thread s t) 11)) < cap_top (opened_token (register (thread s t) 11))
+  pub opened_object : (n key : ℕ) (r : Object) → token_object s key (register (thread s t) 11) ≡ Some r → heap_cap b.image (opened_token (register (thread s t) 11)) ≡ true → cap_base (opened_token (register (thread s t) 11)) < cap_top (opened_token (register (thread s t) 11))
       → (opened_token (register (thread s t) 11)).shadow.source ≡ n → r.number ≡ n
   opened_object n key r is heap some source =
       let token = token_says s key (register (thread s t) 11) r is in
@@ -115,7 +115,7 @@ module _ (b : Platform) (s : State) (t : ℕ) (g : Standing b s t) where
       let live = g.held.live t g.runs 11 token.sealed.tagged (same_heap b.image (register (thread s t) 11) (opened_token (register (thread s t) 11)) o.shadows heap) filled in
       object_is (register (thread s t) 11) r s.objects filled token.sealed.low token.sealed.high live token.sealed.there g.held.apart ∙ sym (ap (λ (z : Shadow). z.source) o.shadows) ∙ source
 
-  opened_shut : (key : ℕ) (r : Object) → token_of s key (register (thread s t) 11) ≡ Some r → AllShut b.image s → AllShut b.image (answers s t (opened_token (register (thread s t) 11)))
+  opened_shut : (key : ℕ) (r : Object) → token_object s key (register (thread s t) 11) ≡ Some r → AllShut b.image s → AllShut b.image (answers s t (opened_token (register (thread s t) 11)))
   opened_shut key r is h = answers_has b.image (KeysShut b.image s.tokens) (KeysShut b.image s.tokens) (keys_pass b.image s.tokens) s t (opened_token (register (thread s t) 11)) h
       (λ n there tagged heap some source.
       let same : r.number ≡ n = opened_object n key r is heap some source in

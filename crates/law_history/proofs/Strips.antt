@@ -6,7 +6,7 @@ use Rattle.def_words.specs.declared.Posture.{Posture}
 use Rattle.def_words.specs.declared.Trap.{Trap}
 use Rattle.def_words.specs.Authority.{cap_address, cap_bounds, cap_base}
 use Rattle.def_words.specs.Capability.{nowhere, with_address, with_bounds, with_exact_bounds, masked, sealed_by, unsealed_by, is_subset, raised, integer, untagged}
-use Rattle.def_words.specs.Jumped.{opened, linked}
+use Rattle.def_words.specs.Jumped.{opened, return_link}
 use Rattle.def_words.specs.Loaded.{attenuated, stored_through}
 use Rattle.def_words.specs.Permissions.{cap_perms, has, global, store_local}
 use Rattle.def_words.specs.Seals.{cap_seal, posture_through}
@@ -29,7 +29,7 @@ use Rattle.def_step.specs.declared.Next.TheVariants.{Returning}
 use Rattle.def_instr.specs.Reading.{instruction_in}
 use Rattle.def_instr.specs.Results.{integer_result}
 use Rattle.def_profile.specs.declared.native.TheConstants.{RETURN_ENTRY}
-use Rattle.def_step.specs.Jumps.{Flowed, flow_result, jumped_to, passed_over, branched, is_taken, target_at, target_checks, register_jumped, register_jump_checks, register_target}
+use Rattle.def_step.specs.Jumps.{Flowed, flow_result, jumped_to, passed_over, branched, is_taken, jump_target, target_checks, register_jumped, register_jump_checks, register_target}
 
 -- ---- without shadows
 
@@ -219,7 +219,7 @@ access_bare i x y p =
 
 -- ---- jumps
 
-linked_bare : (pcc : Cap) (q : Posture) → stripped (linked pcc q) ≡ stripped (linked (stripped pcc) (calm q))
+linked_bare : (pcc : Cap) (q : Posture) → stripped (return_link pcc q) ≡ stripped (return_link (stripped pcc) (calm q))
 unfolding with_address cap_bounds cap_seal cap_perms
 linked_bare pcc q = refl
 
@@ -247,7 +247,7 @@ over_bare : (pcc : Cap) (q : Posture) → bare_result bare_flowed (passed_over p
 over_bare pcc q = ap (λ (c : Cap). Ok (record { link = None; pcc = c; posture = calm q })) (raised_bare pcc 4)
 
 branched_bare : (taken : Bool) (pcc : Cap) (q : Posture) (offset : ℕ) → bare_result bare_flowed (branched taken pcc q offset) ≡ bare_result bare_flowed (branched taken (stripped pcc) (calm q) offset)
-branched_bare taken pcc q offset = both (bare_result bare_flowed) taken _ _ _ _ (jumped_bare pcc q (target_at pcc offset) None None refl) (over_bare pcc q)
+branched_bare taken pcc q offset = both (bare_result bare_flowed) taken _ _ _ _ (jumped_bare pcc q (jump_target pcc offset) None None refl) (over_bare pcc q)
 
 jump_checks_bare : (to at : ℕ) (x : Cap) (n : ℕ) → register_jump_checks to at x n ≡ register_jump_checks to at (stripped x) n
 unfolding cap_seal cap_perms
@@ -260,16 +260,16 @@ seal_bare x = refl
 register_bare : (to at : ℕ) (x : Cap) (n : ℕ) (pcc : Cap) (q : Posture) (named : ℕ)
     → bare_result bare_flowed (register_jumped to at x n pcc q named) ≡ bare_result bare_flowed (register_jumped to at (stripped x) n (stripped pcc) (calm q) 0)
 register_bare to at x n pcc q named =
-    ap (λ cs. bare_result bare_flowed (unless (first_failed cs) (record { link = Some (linked pcc q); pcc = with_address (opened x) (register_target x n); posture = posture_through q (cap_seal x) named x.shadow.source }))) (jump_checks_bare to at x n)
+    ap (λ cs. bare_result bare_flowed (unless (first_failed cs) (record { link = Some (return_link pcc q); pcc = with_address (opened x) (register_target x n); posture = posture_through q (cap_seal x) named x.shadow.source }))) (jump_checks_bare to at x n)
     ∙ unless_bare bare_flowed (first_failed (register_jump_checks to at (stripped x) n)) _ _
     (ap₂ (λ (l : Cap) (c : Cap). record { link = Some l; pcc = c; posture = calm (posture_through q (cap_seal x) named x.shadow.source) }) (linked_bare pcc q) (opened_bare x (register_target x n))
-    ∙ ap (λ (r : Posture). record { link = Some (stripped (linked (stripped pcc) (calm q))); pcc = stripped (with_address (opened (stripped x)) (register_target x n)); posture = r })
+    ∙ ap (λ (r : Posture). record { link = Some (stripped (return_link (stripped pcc) (calm q))); pcc = stripped (with_address (opened (stripped x)) (register_target x n)); posture = r })
     (ap (λ k. calm (posture_through q k named x.shadow.source)) (seal_bare x) ∙ posture_bare q (calm q) (cap_seal (stripped x)) named 0 x.shadow.source 0 refl))
 
 flow_bare : (i : Instr) (x y pcc : Cap) (q : Posture) (named : ℕ)
     → bare_result bare_flowed (flow_result i x y pcc q named) ≡ bare_result bare_flowed (flow_result i (stripped x) (stripped y) (stripped pcc) (calm q) 0)
 unfolding flow_result
-flow_bare (Jal rd offset) x y pcc q named = jumped_bare pcc q (target_at pcc offset) (Some (linked pcc q)) (Some (linked (stripped pcc) (calm q))) (ap (λ (c : Cap). Some c) (linked_bare pcc q))
+flow_bare (Jal rd offset) x y pcc q named = jumped_bare pcc q (jump_target pcc offset) (Some (return_link pcc q)) (Some (return_link (stripped pcc) (calm q))) (ap (λ (c : Cap). Some c) (linked_bare pcc q))
 flow_bare (CJalr rd rs1 n) x y pcc q named = register_bare rd rs1 x n pcc q named
 flow_bare (Beq rs1 rs2 offset) x y pcc q named = branched_bare (is_taken (Beq rs1 rs2 offset) (cap_address x) (cap_address y)) pcc q offset
 flow_bare (Bne rs1 rs2 offset) x y pcc q named = branched_bare (is_taken (Bne rs1 rs2 offset) (cap_address x) (cap_address y)) pcc q offset

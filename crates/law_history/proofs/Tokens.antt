@@ -7,7 +7,7 @@ use Rattle.def_machine.specs.Image.{Image}
 use Rattle.def_machine.specs.State.{Object, State, register, thread}
 use Rattle.def_step.specs.Quotas.{Allocation, allocation, gives_back, quota_in}
 use Rattle.def_step.specs.Routines.{Ran, code, tells}
-use Rattle.def_step.specs.Tokens.{by_key, frees_token, key_of, made_token, token_free, token_key, token_new, token_of}
+use Rattle.def_step.specs.Tokens.{by_key, frees_token, key_of, made_token, token_free, token_key, token_new, token_object}
 use Rattle.def_safety.specs.Opening.{FindsSealed, IsKeyIn, IsTokenIn}
 use Rattle.def_words.specs.Authority.{cap_address}
 use Rattle.law_history.proofs.Services.{with_quota}
@@ -21,8 +21,8 @@ no_key_found s t n finds none = elim (option_tells (key_of s (register (thread s
   | inr some ↦ absurd (none some.0 ((finds.keys t n some.0).0 some.1))
 ]
 
-no_token_found : (s : State) (t n key : ℕ) → FindsSealed s → ((token : Object) → IsTokenIn s key (register (thread s t) n) token → ⊥) → token_of s key (register (thread s t) n) ≡ None
-no_token_found s t n key finds none = elim (option_tells (token_of s key (register (thread s t) n))) [
+no_token_found : (s : State) (t n key : ℕ) → FindsSealed s → ((token : Object) → IsTokenIn s key (register (thread s t) n) token → ⊥) → token_object s key (register (thread s t) n) ≡ None
+no_token_found s t n key finds none = elim (option_tells (token_object s key (register (thread s t) n))) [
   | inl is ↦ is
   | inr some ↦ absurd (none some.0 ((finds.tokens t n key some.0).0 some.1))
 ]
@@ -49,7 +49,7 @@ new_answers i s t key a may has finds is made = with_quota s t _ may has ∙ by_
 pub free_unkeyed : (i : Image) (s : State) (t : ℕ) → MayReturn s t → HasQuota s t → FindsSealed s → ((key : Object) → IsKeyIn s (register (thread s t) 11) key → ⊥) → token_free i s t ≡ tells s t (code 7)
 free_unkeyed i s t may has finds none = with_quota s t _ may has ∙ by_none s t 11 _ finds none
 
-free_keyed : (i : Image) (s : State) (t : ℕ) (key : Object) (o : Option Object) → MayReturn s t → HasQuota s t → FindsSealed s → IsKeyIn s (register (thread s t) 11) key → token_of s key.number (register (thread s t) 12) ≡ o → token_free i s t ≡ frees_token i s t (quota_in s t) o
+free_keyed : (i : Image) (s : State) (t : ℕ) (key : Object) (o : Option Object) → MayReturn s t → HasQuota s t → FindsSealed s → IsKeyIn s (register (thread s t) 11) key → token_object s key.number (register (thread s t) 12) ≡ o → token_free i s t ≡ frees_token i s t (quota_in s t) o
 free_keyed i s t key o may has finds is found = with_quota s t _ may has ∙ by_one s t 11 _ key finds is ∙ ap (frees_token i s t (quota_in s t)) found
 
 pub free_untokened : (i : Image) (s : State) (t : ℕ) (key : Object) → MayReturn s t → HasQuota s t → FindsSealed s → IsKeyIn s (register (thread s t) 11) key → ((token : Object) → IsTokenIn s key.number (register (thread s t) 12) token → ⊥) → token_free i s t ≡ tells s t (code 8)

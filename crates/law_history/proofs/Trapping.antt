@@ -35,13 +35,13 @@ use Rattle.def_step.specs.Checks.{Check, first_failed}
 use Rattle.def_step.specs.Events.{stepped}
 use Rattle.def_step.specs.Handlers.{return_taken}
 use Rattle.def_step.specs.Instructions.{Effect, after_fetch, around, accesses, carried_out, deed, deed_told, instruction_end, executed, fetch_checks, flows, goes_on, named_by, next_at, put_done, served, space_of, trapped}
-use Rattle.def_step.specs.Jumps.{Flowed, branched, flow_result, is_taken, passed_over, target_at}
+use Rattle.def_step.specs.Jumps.{Flowed, branched, flow_result, is_taken, passed_over, jump_target}
 use Rattle.def_step.specs.Native.{native}
 use Rattle.def_step.specs.Operands.{class_of, operands_of}
 use Rattle.def_step.specs.Quotas.{Allocation, Refused, Made, allocate, allocated, allocation, by_quota, free, freed_as, is_quota_cap, quota_in, remaining, whole_of}
-use Rattle.def_step.specs.Routines.{Ran, Traps, Leaves, checked, code, sleep, stops, switch, switched_to, tells, wait, waits, wake, wakes, word_checks, yield}
+use Rattle.def_step.specs.Routines.{Ran, Traps, Leaves, checked, code, sleep, stops, switch, switched_to, tells, wait, waits, wake, threads_woken, word_checks, yield}
 use Rattle.def_step.specs.Switch.{Switched, TooDeep, NoStack, Enters, called, frame_top, new_top, past_checks, return_checks, switch_checks, with_room}
-use Rattle.def_step.specs.Tokens.{by_key, frees_token, key_of, made_token, opens, token_free, token_key, token_new, token_of, token_open}
+use Rattle.def_step.specs.Tokens.{by_key, frees_token, key_of, made_token, opens, token_free, token_key, token_new, token_object, token_open}
 use Rattle.def_events.specs.Leaving.{IfRan, Left}
 use Rattle.law_routines.proofs.Cases.{by_next, by_routine}
 use Rattle.law_routines.proofs.Leaving.{option_tells, routines_left}
@@ -170,7 +170,7 @@ module _ (i : Image) (s : State) (t : ℕ) where
       (waits_left (cap_address (held 10)) (loaded s.granules (cap_address (held 10) - i.ram) 4) (cap_address (held 11)))
 
   wake_names : Names WAKE (wake i s t)
-  wake_names why = twice_traps (return_checks (held 1)) (word_checks i s (held 10)) (Leaves (wakes s t (cap_address (held 10)) (cap_address (held 11))) None) why tt
+  wake_names why = twice_traps (return_checks (held 1)) (word_checks i s (held 10)) (Leaves (threads_woken s t (cap_address (held 10)) (cap_address (held 11))) None) why tt
 
   allocate_names : Names ALLOCATE (allocate i s t)
   allocate_names why = quota_traps (allocated s t (allocation i s (quota_in s t) (cap_address (held 11)))) why (allocated_left (allocation i s (quota_in s t) (cap_address (held 11))))
@@ -191,16 +191,16 @@ module _ (i : Image) (s : State) (t : ℕ) where
   new_names why = quota_traps (by_key s t (key_of s (held 12)) makes) why (key_left (key_of s (held 12)) makes (λ key. token_left (Some key) (allocation i s (quota_in s t) (cap_address (held 11)))))
 
   abbrev opens_by : ℕ → Ran
-  opens_by key = opens s t (held 11) (token_of s key (held 11))
+  opens_by key = opens s t (held 11) (token_object s key (held 11))
 
   open_names : Names TOKEN_OPEN (token_open s t)
-  open_names why = once_traps (return_checks (held 1)) (by_key s t (key_of s (held 10)) opens_by) why (key_left (key_of s (held 10)) opens_by (λ key. opens_left (held 11) (token_of s key (held 11))))
+  open_names why = once_traps (return_checks (held 1)) (by_key s t (key_of s (held 10)) opens_by) why (key_left (key_of s (held 10)) opens_by (λ key. opens_left (held 11) (token_object s key (held 11))))
 
   abbrev frees_by : ℕ → Ran
-  frees_by key = frees_token i s t (quota_in s t) (token_of s key (held 12))
+  frees_by key = frees_token i s t (quota_in s t) (token_object s key (held 12))
 
   token_free_names : Names TOKEN_FREE (token_free i s t)
-  token_free_names why = quota_traps (by_key s t (key_of s (held 11)) frees_by) why (key_left (key_of s (held 11)) frees_by (λ key. frees_left (quota_in s t) (token_of s key (held 12))))
+  token_free_names why = quota_traps (by_key s t (key_of s (held 11)) frees_by) why (key_left (key_of s (held 11)) frees_by (λ key. frees_left (quota_in s t) (token_object s key (held 12))))
 
   -- the routine of a number
   some_ran : (n m : ℕ) (r : Ran) → (n == m) ≡ true → Names m r → (why : Trap) → Some r ≡ Some (Traps why) → first_failed (routine_checks i s t n) ≡ Some why
@@ -236,7 +236,7 @@ unless_traps : {A : Type 0} (o : Option Trap) (a : A) (why : Trap) → unless o 
 unless_traps None a why e = absurd (let clash : Ok a ≡ Err why = e in cc)
 unless_traps (Some w) a why e = ap (λ (z : Trap). Some z) (ap (error_of why) e)
 
-branch_traps : (taken : Bool) (pcc : Cap) (posture : Posture) (offset : ℕ) (why : Trap) → branched taken pcc posture offset ≡ Err why → first_failed (branch_checks taken (target_at pcc offset)) ≡ Some why
+branch_traps : (taken : Bool) (pcc : Cap) (posture : Posture) (offset : ℕ) (why : Trap) → branched taken pcc posture offset ≡ Err why → first_failed (branch_checks taken (jump_target pcc offset)) ≡ Some why
 branch_traps true pcc posture offset why e = unless_traps _ _ why e
 branch_traps false pcc posture offset why e = absurd (let clash : passed_over pcc posture ≡ Err why = e in cc)
 

@@ -10,7 +10,7 @@ use Rattle.def_words.specs.Authority.{cap_address, cap_base}
 use Rattle.def_words.specs.Permissions.{has, global, store_local}
 use Rattle.def_words.specs.Capability.{integer, untagged, with_address, raised}
 use Rattle.def_words.specs.Loaded.{attenuated, stored_through}
-use Rattle.def_words.specs.Jumped.{opened, linked}
+use Rattle.def_words.specs.Jumped.{opened, return_link}
 use Rattle.def_memory.specs.declared.Granule.{Granule}
 use Rattle.def_memory.specs.Granules.{plain, nothing, granule_at}
 use Rattle.def_memory.specs.Accesses.{loaded, loaded_cap, stored, stored_cap}
@@ -32,7 +32,7 @@ use Rattle.law_routines.proofs.Accesses.{by_access}
 use Rattle.def_step.specs.declared.Access.{Access}
 use Rattle.def_step.specs.Checks.{first_failed}
 use Rattle.def_step.specs.Devices.{bank_value}
-use Rattle.def_step.specs.Jumps.{Flowed, jumped_to, passed_over, branched, register_jumped, flow_result, target_checks, target_at, register_jump_checks, register_target}
+use Rattle.def_step.specs.Jumps.{Flowed, jumped_to, passed_over, branched, register_jumped, flow_result, target_checks, jump_target, register_jump_checks, register_target}
 use Rattle.def_step.specs.Accesses.{MemoryAndDevices, Accessed, ram_value, ram_stored, device_value, widened, accessed, unless, access_result, access_of, access_checks, access_address}
 use Rattle.def_events.specs.Passes.{Widens, Passes}
 
@@ -67,7 +67,7 @@ abbrev pub IfAccesses : (Cap → Type 0) → Result Accessed Trap → Type 0
 IfAccesses C (Err w) = Unit {0}
 IfAccesses C (Ok m) = AccessHas C m
 
-pub link_links : (i : Image) (pcc : Cap) (before : Posture) → (pcc.tag ≡ true → IsPcc i pcc) → Links pcc before (linked pcc before)
+pub link_links : (i : Image) (pcc : Cap) (before : Posture) → (pcc.tag ≡ true → IsPcc i pcc) → Links pcc before (return_link pcc before)
 link_links i pcc before runs = λ tagged.
     linked_is pcc before (runs (addressed pcc ((cap_address pcc + 4) % 2 ^ 32) (omega arith) tagged).tagged).executes tagged
 
@@ -97,19 +97,19 @@ module _ (i : Image) (S R K : Cap → Type 0) (L : Cap → Posture → Type 0) (
   to_has : (pcc : Cap) (posture : Posture) (target : ℕ) (link : Option Cap) → C (with_address pcc target) → C (unwrap_or link (plain 0)) → IfFlows C (jumped_to pcc posture target link)
   to_has pcc posture target link goes h = unless_flows (first_failed (target_checks target)) (record { link = link; pcc = with_address pcc target; posture = posture }) (record { link = h; pcc = goes })
 
-  target_has : (pcc : Cap) (offset : ℕ) → R pcc → C (with_address pcc (target_at pcc offset))
-  target_has pcc offset h = x.result pcc (with_address pcc (target_at pcc offset)) (address_result pcc (target_at pcc offset) (omega arith)) h
+  target_has : (pcc : Cap) (offset : ℕ) → R pcc → C (with_address pcc (jump_target pcc offset))
+  target_has pcc offset h = x.result pcc (with_address pcc (jump_target pcc offset)) (address_result pcc (jump_target pcc offset) (omega arith)) h
 
   over_has : (pcc : Cap) (posture : Posture) → R pcc → IfFlows C (passed_over pcc posture)
   over_has pcc posture h = record { link = x.widens.none (plain 0) refl; pcc = x.result pcc (raised pcc 4) (raised_result pcc 4) h }
 
   branch_has : (taken : Bool) (pcc : Cap) (posture : Posture) (offset : ℕ) → R pcc → IfFlows C (branched taken pcc posture offset)
-  branch_has taken pcc posture offset h = chosen (IfFlows C) taken (jumped_to pcc posture (target_at pcc offset) None) (passed_over pcc posture)
-      (λ is. to_has pcc posture (target_at pcc offset) None (target_has pcc offset h) (x.widens.none (plain 0) refl))
+  branch_has taken pcc posture offset h = chosen (IfFlows C) taken (jumped_to pcc posture (jump_target pcc offset) None) (passed_over pcc posture)
+      (λ is. to_has pcc posture (jump_target pcc offset) None (target_has pcc offset h) (x.widens.none (plain 0) refl))
       (λ not. over_has pcc posture h)
 
-  link_has : (pcc : Cap) (before : Posture) → (pcc.tag ≡ true → IsPcc i pcc) → L pcc before → C (linked pcc before)
-  link_has pcc before runs h = x.linked pcc (linked pcc before) before runs (link_links i pcc before runs) h
+  link_has : (pcc : Cap) (before : Posture) → (pcc.tag ≡ true → IsPcc i pcc) → L pcc before → C (return_link pcc before)
+  link_has pcc before runs h = x.linked pcc (return_link pcc before) before runs (link_links i pcc before runs) h
 
   register_has : (to at : ℕ) (a : Cap) (n : ℕ) (pcc : Cap) (posture : Posture) (named : ℕ) → (pcc.tag ≡ true → IsPcc i pcc) → K a → L pcc posture → IfFlows C (register_jumped to at a n pcc posture named)
   register_has to at a n pcc posture named runs h c = unless_flows (first_failed (register_jump_checks to at a n)) _
@@ -117,7 +117,7 @@ module _ (i : Image) (S R K : Cap → Type 0) (L : Cap → Posture → Type 0) (
 
   pub flow_has : (k : Instr) (a y pcc : Cap) (posture : Posture) (named : ℕ) → (pcc.tag ≡ true → IsPcc i pcc) → K a → R pcc → L pcc posture → IfFlows C (flow_result k a y pcc posture named)
   unfolding flow_result
-  flow_has (Jal v0 v1) a y pcc posture named runs h c link = to_has pcc posture (target_at pcc v1) (Some (linked pcc posture)) (target_has pcc v1 c) (link_has pcc posture runs link)
+  flow_has (Jal v0 v1) a y pcc posture named runs h c link = to_has pcc posture (jump_target pcc v1) (Some (return_link pcc posture)) (target_has pcc v1 c) (link_has pcc posture runs link)
   flow_has (CJalr v0 v1 v2) a y pcc posture named runs h c link = register_has v0 v1 a v2 pcc posture named runs h link
   flow_has (Beq v0 v1 v2) a y pcc posture named runs h c link = branch_has _ pcc posture v2 c
   flow_has (Bne v0 v1 v2) a y pcc posture named runs h c link = branch_has _ pcc posture v2 c

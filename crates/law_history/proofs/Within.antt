@@ -9,7 +9,7 @@ use Rattle.def_machine.specs.Platform.{Platform}
 use Rattle.def_machine.specs.Heap.{ram_size}
 use Rattle.def_machine.specs.Image.{root}
 use Rattle.def_machine.specs.State.{State, register, thread}
-use Rattle.def_safety.specs.Inside.{Inside, IsWithin}
+use Rattle.def_safety.specs.Inside.{Inside, IsReachable}
 use Rattle.def_confined.specs.Capabilities.{Rooted, heap_cap}
 use Rattle.def_confined.specs.Confined.{Confined}
 use Rattle.def_confined.specs.Keeps.{Keeps}
@@ -27,11 +27,11 @@ module _ (b : Platform) (s : State) (inside : Inside b) (parts : Partitioned b.i
   reads c r other (inr (inr runs)) = inr (inr (r.rights other execute runs))
 
   -- the heap ends in RAM
-  within_ram : (x : ℕ) → IsWithin b b.image.heap_end x → IsWithin b (b.image.ram + ram_size s) x
+  within_ram : (x : ℕ) → IsReachable b b.image.heap_end x → IsReachable b (b.image.ram + ram_size s) x
   within_ram x (inl ram) = let size = h.size in inl (ram.0, omega (arith, ram.1, size))
   within_ram x (inr other) = inr other
 
-  cap_within : (c : Cap) (x : ℕ) → Rooted b.image c → MayTouch c → cap_base c ≤ x → x < cap_top c → IsWithin b (b.image.ram + ram_size s) x
+  cap_within : (c : Cap) (x : ℕ) → Rooted b.image c → MayTouch c → cap_base c ≤ x → x < cap_top c → IsReachable b (b.image.ram + ram_size s) x
   cap_within c x r any low high = elim (bool_tells (heap_cap b.image c)) [
     | inl heap ↦
         let range = r.heap heap in

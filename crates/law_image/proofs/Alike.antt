@@ -21,17 +21,17 @@ use Rattle.def_image.specs.declared.SlotKind.TheVariants as slot
 use Rattle.def_image.specs.Parts.{SlotRow, CodeRow, CompartmentRow, ThreadRow, PartsRow, upgraded}
 use Rattle.def_image.specs.Regions.{Holder, CodeOf, TableOf, GlobalsOf, SharedOf, SealedOf, StackOf, TrustedPart, RegionRow, trusted_region, regions_of}
 use Rattle.def_image.specs.Members.{compartment, library, code_number, globals_number, library_number, stack_number}
-use Rattle.def_boot.specs.Entries.{slot_row, slot_rows, export_rows, code_row, globals_row, compartment_rows, library_rows, stack_row, rows_from, entry_rows, library_export_row}
+use Rattle.def_boot.specs.Entries.{slot_entry, slot_rows, export_rows, code_row, globals_row, compartment_rows, library_rows, stack_row, rows_from, entry_rows, library_export_row}
 use Rattle.def_boot.specs.Gates.{gates_of, entries_of}
 use Rattle.def_boot.specs.Made.{entry_cap, entry_caps, caps_at_boot, boot_cap_of, return_sentry}
 use Rattle.def_boot.specs.Contents.{word_from_bytes, gate_word, covers, owned_content, content, region_in, region_at, content_at, boot_cap, granules_from, granules_in, boot_granules, part_at, part, parts_from}
-use Rattle.def_boot.specs.Boot.{image_of, platform_of, bases_of, first_thread, first_threads, first_frame, first_posture, entry_address, boot_state}
+use Rattle.def_boot.specs.Boot.{image_of, platform_of, bases_of, first_thread, first_threads, first_frame, first_posture, thread_entry_address, boot_state}
 use Rattle.def_boot.specs.Upgrade.{BootsAlike}
 use Rattle.law_image.proofs.Regions.{unplaced, Alike, later_alike}
 
 -- ---- entries
 
-slot_alike : (p : PartsRow) (o : Owner) (at : ℕ) (r : ImportRow) (k : SlotKind) → slot_row (upgraded p) o at r k ≡ slot_row p o at r k
+slot_alike : (p : PartsRow) (o : Owner) (at : ℕ) (r : ImportRow) (k : SlotKind) → slot_entry (upgraded p) o at r k ≡ slot_entry p o at r k
 slot_alike p o at r slot.Service = refl
 slot_alike p o at r slot.Device = refl
 slot_alike p o at r slot.Shared = refl
@@ -45,7 +45,7 @@ slots_alike : (p : PartsRow) (o : Owner) (at : ℕ) (ss : List SlotRow) → slot
 slots_alike p o at [] = refl
 slots_alike p o at (s ∷ ss) =
     ap (λ (e : Entry). e ∷ slot_rows (upgraded p) o (at + SLOT_SIZE) ss) (slot_alike p o at s.row s.row.kind)
-    ∙ ap (λ (l : List Entry). slot_row p o at s.row s.row.kind ∷ l) (slots_alike p o (at + SLOT_SIZE) ss)
+    ∙ ap (λ (l : List Entry). slot_entry p o at s.row s.row.kind ∷ l) (slots_alike p o (at + SLOT_SIZE) ss)
 
 rows_same : {A : Type 0} (f g : ℕ → A → List Entry) → ((i : ℕ) (x : A) → f i x ≡ g i x) → (i : ℕ) (xs : List A) → rows_from f i xs ≡ rows_from g i xs
 rows_same f g same i [] = refl
@@ -218,7 +218,7 @@ abbrev thread_with : List Cap → PartsRow → ℕ → ThreadRow → st.Thread
 thread_with made p n t =
     let cap = λ (k : ℕ). slice_index_or made k (plain 0) in
     record {
-      pcc = with_address (cap (code_number p t.compartment)) (entry_address p t);
+      pcc = with_address (cap (code_number p t.compartment)) (thread_entry_address p t);
       registers =
           plain 0 ∷ return_sentry ∷ cap (stack_number p n) ∷ cap (globals_number p t.compartment)
           ∷ plain 0 ∷ plain 0 ∷ plain 0 ∷ plain 0 ∷ plain 0 ∷ plain 0

@@ -17,26 +17,26 @@ use Rattle.def_image.specs.Raw.{RawDevice, RawShared, RawSealed, RawCode, RawCom
 use Rattle.ct_entry.specs.DeviceKinds.{device_kind_of, device_number}
 use Rattle.def_image.specs.Spelling.{zeros, name_field, kind_byte, posture_byte, passes_byte, import_field, export_field, raw_slot, raw_gate, raw_device, raw_shared, raw_sealed, raw_code, raw_compartment, raw_thread, raw_of, image_bytes}
 use Rattle.def_image.specs.Shapes.{Clean, IsNumber, SpellableSlot, SpellableGate, SpellableCode, IsSpellable}
-use Rattle.def_image.specs.Limits.{name_of, byte_at, number_at}
+use Rattle.def_image.specs.Limits.{name_in_field, byte_in, number_field}
 use Rattle.def_image.specs.Reading.{OneReading}
 use Rattle.law_image.proofs.Rows.{first_at, offset_at, stack_at, entry_at, number_back}
 use Rattle.law_image.proofs.OneCut.{one_cut}
 
 -- ---- names
 
-pub no_name : (k : ℕ) → name_of (zeros k) ≡ []
+pub no_name : (k : ℕ) → name_in_field (zeros k) ≡ []
 no_name zero = refl
 no_name (suc k) = refl
 
-name_ends : (name : List ℕ) (k : ℕ) → Clean name → name_of (name ++ zeros k) ≡ name
+name_ends : (name : List ℕ) (k : ℕ) → Clean name → name_in_field (name ++ zeros k) ≡ name
 name_ends [] k clean = no_name k
 name_ends (b ∷ bs) k clean = elim (eq_tells b 0) [
   | inl h ↦ absurd (let is = h.1 in let some = clean.0 in omega (arith, is, some))
-  | inr h ↦ ap (λ (c : Bool). cond c [] (b ∷ name_of (bs ++ zeros k))) h.0 ∙ ap (λ l. b ∷ l) (name_ends bs k clean.1)
+  | inr h ↦ ap (λ (c : Bool). cond c [] (b ∷ name_in_field (bs ++ zeros k))) h.0 ∙ ap (λ l. b ∷ l) (name_ends bs k clean.1)
 ]
 
 pub same_name : (a b : List ℕ) → Clean a → Clean b → name_field a ≡ name_field b → a ≡ b
-same_name a b ha hb e = sym (name_ends a (32 - length a) ha) ∙ ap name_of e ∙ name_ends b (32 - length b) hb
+same_name a b ha hb e = sym (name_ends a (32 - length a) ha) ∙ ap name_in_field e ∙ name_ends b (32 - length b) hb
 
 -- ---- bytes that tell a choice
 
@@ -80,7 +80,7 @@ device_back Gpio = refl
 
 -- ---- rows
 
-second_at : (r : ImportRow) → r.second < 2 ^ 32 → number_at (import_field r) 8 ≡ r.second
+second_at : (r : ImportRow) → r.second < 2 ^ 32 → number_field (import_field r) 8 ≡ r.second
 second_at r small = number_back r.second small
 
 abbrev import_again : ImportRow → ImportRow
@@ -88,10 +88,10 @@ import_again r = record { kind = r.kind; rights = r.rights; first = r.first; sec
 
 same_import : (r q : ImportRow) → IsNumber r.first → IsNumber q.first → IsNumber r.second → IsNumber q.second → import_field r ≡ import_field q → r ≡ q
 same_import r q rf qf rs qs e =
-    let kinds : r.kind ≡ q.kind = sym (kind_back r.kind) ∙ ap (λ l. kind_in (byte_at l 0)) e ∙ kind_back q.kind in
-    let rights : r.rights ≡ q.rights = ap (λ l. byte_at l 1) e in
-    let firsts : r.first ≡ q.first = sym (first_at r rf) ∙ ap (λ l. number_at l 4) e ∙ first_at q qf in
-    let seconds : r.second ≡ q.second = sym (second_at r rs) ∙ ap (λ l. number_at l 8) e ∙ second_at q qs in
+    let kinds : r.kind ≡ q.kind = sym (kind_back r.kind) ∙ ap (λ l. kind_in (byte_in l 0)) e ∙ kind_back q.kind in
+    let rights : r.rights ≡ q.rights = ap (λ l. byte_in l 1) e in
+    let firsts : r.first ≡ q.first = sym (first_at r rf) ∙ ap (λ l. number_field l 4) e ∙ first_at q qf in
+    let seconds : r.second ≡ q.second = sym (second_at r rs) ∙ ap (λ l. number_field l 8) e ∙ second_at q qs in
     let all : import_again r ≡ import_again q = cc in
     all
 
@@ -105,12 +105,12 @@ record Three (x : ExportRow) : Type 0 where
 
 same_export : (x y : ExportRow) → Three x → Three y → export_field x ≡ export_field y → x ≡ y
 same_export x y hx hy e =
-    let offsets : x.offset ≡ y.offset = sym (offset_at x hx.offset) ∙ ap (λ l. number_at l 0) e ∙ offset_at y hy.offset in
-    let stacks : x.stack ≡ y.stack = sym (stack_at x hx.stack) ∙ ap (λ l. number_at l 4) e ∙ stack_at y hy.stack in
-    let args : x.args ≡ y.args = ap (λ l. byte_at l 8) e in
-    let postures : x.posture ≡ y.posture = sym (posture_back x.posture) ∙ ap (λ l. posture_in (byte_at l 9)) e ∙ posture_back y.posture in
-    let passes : x.capabilities ≡ y.capabilities = sym (passes_back x.capabilities) ∙ ap (λ l. passes_in (byte_at l 10)) e ∙ passes_back y.capabilities in
-    let entries : x.entry ≡ y.entry = sym (entry_at x hx.entry) ∙ ap (λ l. number_at l 12) e ∙ entry_at y hy.entry in
+    let offsets : x.offset ≡ y.offset = sym (offset_at x hx.offset) ∙ ap (λ l. number_field l 0) e ∙ offset_at y hy.offset in
+    let stacks : x.stack ≡ y.stack = sym (stack_at x hx.stack) ∙ ap (λ l. number_field l 4) e ∙ stack_at y hy.stack in
+    let args : x.args ≡ y.args = ap (λ l. byte_in l 8) e in
+    let postures : x.posture ≡ y.posture = sym (posture_back x.posture) ∙ ap (λ l. posture_in (byte_in l 9)) e ∙ posture_back y.posture in
+    let passes : x.capabilities ≡ y.capabilities = sym (passes_back x.capabilities) ∙ ap (λ l. passes_in (byte_in l 10)) e ∙ passes_back y.capabilities in
+    let entries : x.entry ≡ y.entry = sym (entry_at x hx.entry) ∙ ap (λ l. number_field l 12) e ∙ entry_at y hy.entry in
     let all : export_again x ≡ export_again y = cc in
     all
 

@@ -5,7 +5,7 @@ use Rattle.def_image.specs.declared.format.TheConstants.{DEVICE, SHARED, THREAD,
 use Rattle.def_image.specs.Raw.{RawCode, RawCompartment, RawImage}
 use Rattle.def_image.specs.Sizes.{sealed_size, compartment_size, library_size, devices_at, shared_at, sealed_at, compartments_at, libraries_at, threads_at}
 use Rattle.def_image.specs.Checks.{first, walked}
-use Rattle.def_image.specs.Limits.{limit_checks, header_limits, name_checks, device_limits, shared_limits, sealed_limits, code_limits, own_numbers, own_slots_limits, own_gates, dirty_padding, compartment_limits_by, compartment_limits, library_numbers, slots_limits, library_gates, library_limits_by, library_limits, thread_limits}
+use Rattle.def_image.specs.Limits.{limit_checks, header_limits, name_checks, device_limits, shared_limits, sealed_limits, code_limits, own_numbers, own_slots_limits, own_gates, dirty_padding, compartment_limits_by, compartment_limits, library_numbers, slots_limits, library_gate_checks, library_limits_by, library_limits, thread_limits}
 use Rattle.law_image.proofs.Passing.{left_none, right_none}
 
 -- ---- the whole
@@ -81,7 +81,7 @@ pub record LibraryHolds (entry at : ℕ) (seen : List (List ℕ)) (c : RawCode) 
   pub code : first (code_limits at c) ≡ None
   pub numbers : first (library_numbers at c) ≡ None
   pub slots : first (slots_limits (at + LIBRARY_HEAD) c) ≡ None
-  pub gates : first (library_gates entry at c) ≡ None
+  pub gates : first (library_gate_checks entry at c) ≡ None
 
 pub library_holds : (entry at : ℕ) (seen : List (List ℕ)) (c : RawCode) → first (library_limits_by entry at seen c) ≡ None → LibraryHolds entry at seen c
 unfolding library_limits_by
@@ -90,7 +90,7 @@ library_holds entry at seen c e =
     let k = code_limits at c in
     let m = library_numbers at c in
     let s = slots_limits (at + LIBRARY_HEAD) c in
-    let x = library_gates entry at c in
+    let x = library_gate_checks entry at c in
     let e1 = left_none (n ++ k ++ m ++ s) x e in
     let e2 = left_none (n ++ k ++ m) s e1 in
     let e3 = left_none (n ++ k) m e2 in

@@ -11,7 +11,7 @@ use Rattle.def_image.specs.declared.format.TheConstants.{DEVICE}
 use Rattle.def_image.specs.Parts.{PartsRow}
 use Rattle.def_image.specs.Regions.{RegionRow, regions_of, trusted_region, later_regions}
 use Rattle.def_image.specs.Checks.{first, walked, check}
-use Rattle.def_image.specs.Lying.{region_checks, device_asked, region_asked, is_device_laid, is_laid, is_laid_below, is_in_ram, is_even, is_heap_laid, meets, meets_native, meets_device, meets_region, trusted_end}
+use Rattle.def_image.specs.Lying.{region_checks, device_asked, region_asked, is_device_laid, is_laid, is_laid_below, is_in_ram, is_even, is_heap_laid, overlaps, overlaps_native, overlaps_device, meets_region, trusted_region_end}
 use Rattle.def_image.specs.Sizes.{header_size}
 use Rattle.def_image.specs.Laid.{IsLaid, AreLaid, IsIn}
 use Rattle.def_image.specs.Sound.{IsAway, DeviceFits}
@@ -20,10 +20,10 @@ use Rattle.law_image.proofs.Passing.{left_none, right_none, head_none, passes}
 
 -- ---- ranges that don't meet
 
-meet : (a m b n : ℕ) → 0 < m → 0 < n → a < b + n → b < a + m → meets a m b n ≡ true
+meet : (a m b n : ℕ) → 0 < m → 0 < n → a < b + n → b < a + m → overlaps a m b n ≡ true
 meet a m b n some any low high = rw (lt-ltb 0 m some, lt-ltb 0 n any, lt-ltb a (b + n) low, lt-ltb b (a + m) high) refl
 
-pub away : (a m b n : ℕ) → 0 < m → 0 < n → meets a m b n ≡ false → IsAway a m b (b + n)
+pub away : (a m b n : ℕ) → 0 < m → 0 < n → overlaps a m b n ≡ false → IsAway a m b (b + n)
 away a m b n some any e = elim (le_tells (b + n) a) [
   | inl h ↦ inr h.1
   | inr h ↦ elim (le_tells (a + m) b) [
@@ -88,7 +88,7 @@ regions_walk : PartsRow → List Check
 regions_walk p = walked (region_asked p) (λ r. 0) 0 [] (later_regions p)
 
 pub record Checked (p : PartsRow) : Type 0 where
-  pub ram : meets_native p.ram p.size ≡ false
+  pub ram : overlaps_native p.ram p.size ≡ false
   pub trusted : is_laid p [] (trusted_region p) ≡ true
   pub heap : is_heap_laid p ≡ true
   pub devices : first (walked (device_asked p) (λ d. DEVICE) (header_size p.version) [] p.devices) ≡ None
@@ -97,7 +97,7 @@ pub record Checked (p : PartsRow) : Type 0 where
 pub checked : (p : PartsRow) → first (region_checks p) ≡ None → Checked p
 unfolding region_checks devices_walk regions_walk
 checked p e =
-    let a = head_none (check 36 (meets_native p.ram p.size)) (check 44 (not (is_laid p [] (trusted_region p))) ∷ check 48 (not (is_heap_laid p)) ∷ devices_walk p ++ regions_walk p) e in
+    let a = head_none (check 36 (overlaps_native p.ram p.size)) (check 44 (not (is_laid p [] (trusted_region p))) ∷ check 48 (not (is_heap_laid p)) ∷ devices_walk p ++ regions_walk p) e in
     let b = head_none (check 44 (not (is_laid p [] (trusted_region p)))) (check 48 (not (is_heap_laid p)) ∷ devices_walk p ++ regions_walk p) a.1 in
     let c = head_none (check 48 (not (is_heap_laid p))) (devices_walk p ++ regions_walk p) b.1 in
     record {
@@ -109,14 +109,14 @@ checked p e =
     }
 
 module _ (p : PartsRow) (h : Checked p) where
-  pub trusted_below : trusted_end p ≤ p.heap
-  trusted_below = leb-true (trusted_end p) p.heap (both_right (is_even p.heap && nat_le p.heap (p.ram + p.size)) (nat_le (trusted_end p) p.heap) h.heap)
+  pub trusted_below : trusted_region_end p ≤ p.heap
+  trusted_below = leb-true (trusted_region_end p) p.heap (both_right (is_even p.heap && nat_le p.heap (p.ram + p.size)) (nat_le (trusted_region_end p) p.heap) h.heap)
 
   pub heap_even : p.heap % 16 ≡ 0
-  heap_even = eqb-true (p.heap % 16) 0 (both_left (is_even p.heap) (nat_le p.heap (p.ram + p.size)) (both_left (is_even p.heap && nat_le p.heap (p.ram + p.size)) (nat_le (trusted_end p) p.heap) h.heap))
+  heap_even = eqb-true (p.heap % 16) 0 (both_left (is_even p.heap) (nat_le p.heap (p.ram + p.size)) (both_left (is_even p.heap && nat_le p.heap (p.ram + p.size)) (nat_le (trusted_region_end p) p.heap) h.heap))
 
   pub heap_inside : p.heap ≤ p.ram + p.size
-  heap_inside = leb-true p.heap (p.ram + p.size) (both_right (is_even p.heap) (nat_le p.heap (p.ram + p.size)) (both_left (is_even p.heap && nat_le p.heap (p.ram + p.size)) (nat_le (trusted_end p) p.heap) h.heap))
+  heap_inside = leb-true p.heap (p.ram + p.size) (both_right (is_even p.heap) (nat_le p.heap (p.ram + p.size)) (both_left (is_even p.heap && nat_le p.heap (p.ram + p.size)) (nat_le (trusted_region_end p) p.heap) h.heap))
 
   later_stand : (i : ℕ) (r : RegionRow) → slice_get (later_regions p) i ≡ Some r → Stands p (trusted_region p ∷ take i (later_regions p)) r
   later_stand i r is =
@@ -153,9 +153,9 @@ module _ (p : PartsRow) (h : Checked p) where
 
   record Alone (earlier : List DeviceRow) (d : DeviceRow) : Type 0 where
     pub even : d.base % 16 ≡ 0
-    pub ram : meets d.base 16 p.ram p.size ≡ false
-    pub native : meets_native d.base 16 ≡ false
-    pub others : list_any (meets_device d.base) earlier ≡ false
+    pub ram : overlaps d.base 16 p.ram p.size ≡ false
+    pub native : overlaps_native d.base 16 ≡ false
+    pub others : list_any (overlaps_device d.base) earlier ≡ false
 
   alone : (i : ℕ) (d : DeviceRow) → slice_get p.devices i ≡ Some d → Alone (take i p.devices) d
   alone i d is =
@@ -163,16 +163,16 @@ module _ (p : PartsRow) (h : Checked p) where
       let one = (head_none (check (asked.0 + 36) (not (is_device_laid p (take i p.devices) d))) [] asked.1).0 in
       let all = not-false (is_device_laid p (take i p.devices) d) one in
       let c1 = is_even d.base in
-      let c2 = not (meets d.base 16 p.ram p.size) in
-      let c3 = not (meets_native d.base 16) in
-      let c4 = not (list_any (meets_device d.base) (take i p.devices)) in
+      let c2 = not (overlaps d.base 16 p.ram p.size) in
+      let c3 = not (overlaps_native d.base 16) in
+      let c4 = not (list_any (overlaps_device d.base) (take i p.devices)) in
       let f3 = both_left (c1 && c2 && c3) c4 all in
       let f2 = both_left (c1 && c2) c3 f3 in
       record {
         even = eqb-true (d.base % 16) 0 (both_left c1 c2 f2);
-        ram = not-true (meets d.base 16 p.ram p.size) (both_right c1 c2 f2);
-        native = not-true (meets_native d.base 16) (both_right (c1 && c2) c3 f3);
-        others = not-true (list_any (meets_device d.base) (take i p.devices)) (both_right (c1 && c2 && c3) c4 all);
+        ram = not-true (overlaps d.base 16 p.ram p.size) (both_right c1 c2 f2);
+        native = not-true (overlaps_native d.base 16) (both_right (c1 && c2) c3 f3);
+        others = not-true (list_any (overlaps_device d.base) (take i p.devices)) (both_right (c1 && c2 && c3) c4 all);
       }
 
   pub device_fits : 0 < p.size → (i : ℕ) (d : DeviceRow) → d.base < 4294967296 → slice_get p.devices i ≡ Some d → DeviceFits p d
@@ -186,17 +186,17 @@ module _ (p : PartsRow) (h : Checked p) where
         native = away d.base 16 65536 4096 (omega arith) (omega arith) a.native;
       }
 
-  same_meets : (b : ℕ) → meets b 16 b 16 ≡ true
+  same_meets : (b : ℕ) → overlaps b 16 b 16 ≡ true
   same_meets b = rw (lt-ltb b (b + 16) (omega arith)) refl
 
   pub devices_apart : (i j : ℕ) (d e : DeviceRow) → slice_get p.devices i ≡ Some d → slice_get p.devices j ≡ Some e → d.base ≡ e.base → i ≡ j
   devices_apart i j d e at_i at_j same = elim (lt_tells i j) [
-    | inl k ↦ absurd (clash e d (any_not (meets_device e.base) (take j p.devices) i d (alone j e at_j).others (among_taken p.devices i j d k.1 at_i)) (sym same))
+    | inl k ↦ absurd (clash e d (any_not (overlaps_device e.base) (take j p.devices) i d (alone j e at_j).others (among_taken p.devices i j d k.1 at_i)) (sym same))
     | inr k ↦ elim (lt_tells j i) [
-      | inl l ↦ absurd (clash d e (any_not (meets_device d.base) (take i p.devices) j e (alone i d at_i).others (among_taken p.devices j i e l.1 at_j)) same)
+      | inl l ↦ absurd (clash d e (any_not (overlaps_device d.base) (take i p.devices) j e (alone i d at_i).others (among_taken p.devices j i e l.1 at_j)) same)
       | inr l ↦ let le = k.1 in let ge = l.1 in omega (arith, le, ge)
     ]
   ]
     where
-      clash : (x y : DeviceRow) → meets_device x.base y ≡ false → x.base ≡ y.base → ⊥
-      clash x y apart is = absurd (let both : true ≡ false = sym (same_meets x.base) ∙ ap (λ n. meets x.base 16 n 16) is ∙ apart in cc)
+      clash : (x y : DeviceRow) → overlaps_device x.base y ≡ false → x.base ≡ y.base → ⊥
+      clash x y apart is = absurd (let both : true ≡ false = sym (same_meets x.base) ∙ ap (λ n. overlaps x.base 16 n 16) is ∙ apart in cc)

@@ -11,7 +11,7 @@ use Rattle.def_image.specs.Spelling.{raw_of, raw_device, raw_shared, raw_sealed,
 use Rattle.def_image.specs.Sizes.{sealed_size, shared_at, sealed_at, threads_at}
 use Rattle.def_image.specs.Profile.{outside}
 use Rattle.def_image.specs.Checks.{first, walked, check}
-use Rattle.def_image.specs.Limits.{header_limits, name_checks, shared_limits, sealed_limits, thread_limits, thread_limits_by, shared_name, sealed_name, thread_name, owner_names, overfills, are_zeros}
+use Rattle.def_image.specs.Limits.{header_limits, name_checks, shared_limits, sealed_limits, thread_limits, thread_limits_by, shared_name, sealed_name, thread_name, raw_owner_names, overfills, are_zeros}
 use Rattle.def_image.specs.Sound.{IsWithin, AreFew, SealedFits}
 use Rattle.law_image.proofs.Tells.{within_is}
 use Rattle.law_image.proofs.Passing.{right_none, head_none, passes, all_pass}
@@ -115,7 +115,7 @@ pub thread_fits : (p : PartsRow) → Limited (raw_of p) → (i : ℕ) (t : Threa
 unfolding raw_of thread_limits_by
 thread_fits p h i t is =
     let a = asked_of raw_thread (thread_limits (raw_of p)) (λ t. THREAD) (threads_at (raw_of p)) p.threads h.threads i t is in
-    let names = name_checks a.0 false (owner_names (raw_of p) ++ map thread_name (map raw_thread (take i p.threads))) (raw_thread t).name in
+    let names = name_checks a.0 false (raw_owner_names (raw_of p) ++ map thread_name (map raw_thread (take i p.threads))) (raw_thread t).name in
     let last = check (a.0 + 36) (outside 256 32768 t.stack_length) ∷ check (a.0 + 48) (nat_lt 15 t.priority) ∷ check (a.0 + 52) (outside 1 96 t.frames) ∷ [] in
     let each = all_pass last (right_none names last a.1) in
     record {

@@ -10,7 +10,7 @@ use Rattle.def_image.specs.Profile.{outside}
 use Rattle.def_image.specs.Spelling.{raw_of, raw_thread}
 use Rattle.def_image.specs.Sizes.{sum_of, entries_size, sealed_size, compartment_size, library_size, devices_at, shared_at, sealed_at, compartments_at, libraries_at, threads_at}
 use Rattle.def_image.specs.Checks.{first, walked}
-use Rattle.def_image.specs.Limits.{limit_checks, header_limits, name_checks, device_limits, shared_limits, sealed_limits, row_limits, gate_limits, own_slot_limits, slot_limits, export_limits, code_limits, own_numbers, own_slots_limits, own_gates, dirty_padding, library_numbers, slots_limits, library_gates, compartment_limits_by, compartment_limits, library_limits_by, library_limits, thread_limits_by, thread_limits, Bounds, compartment_bounds, library_bounds, compartment_name, library_name, thread_name, owner_names, compartment_entries, library_entries, first_library_entry}
+use Rattle.def_image.specs.Limits.{limit_checks, header_limits, name_checks, device_limits, shared_limits, sealed_limits, row_limits, gate_limits, own_slot_limits, slot_limits, export_limits, code_limits, own_numbers, own_slots_limits, own_gates, dirty_padding, library_numbers, slots_limits, library_gate_checks, compartment_limits_by, compartment_limits, library_limits_by, library_limits, thread_limits_by, thread_limits, Bounds, compartment_bounds, library_bounds, compartment_name, library_name, thread_name, raw_owner_names, raw_compartment_entries, raw_library_entries, first_library_entry}
 use Rattle.law_image.proofs.Tells.{within_is}
 use Rattle.law_image.proofs.Passing.{all_pass, joined_none}
 use Rattle.law_image.proofs.Holding.{limited}
@@ -83,7 +83,7 @@ library_alike entry seen at place c =
     let a2 = joined (front at) (library_numbers at c) (front place) (library_numbers place c) a1 refl in
     let a3 = joined (head at) (slots at) (head place) (slots place) a2
     (walks_alike slot_limits slot_limits (λ s. ENTRY) (λ s. ENTRY) slots_alike (at + LIBRARY_HEAD) (place + LIBRARY_HEAD) [] c.slots) in
-    joined (head at ++ slots at) (library_gates entry at c) (head place ++ slots place) (library_gates entry place c) a3
+    joined (head at ++ slots at) (library_gate_checks entry at c) (head place ++ slots place) (library_gate_checks entry place c) a3
     (walks_alike asked asked (λ x. ENTRY) (λ x. ENTRY) (exports_alike library_bounds (length c.text) (entry + 1 + length c.slots))
     (at + LIBRARY_HEAD + entries_size c.slots) (place + LIBRARY_HEAD + entries_size c.slots) [] c.exports)
 
@@ -170,13 +170,13 @@ limits_stay p e =
     (walks_alike sealed_limits sealed_limits sealed_size sealed_size sealed_alike (sealed_at r) (sealed_at q) [] r.sealed) was.sealed in
     let nc : first c ≡ None = none_alike (walked compartment_limits compartment_size (compartments_at r) [] r.compartments) c
     (walks_alike compartment_limits compartment_limits compartment_size compartment_size
-    (λ at place earlier k. compartment_alike (1 + sum_of compartment_entries earlier) (map compartment_name earlier) at place k) (compartments_at r) (compartments_at q) [] r.compartments) was.compartments in
+    (λ at place earlier k. compartment_alike (1 + sum_of raw_compartment_entries earlier) (map compartment_name earlier) at place k) (compartments_at r) (compartments_at q) [] r.compartments) was.compartments in
     let nl : first l ≡ None = none_alike (walked (library_limits r) library_size (libraries_at r) [] r.libraries) l
     (walks_alike (library_limits r) (library_limits q) library_size library_size
-    (λ at place earlier k. library_alike (first_library_entry r + sum_of library_entries earlier) (map compartment_name r.compartments ++ map library_name earlier) at place k)
+    (λ at place earlier k. library_alike (first_library_entry r + sum_of raw_library_entries earlier) (map compartment_name r.compartments ++ map library_name earlier) at place k)
     (libraries_at r) (libraries_at q) [] r.libraries) was.libraries in
     let nt : first t ≡ None = none_alike (walked (thread_limits r) (λ t. THREAD) (threads_at r) [] r.threads) t
     (walks_alike (thread_limits r) (thread_limits q) (λ t. THREAD) (λ t. THREAD)
-    (λ at place earlier k. threads_alike (owner_names r ++ map thread_name earlier) at place k) (threads_at r) (threads_at q) [] r.threads) was.threads in
+    (λ at place earlier k. threads_alike (raw_owner_names r ++ map thread_name earlier) at place k) (threads_at r) (threads_at q) [] r.threads) was.threads in
     joined_none (h ++ d ++ s ++ x ++ c ++ l) t
     (joined_none (h ++ d ++ s ++ x ++ c) l (joined_none (h ++ d ++ s ++ x) c (joined_none (h ++ d ++ s) x (joined_none (h ++ d) s (joined_none h d nh nd) ns) nx) nc) nl) nt

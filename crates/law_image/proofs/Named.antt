@@ -16,7 +16,7 @@ use Rattle.def_image.specs.Sizes.{compartments_at, libraries_at, threads_at}
 use Rattle.def_image.specs.Profile.{last_service}
 use Rattle.def_image.specs.Checks.{first, walked, check}
 use Rattle.def_image.specs.Limits.{misnumbered}
-use Rattle.def_image.specs.Indexes.{index_checks, compartment_asked, library_asked, thread_asked, own_slot_asked, slot_asked, part_size, code_size, is_own_astray, is_astray, is_named, is_reserved, is_switch, is_service, comes_before, enters, exports_of, code_in}
+use Rattle.def_image.specs.Indexes.{index_checks, compartment_asked, library_asked, thread_asked, own_slot_asked, slot_asked, part_size, code_size, is_own_astray, is_import_astray, is_slot_named, is_reserved, is_switch, is_service, comes_before, enters_export, exports_of, code_in}
 use Rattle.def_image.specs.Rights.{right_checks, compartment_rights, library_rights, right_asked, library_right_asked, fits_kind, rights_of, is_library}
 use Rattle.def_image.specs.Sound.{Names, IsInPlace, OwnSlotFits, LibrarySlotFits}
 use Rattle.law_image.proofs.Tells.{within_is}
@@ -82,7 +82,7 @@ linked ls l j e = by (slice_get ls l) refl e
 
 -- ---- slots
 
-pub names_of : (p : PartsRow) (r : ImportRow) (k : SlotKind) → is_named p r k ≡ true → misnumbered (kind_byte k) r.first ≡ false → Names p r k
+pub names_of : (p : PartsRow) (r : ImportRow) (k : SlotKind) → is_slot_named p r k ≡ true → misnumbered (kind_byte k) r.first ≡ false → Names p r k
 names_of p r Service e m = let le = ltb-false last_service r.first m in omega (arith, le)
 names_of p r Device e m = present p.devices r.first (ltb-true r.first (length p.devices) e)
 names_of p r Shared e m = present p.shared r.first (ltb-true r.first (length p.shared) e)
@@ -104,15 +104,15 @@ switch_names p r Quota e = absurd (let clash : false ≡ true = e in cc)
 switch_names p r Key e = absurd (let clash : false ≡ true = e in cc)
 
 pub record NotAstray (p : PartsRow) (r : ImportRow) : Type 0 where
-  pub named : is_named p r r.kind ≡ true
+  pub named : is_slot_named p r r.kind ≡ true
   pub free : is_reserved r ≡ false
 
-not_astray : (p : PartsRow) (earlier : List SlotRow) (r : ImportRow) → is_astray p earlier r ≡ false → NotAstray p r
+not_astray : (p : PartsRow) (earlier : List SlotRow) (r : ImportRow) → is_import_astray p earlier r ≡ false → NotAstray p r
 not_astray p earlier r e =
-    let a = not (is_named p r r.kind) in
+    let a = not (is_slot_named p r r.kind) in
     let b = is_reserved r in
     let ab = (or_parts (a || b) (list_any (comes_before r) earlier) e).0 in
-    record { named = not-false (is_named p r r.kind) (or_parts a b ab).0; free = (or_parts a b ab).1 }
+    record { named = not-false (is_slot_named p r r.kind) (or_parts a b ab).0; free = (or_parts a b ab).1 }
 
 -- the test of slot j of a compartment
 own_test : (p : PartsRow) → Indexed p → (b : ℕ) (c : CompartmentRow) → slice_get p.compartments b ≡ Some c → (j : ℕ) (s : SlotRow) → slice_get c.code.slots j ≡ Some s
@@ -128,7 +128,7 @@ own_fits p [] j s at e m = cc
 own_fits p (y ∷ ys) zero s at e m = let sw = not-false (is_switch s.row) e in (switch_names p s.row s.row.kind sw, sw)
 own_fits p (y ∷ ys) (suc j) s at e m =
     let more : nat_eq (length (y ∷ take j ys)) 0 ≡ false = some_more (length (take j ys)) in
-    let h = not_astray p (y ∷ take j ys) s.row (subst (λ b. cond b (not (is_switch s.row)) (is_astray p (y ∷ take j ys) s.row) ≡ false) more e) in
+    let h = not_astray p (y ∷ take j ys) s.row (subst (λ b. cond b (not (is_switch s.row)) (is_import_astray p (y ∷ take j ys) s.row) ≡ false) more e) in
     (names_of p s.row s.row.kind h.named m, h.free)
   where
     some_more : (n : ℕ) → nat_eq (suc n) 0 ≡ false
@@ -160,7 +160,7 @@ pub library_slot_fits : (p : PartsRow) → Indexed p → Righted p → (l : ℕ)
 library_slot_fits p h r l c is j s at m =
     let a = passes (library_asked p) code_size (libraries_at (raw_of p)) p.libraries h.libraries l c is in
     let one = passes (slot_asked p) (λ s. ENTRY) (a.0 + 52) c.slots a.1 j s at in
-    let test = (head_none (check one.0 (is_astray p (take j c.slots) s.row)) [] one.1).0 in
+    let test = (head_none (check one.0 (is_import_astray p (take j c.slots) s.row)) [] one.1).0 in
     let b = passes library_rights code_size (libraries_at (raw_of p)) p.libraries r.libraries l c is in
     let two = passes library_right_asked (λ s. ENTRY) (b.0 + 52) c.slots b.1 j s at in
     let fits = fits_kind s.row.kind (rights_of s.row) in
@@ -176,4 +176,4 @@ library_slot_fits p h r l c is j s at m =
 pub thread_enters : (p : PartsRow) → Indexed p → (i : ℕ) (t : ThreadRow) → slice_get p.threads i ≡ Some t → Called p.compartments t.compartment t.export
 thread_enters p h i t is =
     let a = passes (thread_asked p) (λ t. THREAD) (threads_at (raw_of p)) p.threads h.threads i t is in
-    called p.compartments t.compartment t.export (not-false (enters p t) (head_none (check (a.0 + 40) (not (enters p t))) [] a.1).0)
+    called p.compartments t.compartment t.export (not-false (enters_export p t) (head_none (check (a.0 + 40) (not (enters_export p t))) [] a.1).0)

@@ -137,12 +137,12 @@ pub compartment_limited : (p : PartsRow) → Limited (raw_of p) → (b : ℕ) (c
 unfolding raw_of
 compartment_limited p h b c is =
     let a = asked_of raw_compartment compartment_limits compartment_size (compartments_at (raw_of p)) p.compartments h.compartments b c is in
-    let sums : sum_of lim.compartment_entries (map raw_compartment (take b p.compartments)) ≡ sum_of mem.compartment_entries (take b p.compartments) =
-    sum_map lim.compartment_entries raw_compartment mem.compartment_entries (take b p.compartments) (λ x. counts x) in
-    let entry : 1 + sum_of lim.compartment_entries (map raw_compartment (take b p.compartments)) ≡ mem.code_number p b = ap (λ n. 1 + n) sums ∙ sym (number_is mem.compartment_entries 1 p.compartments b c is) in
-    subst (λ n. CompartmentLimited c n) entry (compartment_limited_by c (1 + sum_of lim.compartment_entries (map raw_compartment (take b p.compartments))) a.0 (map lim.compartment_name (map raw_compartment (take b p.compartments))) a.1)
+    let sums : sum_of lim.raw_compartment_entries (map raw_compartment (take b p.compartments)) ≡ sum_of mem.compartment_entries (take b p.compartments) =
+    sum_map lim.raw_compartment_entries raw_compartment mem.compartment_entries (take b p.compartments) (λ x. counts x) in
+    let entry : 1 + sum_of lim.raw_compartment_entries (map raw_compartment (take b p.compartments)) ≡ mem.code_number p b = ap (λ n. 1 + n) sums ∙ sym (number_is mem.compartment_entries 1 p.compartments b c is) in
+    subst (λ n. CompartmentLimited c n) entry (compartment_limited_by c (1 + sum_of lim.raw_compartment_entries (map raw_compartment (take b p.compartments))) a.0 (map lim.compartment_name (map raw_compartment (take b p.compartments))) a.1)
   where
-    counts : (x : CompartmentRow) → lim.compartment_entries (raw_compartment x) ≡ mem.compartment_entries x
+    counts : (x : CompartmentRow) → lim.raw_compartment_entries (raw_compartment x) ≡ mem.compartment_entries x
     counts x = let s = length-map x.code.slots raw_slot in let e = length-map x.code.exports raw_gate in omega (arith, s, e)
 
 pub record LibraryLimited (c : CodeRow) (entry : ℕ) : Type 0 where
@@ -170,20 +170,20 @@ pub library_limited : (p : PartsRow) → Limited (raw_of p) → (l : ℕ) (c : C
 unfolding raw_of
 library_limited p h l c is =
     let a = asked_of raw_code (library_limits (raw_of p)) library_size (libraries_at (raw_of p)) p.libraries h.libraries l c is in
-    let before : sum_of lim.compartment_entries (map raw_compartment p.compartments) ≡ sum_of mem.compartment_entries p.compartments =
-    sum_map lim.compartment_entries raw_compartment mem.compartment_entries p.compartments (λ x. owned x) in
-    let sums : sum_of lim.library_entries (map raw_code (take l p.libraries)) ≡ sum_of mem.library_entries (take l p.libraries) =
-    sum_map lim.library_entries raw_code mem.library_entries (take l p.libraries) (λ x. counts x) in
+    let before : sum_of lim.raw_compartment_entries (map raw_compartment p.compartments) ≡ sum_of mem.compartment_entries p.compartments =
+    sum_map lim.raw_compartment_entries raw_compartment mem.compartment_entries p.compartments (λ x. owned x) in
+    let sums : sum_of lim.raw_library_entries (map raw_code (take l p.libraries)) ≡ sum_of mem.library_entries (take l p.libraries) =
+    sum_map lim.raw_library_entries raw_code mem.library_entries (take l p.libraries) (λ x. counts x) in
     let number = number_is mem.library_entries (mem.first_library p) p.libraries l c is in
-    let entry : 1 + sum_of lim.compartment_entries (map raw_compartment p.compartments) + sum_of lim.library_entries (map raw_code (take l p.libraries)) ≡ mem.library_number p l =
-    ap (λ n. 1 + n + sum_of lim.library_entries (map raw_code (take l p.libraries))) before ∙ ap (λ n. mem.first_library p + n) sums ∙ sym number in
-    subst (λ n. LibraryLimited c n) entry (library_limited_by c (1 + sum_of lim.compartment_entries (map raw_compartment p.compartments) + sum_of lim.library_entries (map raw_code (take l p.libraries))) a.0
+    let entry : 1 + sum_of lim.raw_compartment_entries (map raw_compartment p.compartments) + sum_of lim.raw_library_entries (map raw_code (take l p.libraries)) ≡ mem.library_number p l =
+    ap (λ n. 1 + n + sum_of lim.raw_library_entries (map raw_code (take l p.libraries))) before ∙ ap (λ n. mem.first_library p + n) sums ∙ sym number in
+    subst (λ n. LibraryLimited c n) entry (library_limited_by c (1 + sum_of lim.raw_compartment_entries (map raw_compartment p.compartments) + sum_of lim.raw_library_entries (map raw_code (take l p.libraries))) a.0
     (map lim.compartment_name (map raw_compartment p.compartments) ++ map lim.library_name (map raw_code (take l p.libraries))) a.1)
   where
-    owned : (x : CompartmentRow) → lim.compartment_entries (raw_compartment x) ≡ mem.compartment_entries x
+    owned : (x : CompartmentRow) → lim.raw_compartment_entries (raw_compartment x) ≡ mem.compartment_entries x
     owned x = let s = length-map x.code.slots raw_slot in let e = length-map x.code.exports raw_gate in omega (arith, s, e)
 
-    counts : (x : CodeRow) → lim.library_entries (raw_code x) ≡ mem.library_entries x
+    counts : (x : CodeRow) → lim.raw_library_entries (raw_code x) ≡ mem.library_entries x
     counts x = let s = length-map x.slots raw_slot in let e = length-map x.exports raw_gate in omega (arith, s, e)
 
 -- ---- exports as they fit

@@ -10,7 +10,7 @@ use Rattle.def_image.specs.Sizes.{sealed_size, compartment_size, library_size, h
 use Rattle.def_image.specs.Spelling.{raw_sealed, raw_compartment, raw_code, raw_of}
 use Rattle.def_image.specs.Regions.{RegionRow, shared_regions, sealed_regions, compartment_regions, library_regions, stack_regions, trusted_region, later_regions}
 use Rattle.def_image.specs.Checks.{first, walked, check}
-use Rattle.def_image.specs.Lying.{region_checks, device_asked, region_asked, is_laid, is_laid_below, is_in_ram, is_even, is_heap_laid, meets_region, meets_native}
+use Rattle.def_image.specs.Lying.{region_checks, device_asked, region_asked, is_laid, is_laid_below, is_in_ram, is_even, is_heap_laid, meets_region, overlaps_native}
 use Rattle.def_words.specs.LeastBounds.{rounded_of}
 use Rattle.law_image.proofs.Flags.{flags, joined, none_alike, walks_alike}
 
@@ -108,12 +108,12 @@ walk_upgraded p earlier rs = walks_alike (region_asked p) (region_asked (upgrade
 -- all but the regions after the trusted one
 abbrev head : PartsRow → List Check
 head p =
-    check 36 (meets_native p.ram p.size) ∷ check 44 (not (is_laid p [] (trusted_region p))) ∷ check 48 (not (is_heap_laid p))
+    check 36 (overlaps_native p.ram p.size) ∷ check 44 (not (is_laid p [] (trusted_region p))) ∷ check 48 (not (is_heap_laid p))
     ∷ walked (device_asked p) (λ d. DEVICE) (header_size p.version) [] p.devices
 
 head_alike : (p : PartsRow) → flags (head p) ≡ flags (head (upgraded p))
 head_alike p =
-    ap (λ l. meets_native p.ram p.size ∷ not (is_laid p [] (trusted_region p)) ∷ not (is_heap_laid p) ∷ l)
+    ap (λ l. overlaps_native p.ram p.size ∷ not (is_laid p [] (trusted_region p)) ∷ not (is_heap_laid p) ∷ l)
     (walks_alike (device_asked p) (device_asked (upgraded p)) (λ d. DEVICE) (λ d. DEVICE) (devices_alike p) (header_size p.version) (header_size (upgraded p).version) [] p.devices)
 
 pub regions_stay : (p : PartsRow) → first (region_checks p) ≡ None → first (region_checks (upgraded p)) ≡ None

@@ -9,13 +9,13 @@ use Rattle.def_image.specs.Parts.{SlotRow, CodeRow, CompartmentRow, ThreadRow, P
 use Rattle.def_image.specs.Sizes.{compartments_at, libraries_at, threads_at}
 use Rattle.def_image.specs.Spelling.{raw_of}
 use Rattle.def_image.specs.Checks.{first, walked}
-use Rattle.def_image.specs.Indexes.{is_named, is_astray, is_reserved, is_switch, comes_before, slot_asked, own_slot_asked, compartment_asked, library_asked, thread_asked, part_size, code_size, index_checks}
+use Rattle.def_image.specs.Indexes.{is_slot_named, is_import_astray, is_reserved, is_switch, comes_before, slot_asked, own_slot_asked, compartment_asked, library_asked, thread_asked, part_size, code_size, index_checks}
 use Rattle.def_image.specs.Rights.{right_asked, library_right_asked, compartment_rights, library_rights, right_checks}
 use Rattle.law_image.proofs.Flags.{flags, joined, none_alike, walks_alike}
 
 -- ---- what is named
 
-named_alike : (p : PartsRow) (r : ImportRow) (k : SlotKind) → is_named p r k ≡ is_named (upgraded p) r k
+named_alike : (p : PartsRow) (r : ImportRow) (k : SlotKind) → is_slot_named p r k ≡ is_slot_named (upgraded p) r k
 named_alike p r Service = refl
 named_alike p r Device = refl
 named_alike p r Shared = refl
@@ -25,7 +25,7 @@ named_alike p r Library = refl
 named_alike p r Quota = refl
 named_alike p r Key = refl
 
-astray_alike : (p : PartsRow) (earlier : List SlotRow) (r : ImportRow) → is_astray p earlier r ≡ is_astray (upgraded p) earlier r
+astray_alike : (p : PartsRow) (earlier : List SlotRow) (r : ImportRow) → is_import_astray p earlier r ≡ is_import_astray (upgraded p) earlier r
 astray_alike p earlier r = ap (λ b. not b || is_reserved r || list_any (comes_before r) earlier) (named_alike p r r.kind)
 
 slots_alike : (p : PartsRow) (at place : ℕ) (earlier : List SlotRow) (s : SlotRow) → flags (slot_asked p at earlier s) ≡ flags (slot_asked (upgraded p) place earlier s)

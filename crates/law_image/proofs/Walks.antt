@@ -4,26 +4,26 @@ use Rattle.std.proofs.lemmas.List.{drop_more, take_more, nil_from_length, length
 use Rattle.def_image.specs.declared.Check.{Check}
 use Rattle.def_image.specs.Checks.{first, walked}
 use Rattle.def_image.specs.Sizes.{sum_of}
-use Rattle.def_image.specs.First.{or_else}
+use Rattle.def_image.specs.First.{first_some}
 
-first_by : (b : Bool) (a : ℕ) (x y : Option ℕ) → cond b (Some a) (or_else x y) ≡ or_else (cond b (Some a) x) y
+first_by : (b : Bool) (a : ℕ) (x y : Option ℕ) → cond b (Some a) (first_some x y) ≡ first_some (cond b (Some a) x) y
 first_by true a x y = refl
 first_by false a x y = refl
 
-pub first_both : (xs ys : List Check) → first (xs ++ ys) ≡ or_else (first xs) (first ys)
+pub first_both : (xs ys : List Check) → first (xs ++ ys) ≡ first_some (first xs) (first ys)
 unfolding first
 first_both [] ys = refl
 first_both (x ∷ xs) ys = ap (λ z. cond x.fails (Some x.place) z) (first_both xs ys) ∙ first_by x.fails x.place (first xs) (first ys)
 
-pub or_later : (a b c : Option ℕ) → or_else (or_else a b) c ≡ or_else a (or_else b c)
+pub or_later : (a b c : Option ℕ) → first_some (first_some a b) c ≡ first_some a (first_some b c)
 or_later None b c = refl
 or_later (Some n) b c = refl
 
 pub first_here : (xs ys : List Check) (a : ℕ) → first xs ≡ Some a → first (xs ++ ys) ≡ Some a
-first_here xs ys a e = first_both xs ys ∙ ap (λ z. or_else z (first ys)) e
+first_here xs ys a e = first_both xs ys ∙ ap (λ z. first_some z (first ys)) e
 
 pub first_later : (xs ys : List Check) → first xs ≡ None → first (xs ++ ys) ≡ first ys
-first_later xs ys e = first_both xs ys ∙ ap (λ z. or_else z (first ys)) e
+first_later xs ys e = first_both xs ys ∙ ap (λ z. first_some z (first ys)) e
 
 -- ---- a walk that has come to member i
 

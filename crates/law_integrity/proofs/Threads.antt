@@ -23,7 +23,7 @@ use Rattle.def_step.specs.Checks.{first_failed}
 use Rattle.def_step.specs.Instructions.{Effect, executed, operand}
 use Rattle.def_step.specs.Operands.{operands_of}
 use Rattle.def_step.specs.Quotas.{let_go}
-use Rattle.def_step.specs.Routines.{answered, wakes, word_checks}
+use Rattle.def_step.specs.Routines.{answered, threads_woken, word_checks}
 use Rattle.def_safety.specs.Accesses.{IsUseAt}
 use Rattle.def_words.specs.Permissions.{load_data}
 use Rattle.def_integrity.specs.Threads.{IsWoken}
@@ -63,7 +63,7 @@ waits_at address Ended e = absurd (let clash : false ≡ true = e in cc)
 woken_at : (address most : ℕ) (ss : List Status) (u : ℕ) (x : Thread) → status_of ss u ≡ x.status
     → (with_status x (after_wake address most ss u) ≡ x) ⊎ ((x.status ≡ Waiting address) × (with_status x (after_wake address most ss u) ≡ with_status x Ready))
 woken_at address most ss u x is = chosen (λ (z : Status). (with_status x z ≡ x) ⊎ ((x.status ≡ Waiting address) × (with_status x z ≡ with_status x Ready))) (does_wake address most ss u) Ready (status_of ss u)
-    (λ wakes. inr (sym is ∙ waits_at address (status_of ss u) (both_left (waits_for address (status_of ss u)) (nat_lt (waiting_below address ss u) most) wakes), refl))
+    (λ threads_woken. inr (sym is ∙ waits_at address (status_of ss u) (both_left (waits_for address (status_of ss u)) (nat_lt (waiting_below address ss u) most) threads_woken), refl))
     (λ not. inl (ap (λ z. with_status x z) is))
 
 -- ---- what another thread may be after a step of a thread
@@ -101,7 +101,7 @@ module _ (b : Platform) (s : State) (t : ℕ) (held : Confined b.image s) (runs 
   returned_self i (f ∷ g ∷ gs) u = one_self _ u
 
   woken_self : MayFetch s t → first_failed (word_checks b.image s (register (thread s t) 10)) ≡ None
-      → AllSelves b s t (wakes s t (cap_address (register (thread s t) 10)) (cap_address (register (thread s t) 11))) None
+      → AllSelves b s t (threads_woken s t (cap_address (register (thread s t) 10)) (cap_address (register (thread s t) 11))) None
   woken_self fetched none u = elim (cases_eq t u) [
     | inl is ↦ own is
     | inr other ↦
@@ -114,7 +114,7 @@ module _ (b : Platform) (s : State) (t : ℕ) (held : Confined b.image s) (runs 
         elim (statuses_at (slice_set s.threads t new) (after_wake address most ss) 0 (length ss) u) [
           | inl left ↦ same (left ∙ kept)
           | inr put ↦
-              let is : thread (wakes s t address most) u ≡ with_status (thread s u) (after_wake address most ss u) =
+              let is : thread (threads_woken s t address most) u ≡ with_status (thread s u) (after_wake address most ss u) =
               put ∙ ap (λ (z : Thread). with_status z (after_wake address most ss (0 + u))) kept ∙ ap (λ n. with_status (thread s u) (after_wake address most ss n)) (let e : 0 + u ≡ u = omega arith in e) in
               elim (woken_at address most ss u (thread s u) (status_at s.threads u)) [
                 | inl stays ↦ same (is ∙ stays)

@@ -8,7 +8,7 @@ use Rattle.def_words.specs.LeastBounds.{floor_units, ceil_units, exponent_for, r
 use Rattle.law_words.proofs.Leasts.{exponent_is, ceil_above, ceil_le, floor_under}
 use Rattle.law_words.proofs.Exacts.{no_larger, exact_flag}
 use Rattle.def_layout.specs.declared.Region.{Region}
-use Rattle.def_layout.specs.Placement.{whole_size, region_length, region_base, region, placed, last_end, needed}
+use Rattle.def_layout.specs.Placement.{whole_size, region_length, region_base, region_from, placed, last_end, needed}
 use Rattle.def_layout.specs.Lies.{AreSmall, IsSpelled}
 use Rattle.law_layout.proofs.Multiples.{whole_of, coarser, ceil_whole, base_least, after}
 
@@ -16,7 +16,7 @@ use Rattle.law_layout.proofs.Multiples.{whole_of, coarser, ceil_whole, base_leas
 abbrev pub next_end : ℕ → ℕ → ℕ
 next_end end n = region_base end n + region_length n
 
-pub placed_cons : (end n : ℕ) (ns : List ℕ) → placed end (n ∷ ns) ≡ region (region_base end n) (region_length n) ∷ placed (next_end end n) ns
+pub placed_cons : (end n : ℕ) (ns : List ℕ) → placed end (n ∷ ns) ≡ region_from (region_base end n) (region_length n) ∷ placed (next_end end n) ns
 unfolding placed
 placed_cons end n ns = refl
 
@@ -47,14 +47,14 @@ each_one end (n ∷ ns) = ap suc (each_one (next_end end n) ns)
 pub sized : (end : ℕ) (ns : List ℕ) (i n : ℕ) (r : Region) → slice_get ns i ≡ Some n → slice_get (placed end ns) i ≡ Some r → r.length ≡ region_length n
 unfolding placed
 sized end [] i n r a b = cc
-sized end (m ∷ ns) zero n r a b = let same : m ≡ n = cc in let one : region (region_base end m) (region_length m) ≡ r = cc in ap (λ (g : Region). g.length) (sym one) ∙ ap region_length same
+sized end (m ∷ ns) zero n r a b = let same : m ≡ n = cc in let one : region_from (region_base end m) (region_length m) ≡ r = cc in ap (λ (g : Region). g.length) (sym one) ∙ ap region_length same
 sized end (m ∷ ns) (suc i) n r a b = sized (next_end end m) ns i n r a b
 
 pub low : (end : ℕ) (ns : List ℕ) (i : ℕ) (r : Region) → slice_get (placed end ns) i ≡ Some r → end ≤ r.base
 unfolding placed
 low end [] i r b = cc
 low end (m ∷ ns) zero r b =
-    let one : region (region_base end m) (region_length m) ≡ r = cc in
+    let one : region_from (region_base end m) (region_length m) ≡ r = cc in
     subst (λ (g : Region). end ≤ g.base) one (after end m)
 low end (m ∷ ns) (suc i) r b = let rest = low (next_end end m) ns i r b in let step : end ≤ region_base end m = after end m in omega (arith, rest, step)
 
@@ -62,7 +62,7 @@ pub high : (end : ℕ) (ns : List ℕ) (i : ℕ) (r : Region) → slice_get (pla
 unfolding placed last_end
 high end [] i r b = cc
 high end (m ∷ ns) zero r b =
-    let one : region (region_base end m) (region_length m) ≡ r = cc in
+    let one : region_from (region_base end m) (region_length m) ≡ r = cc in
     subst (λ (g : Region). g.base + g.length ≤ last_end (next_end end m) ns) one (grows (next_end end m) ns)
 high end (m ∷ ns) (suc i) r b = high (next_end end m) ns i r b
 
@@ -71,7 +71,7 @@ unfolding placed
 apart end [] i j r q a b lt = cc
 apart end (m ∷ ns) i zero r q a b lt = absurd (omega (arith, lt))
 apart end (m ∷ ns) zero (suc j) r q a b lt =
-    let one : region (region_base end m) (region_length m) ≡ r = cc in
+    let one : region_from (region_base end m) (region_length m) ≡ r = cc in
     subst (λ (g : Region). g.base + g.length ≤ q.base) one (low (next_end end m) ns j q b)
 apart end (m ∷ ns) (suc i) (suc j) r q a b lt = apart (next_end end m) ns i j r q a b (omega (arith, lt))
 
@@ -154,7 +154,7 @@ exact_units base k e small even few =
     (whole_of base (exponent_for base top) even_now)
     (ap (λ n. n * 2 ^ exponent_for base top) (ceil_whole top (exponent_for base top) ends_now) ∙ whole_of top (exponent_for base top) ends_now)
 
-pub spelled_one : (end n : ℕ) → n ≤ 2097152 → IsSpelled (region (region_base end n) (region_length n))
+pub spelled_one : (end n : ℕ) → n ≤ 2097152 → IsSpelled (region_from (region_base end n) (region_length n))
 spelled_one end n le = record {
   even = (base_least end n).even;
   whole = length_whole n;
@@ -166,7 +166,7 @@ pub spelled : (end : ℕ) (ns : List ℕ) (i : ℕ) (r : Region) → AreSmall ns
 unfolding placed
 spelled end [] i r small b = cc
 spelled end (m ∷ ns) zero r small b =
-    let one : region (region_base end m) (region_length m) ≡ r = cc in
+    let one : region_from (region_base end m) (region_length m) ≡ r = cc in
     subst IsSpelled one (spelled_one end m small.0)
 spelled end (m ∷ ns) (suc i) r small b = spelled (next_end end m) ns i r small.1 b
 

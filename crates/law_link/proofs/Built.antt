@@ -6,12 +6,12 @@ use Rattle.def_layout.specs.declared.Region.{Region}
 use Rattle.def_layout.specs.Placement.{placed, last_end, needed}
 use Rattle.def_image.specs.Sizes.{sum_of}
 use Rattle.def_image.specs.Parts.{CodeRow as CodePart, CompartmentRow as CompartmentPart, PartsRow}
-use Rattle.def_desc.specs.Rows.{CompartmentRow, LibraryRow, DescRow}
+use Rattle.def_desc.specs.Rows.{DescCompartment, LibraryRow, DescRow}
 use Rattle.def_link.specs.declared.LinkFault.{LinkFault}
 use Rattle.def_link.specs.declared.LinkFault.TheVariants as fault
-use Rattle.def_link.specs.Owners.{Unit as OwnerUnit, Built, compartment_unit, library_unit, numbered, units_of, unit_built, with_front, source_for, rest_of, all_built}
-use Rattle.def_link.specs.Slots.{compartment_gates, library_gates}
-use Rattle.def_link.specs.Linked.{BuiltCompartment, BuiltLibrary, compartments_with, libraries_with, sizes_of, compartment_slot_count, compartment_part, library_part, compartment_parts, compartment_entries, library_parts, library_entries, parts_of, linked_with, linked}
+use Rattle.def_link.specs.Owners.{Unit as OwnerUnit, Built, compartment_unit, library_unit, numbered, units_of, unit_built, built_before, source_for, rest_of, all_built}
+use Rattle.def_link.specs.Slots.{compartment_gate_rows, library_gate_rows}
+use Rattle.def_link.specs.Linked.{BuiltCompartment, BuiltLibrary, compartments_with, libraries_with, sizes_of, compartment_slot_count, compartment_part, library_part, compartment_parts, built_compartment_entries, library_parts, built_library_entries, parts_of, linked_with, linked}
 use Rattle.def_link.specs.Links.{RowsLinkTo}
 use Rattle.law_link.proofs.Indexed.{numbered_length}
 use Rattle.def_link.specs.Code.{source_in, CompartmentCode, LibraryCode}
@@ -53,7 +53,7 @@ owned (v ∷ us) sources bs i u e at = by i (unit_built v (source_for v.code.fil
     (λ j cs h there. owned us (rest_of v.code.file sources) cs j u h there)
   where
     by : (i : ℕ) (o : Result Built LinkFault) → unit_built v (source_for v.code.file sources) ≡ o
-        → (r : Result (List Built) LinkFault) → all_built us (rest_of v.code.file sources) ≡ r → with_front o r ≡ Ok bs → slice_get (v ∷ us) i ≡ Some u
+        → (r : Result (List Built) LinkFault) → all_built us (rest_of v.code.file sources) ≡ r → built_before o r ≡ Ok bs → slice_get (v ∷ us) i ≡ Some u
         → ((j : ℕ) (cs : List Built) → all_built us (rest_of v.code.file sources) ≡ Ok cs → slice_get us j ≡ Some u → Owned u (source_in us (rest_of v.code.file sources) j) cs j)
         → Owned u (source_in (v ∷ us) sources i) bs i
     by i (Err f) is r rest h there so = absurd (let no : Err f ≡ Ok bs = h in cc)
@@ -71,7 +71,7 @@ owned (v ∷ us) sources bs i u e at = by i (unit_built v (source_for v.code.fil
         let later = so j cs rest there in
         record { built = later.built; at = ap (λ (l : List Built). slice_get l (suc j)) (sym same) ∙ later.at; is = later.is }
 
-with_at : (cs : List CompartmentRow) (bs : List Built) (i : ℕ) (row : CompartmentRow) (b : Built) → slice_get cs i ≡ Some row → slice_get bs i ≡ Some b
+with_at : (cs : List DescCompartment) (bs : List Built) (i : ℕ) (row : DescCompartment) (b : Built) → slice_get cs i ≡ Some row → slice_get bs i ≡ Some b
     → slice_get (compartments_with cs (take (length cs) bs)) i ≡ Some (record { row = row; built = b })
 with_at [] bs i row b at there = absurd (let no : None ≡ Some row = at in cc)
 with_at (c ∷ cs) [] i row b at there = absurd (let no : None ≡ Some b = there in cc)
@@ -103,7 +103,7 @@ record CompartmentIs (x : BuiltCompartment) (c : CompartmentPart) : Type 0 where
   pub text : c.code.text ≡ x.built.text
   pub initial : c.initial ≡ x.built.initial
   pub entry : ℕ
-  pub exports : c.code.exports ≡ compartment_gates x.built entry x.row
+  pub exports : c.code.exports ≡ compartment_gate_rows x.built entry x.row
 
 compartment_is : (d : DescRow) (entry : ℕ) (regions : List Region) (xs : List BuiltCompartment) (i : ℕ) (x : BuiltCompartment) (c : CompartmentPart)
     → slice_get xs i ≡ Some x → slice_get (compartment_parts d entry regions xs) i ≡ Some c → CompartmentIs x c
@@ -114,12 +114,12 @@ compartment_is d entry regions (y ∷ ys) zero x c at there =
     let part = compartment_part d entry regions y in
     let two : part ≡ c = cc in
     subst (λ (z : BuiltCompartment). CompartmentIs z c) one (subst (CompartmentIs y) two (record { text = refl; initial = refl; entry = entry + 2 + compartment_slot_count y.row; exports = refl }))
-compartment_is d entry regions (y ∷ ys) (suc i) x c at there = compartment_is d (entry + compartment_entries y) (drop 3 regions) ys i x c at there
+compartment_is d entry regions (y ∷ ys) (suc i) x c at there = compartment_is d (entry + built_compartment_entries y) (drop 3 regions) ys i x c at there
 
 record LibraryIs (x : BuiltLibrary) (c : CodePart) : Type 0 where
   pub text : c.text ≡ x.built.text
   pub entry : ℕ
-  pub exports : c.exports ≡ library_gates x.built entry x.row
+  pub exports : c.exports ≡ library_gate_rows x.built entry x.row
 
 library_is : (d : DescRow) (entry : ℕ) (regions : List Region) (xs : List BuiltLibrary) (i : ℕ) (x : BuiltLibrary) (c : CodePart)
     → slice_get xs i ≡ Some x → slice_get (library_parts d entry regions xs) i ≡ Some c → LibraryIs x c
@@ -130,7 +130,7 @@ library_is d entry regions (y ∷ ys) zero x c at there =
     let part = library_part d entry regions y in
     let two : part ≡ c = cc in
     subst (λ (z : BuiltLibrary). LibraryIs z c) one (subst (LibraryIs y) two (record { text = refl; entry = entry + 1 + length y.row.imports; exports = refl }))
-library_is d entry regions (y ∷ ys) (suc i) x c at there = library_is d (entry + library_entries y) (drop 1 regions) ys i x c at there
+library_is d entry regions (y ∷ ys) (suc i) x c at there = library_is d (entry + built_library_entries y) (drop 1 regions) ys i x c at there
 
 -- ---- what was linked
 
@@ -162,14 +162,14 @@ whole d sources p e = by (all_built (units_of d) sources) refl e
         record {
           bs = bs;
           built = is;
-          entry = 1 + sum_of compartment_entries cs;
+          entry = 1 + sum_of built_compartment_entries cs;
           regions = all;
           later = drop (3 * length cs) all;
           compartments = ap (λ (q : PartsRow). q.compartments) (sym same);
           libraries = ap (λ (q : PartsRow). q.libraries) (sym same);
         }
 
-pub compartment_built : (d : DescRow) (sources : List (List ℕ)) (p : PartsRow) (i : ℕ) (row : CompartmentRow) (c : CompartmentPart)
+pub compartment_built : (d : DescRow) (sources : List (List ℕ)) (p : PartsRow) (i : ℕ) (row : DescCompartment) (c : CompartmentPart)
     → RowsLinkTo d sources p → slice_get d.compartments i ≡ Some row → slice_get p.compartments i ≡ Some c → CompartmentCode d sources i row c
 compartment_built d sources p i row c h at there =
     let w = whole d sources p h.linked in

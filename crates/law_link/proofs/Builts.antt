@@ -9,11 +9,11 @@ use Rattle.def_source.specs.declared.AsmFault.TheVariants as asm
 use Rattle.def_source.specs.Source.{Statements, program_of}
 use Rattle.def_object.specs.declared.Fault.{Fault}
 use Rattle.def_object.specs.Object.{label_in, undeclared_in, fault_in, text_of, initial_of}
-use Rattle.def_desc.specs.Rows.{CodeRow, AtRow}
+use Rattle.def_desc.specs.Rows.{DescCode, AtRow}
 use Rattle.def_desc.specs.Lawful.{IsLawfulCode}
 use Rattle.def_link.specs.declared.LinkFault.{LinkFault}
 use Rattle.def_link.specs.declared.LinkFault.TheVariants as fault
-use Rattle.def_link.specs.Owners.{Unit as OwnerUnit, Built, words_built, assembled_or, read_or, built_by, built, label_or, is_begin, begin_of, first_lost, has_stray_bytes, placed_or, checked, unit_built}
+use Rattle.def_link.specs.Owners.{Unit as OwnerUnit, Built, words_built, assembled_or, read_or, built_by, built, label_or, is_begin, begin_of, first_lost, has_stray_bytes, placed_or, unit_checked, unit_built}
 use Rattle.law_link.proofs.Texts.{IsText, source_lawful, object_text, words_text}
 
 -- ---- the text
@@ -36,7 +36,7 @@ read_sound owner slots source b (Ok ss) is e = assembled_sound owner slots sourc
 read_sound owner slots source b (Err (asm.At number line)) is e = absurd (let no : Err (fault.Asm owner number line) ≡ Ok b = e in cc)
 read_sound owner slots source b (Err asm.NoMemory) is e = absurd (let no : Err fault.NoMemory ≡ Ok b = e in cc)
 
-built_sound : (owner : Owner) (slots : List (List ℕ)) (code : CodeRow) (source : List ℕ) (b : Built) → IsLawfulCode code
+built_sound : (owner : Owner) (slots : List (List ℕ)) (code : DescCode) (source : List ℕ) (b : Built) → IsLawfulCode code
     → (file : Option (List ℕ)) → built_by owner slots code.words source file ≡ Ok b → IsSound b
 unfolding IsSound
 built_sound owner slots code source b h None e =
@@ -105,7 +105,7 @@ pub unit_sound : (u : OwnerUnit) (source : List ℕ) (c : Built) → IsLawfulCod
 unfolding IsSound
 unit_sound u source c h e = by (built u.owner u.slots u.code source) refl e
   where
-    by : (r : Result Built LinkFault) → built u.owner u.slots u.code source ≡ r → checked u r ≡ Ok c → UnitSound u c
+    by : (r : Result Built LinkFault) → built u.owner u.slots u.code source ≡ r → unit_checked u r ≡ Ok c → UnitSound u c
     by (Err f) is k = absurd (let no : Err f ≡ Ok c = k in cc)
     by (Ok b) is k =
         let same = placed_same u b c (first_lost b 0 u.exports) k in

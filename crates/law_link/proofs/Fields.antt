@@ -16,7 +16,7 @@ use Rattle.def_image.specs.Shapes.{IsField}
 use Rattle.def_image.specs.Profile.{outside}
 use Rattle.def_image.specs.Sound.{IsWithin}
 use Rattle.def_image.specs.Checks.{first, check}
-use Rattle.def_image.specs.Limits.{name_of, are_zeros, name_checks}
+use Rattle.def_image.specs.Limits.{name_in_field, are_zeros, name_checks}
 use Rattle.law_link.proofs.Walks.{next_none}
 use Rattle.law_image.proofs.Passing.{one_none}
 use Rattle.law_image.proofs.Backs.{no_name}
@@ -86,15 +86,15 @@ padded n = record { size = length-replicate (padding_after n) 0; each = zeros_by
 
 -- ---- a name's field
 
-ends : (name : List ℕ) (k : ℕ) → AllByRecursion (λ b. 0 < b) name → name_of (name ++ zeros k) ≡ name
+ends : (name : List ℕ) (k : ℕ) → AllByRecursion (λ b. 0 < b) name → name_in_field (name ++ zeros k) ≡ name
 ends [] k h = no_name k
 ends (b ∷ bs) k h =
     let some = h.0 in
     let other : nat_eq b 0 ≡ false = elim (eq_tells b 0) [ inl t ↦ absurd (let is = t.1 in omega (arith, is, some)) | inr t ↦ t.0 ] in
-    ap (λ c. cond c [] (b ∷ name_of (bs ++ zeros k))) other ∙ ap (λ l. b ∷ l) (ends bs k h.1)
+    ap (λ c. cond c [] (b ∷ name_in_field (bs ++ zeros k))) other ∙ ap (λ l. b ∷ l) (ends bs k h.1)
 
 -- the name that a field gives back
-pub name_back : (n : List ℕ) → IsName n → name_of (name_field n) ≡ n
+pub name_back : (n : List ℕ) → IsName n → name_in_field (name_field n) ≡ n
 name_back n h = ends n (32 - length n) h.clean
 
 pub name_is_field : (n : List ℕ) → IsName n → IsField 32 (name_field n)
@@ -113,12 +113,12 @@ unfolding name_checks
 name_passes at unwanted seen n formed new wanted =
     let h = name_is n formed in
     let back = name_back n h in
-    let first_is : (not (is_name (name_of (name_field n))) || among (name_of (name_field n)) seen || unwanted) ≡ false = rw back (rw (formed, new, wanted) refl) in
-    let second_is : not (are_zeros (drop (length (name_of (name_field n))) (name_field n))) ≡ false =
+    let first_is : (not (is_name (name_in_field (name_field n))) || among (name_in_field (name_field n)) seen || unwanted) ≡ false = rw back (rw (formed, new, wanted) refl) in
+    let second_is : not (are_zeros (drop (length (name_in_field (name_field n))) (name_field n))) ≡ false =
     rw back (ap (λ l. not (are_zeros l)) (drop_at n (zeros (32 - length n)) (length n) refl) ∙ ap not (zeros_are (32 - length n))) in
-    next_none (check at (not (is_name (name_of (name_field n))) || among (name_of (name_field n)) seen || unwanted))
-    (check (at + length (name_of (name_field n))) (not (are_zeros (drop (length (name_of (name_field n))) (name_field n)))) ∷ []) first_is
-    (one_none (at + length (name_of (name_field n))) (not (are_zeros (drop (length (name_of (name_field n))) (name_field n)))) second_is)
+    next_none (check at (not (is_name (name_in_field (name_field n))) || among (name_in_field (name_field n)) seen || unwanted))
+    (check (at + length (name_in_field (name_field n))) (not (are_zeros (drop (length (name_in_field (name_field n))) (name_field n)))) ∷ []) first_is
+    (one_none (at + length (name_in_field (name_field n))) (not (are_zeros (drop (length (name_in_field (name_field n))) (name_field n)))) second_is)
 
 -- ---- names that stand once
 

@@ -5,7 +5,7 @@ use Rattle.std.proofs.lemmas.Option.{slice_get-map}
 use Rattle.std.proofs.lemmas.List.{length-map}
 use Rattle.std.proofs.lemmas.Slice.Eq.{bytes_eq-Decides}
 use Rattle.law_lists.proofs.Tests.{lt_tells}
-use Rattle.def_desc.specs.Rows.{ExportRow, CompartmentRow, LexportRow, LibraryRow, DescRow}
+use Rattle.def_desc.specs.Rows.{ExportRow, DescCompartment, LexportRow, LibraryRow, DescRow}
 use Rattle.def_desc.specs.References.{export_name}
 use Rattle.def_desc.specs.Named.{export_names, library_export_names}
 use Rattle.def_desc.specs.Lawful.{Has, IsCallImport, IsLent}
@@ -73,7 +73,7 @@ find_export name n (x ∷ xs) (suc i) owner is h = by (nat_lt (index_of name (fu
       | inr t ↦ absurd (let no : true ≡ false = sym is ∙ t.0 in cc)
     ]
 
-unfoldable pub exporter_of : CompartmentRow → Exporter
+unfoldable pub exporter_of : DescCompartment → Exporter
 exporter_of c = record { name = c.name; exports = export_names c }
 
 unfoldable pub library_exporter_of : LibraryRow → Exporter

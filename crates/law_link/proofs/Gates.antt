@@ -14,11 +14,11 @@ use Rattle.def_image.specs.Profile.{outside}
 use Rattle.def_image.specs.Limits.{Bounds, compartment_bounds, library_bounds}
 use Rattle.def_desc.specs.declared.tables.Passes.{Passes}
 use Rattle.def_desc.specs.declared.tables.Passes.TheVariants.{Capabilities, Data}
-use Rattle.def_desc.specs.Rows.{AtRow, ExportRow, CompartmentRow, LexportRow, LibraryRow}
+use Rattle.def_desc.specs.Rows.{AtRow, ExportRow, DescCompartment, LexportRow, LibraryRow}
 use Rattle.def_desc.specs.Named.{export_names, library_export_names}
 use Rattle.def_desc.specs.Lawful.{AreNames, IsLawfulExport}
 use Rattle.def_link.specs.Owners.{Built, begin_of, numbered}
-use Rattle.def_link.specs.Slots.{passes_capabilities, export_gate, compartment_gates, lexport_gate, library_gates}
+use Rattle.def_link.specs.Slots.{passes_capabilities, export_gate, compartment_gate_rows, lexport_gate, library_gate_rows}
 use Rattle.law_link.proofs.Builts.{Begins}
 use Rattle.law_link.proofs.Fields.{New, all_new}
 use Rattle.law_link.proofs.Along.{Along}
@@ -115,9 +115,9 @@ pub record Gates (b : Bounds) (text first : ℕ) (gates : List GateRow) : Type 0
   pub new : New [] (map gate_title gates)
   pub numbered : Along raw_gate (λ before (x : GateRow). x.row.entry ≡ first + length before) [] gates
 
-pub compartment_gates_good : (b : Built) (entry : ℕ) (c : CompartmentRow) → length b.text ≤ MOST_BYTES → entry + length c.exports < 2 ^ 32
+pub compartment_gates_good : (b : Built) (entry : ℕ) (c : DescCompartment) → length b.text ≤ MOST_BYTES → entry + length c.exports < 2 ^ 32
     → AllByRecursion (Begins b) (map (λ (e : ExportRow). e.at) c.exports) → AllByRecursion IsLawfulExport c.exports → AreNames (export_names c)
-    → Gates compartment_bounds (length b.text) entry (compartment_gates b entry c)
+    → Gates compartment_bounds (length b.text) entry (compartment_gate_rows b entry c)
 unfolding gate_title
 compartment_gates_good b entry c small few at law names = record {
   each = gates_good b entry c.exports small few at law names.formed;
@@ -127,7 +127,7 @@ compartment_gates_good b entry c small few at law names = record {
 
 pub library_gates_good : (b : Built) (entry : ℕ) (l : LibraryRow) → length b.text ≤ MOST_BYTES → entry + length l.exports < 2 ^ 32
     → AllByRecursion (Begins b) (map (λ (e : LexportRow). e.at) l.exports) → AreNames (library_export_names l)
-    → Gates library_bounds (length b.text) entry (library_gates b entry l)
+    → Gates library_bounds (length b.text) entry (library_gate_rows b entry l)
 unfolding gate_title
 library_gates_good b entry l small few at names = record {
   each = lexports_good b entry l.exports small few at names.formed;

@@ -18,13 +18,13 @@ use Rattle.def_image.specs.Rights.{fits_kind, rights_of, is_library, right_asked
 use Rattle.def_desc.specs.declared.tables.Form.{Form}
 use Rattle.def_desc.specs.declared.tables.Form.TheVariants as form
 use Rattle.def_words.specs.Permissions.{bit, set_where, form_of, packed, unpacked}
-use Rattle.def_desc.specs.Reading.{rights_of as rights_of_text}
+use Rattle.def_desc.specs.Reading.{rights_of_text as rights_of_text}
 use Rattle.def_desc.specs.Tables.{device_rights, shared_rights}
 use Rattle.def_desc.specs.References.{rights_fit}
-use Rattle.def_desc.specs.Rows.{Target, ImportRow, QuotaRow, CompartmentRow, LimportRow, LibraryRow, DescRow}
+use Rattle.def_desc.specs.Rows.{Target, ImportRow, QuotaRow, DescCompartment, LimportRow, LibraryRow, DescRow}
 use Rattle.def_desc.specs.Lawful.{IsLawfulImport, IsLawfulCompartment}
 use Rattle.def_link.specs.Slots.{granted, claimed, slot, target_row, form_row, import_slot, quota_slot, key_slot, compartment_slots, library_slots}
-use Rattle.def_link.specs.Linked.{sizes_of, compartment_parts, compartment_entries, library_parts, parts_of}
+use Rattle.def_link.specs.Linked.{sizes_of, compartment_parts, built_compartment_entries, library_parts, parts_of}
 use Rattle.def_link.specs.Links.{RowsLinkTo}
 use Rattle.law_link.proofs.Walks.{walk_all}
 use Rattle.law_link.proofs.Linkeds.{parts, GoodCompartment, GoodLibrary, compartments_good, libraries_good, compartments_all, libraries_all}
@@ -76,7 +76,7 @@ import_granted d x h =
 
 -- ---- owners
 
-slots_granted : (d : DescRow) (c : CompartmentRow) → IsLawfulCompartment d c → AllByRecursion Granted (compartment_slots d c)
+slots_granted : (d : DescRow) (c : DescCompartment) → IsLawfulCompartment d c → AllByRecursion Granted (compartment_slots d c)
 unfolding Granted packed unpacked set_where bit form_of
 slots_granted d c h = (
   refl,
@@ -131,12 +131,12 @@ rights_pass d sources p h =
     let regions = placed d.ram.base (sizes_of d s.cs s.ls) in
     let all = parts_of d s.cs s.ls regions (last_end d.ram.base (sizes_of d s.cs s.ls)) in
     let cs = compartment_parts d 1 regions s.cs in
-    let ls = library_parts d (1 + sum_of compartment_entries s.cs) (drop (3 * length s.cs) regions) s.ls in
+    let ls = library_parts d (1 + sum_of built_compartment_entries s.cs) (drop (3 * length s.cs) regions) s.ls in
     subst (λ q. first (right_checks q) ≡ None) (sym s.parts)
     (joined_none (walked compartment_rights part_size (compartments_at (raw_of all)) [] cs) (walked library_rights code_size (libraries_at (raw_of all)) [] ls)
     (walk_all (λ (c : CompartmentPart). AllByRecursion Granted c.code.slots) compartment_rights part_size compartment_passes (compartments_at (raw_of all)) [] cs
     (compartments_all d (GoodCompartment d) (λ (c : CompartmentPart). AllByRecursion Granted c.code.slots) 1 regions s.cs
     (λ entry rs x g. slots_granted d x.row g.row) (compartments_good d p h.lawful.compartment s)))
     (walk_all (λ (c : CodePart). AllByRecursion LibraryGranted c.slots) library_rights code_size library_passes (libraries_at (raw_of all)) [] ls
-    (libraries_all d (GoodLibrary d) (λ (c : CodePart). AllByRecursion LibraryGranted c.slots) (1 + sum_of compartment_entries s.cs) (drop (3 * length s.cs) regions) s.ls
+    (libraries_all d (GoodLibrary d) (λ (c : CodePart). AllByRecursion LibraryGranted c.slots) (1 + sum_of built_compartment_entries s.cs) (drop (3 * length s.cs) regions) s.ls
     (λ entry rs x g. library_granted d x.row) (libraries_good d p h.lawful.library s))))

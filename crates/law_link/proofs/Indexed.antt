@@ -13,17 +13,17 @@ use Rattle.def_image.specs.Parts.{SlotRow, CompartmentRow as CompartmentPart, Co
 use Rattle.def_image.specs.Spelling.{raw_of}
 use Rattle.def_image.specs.Sizes.{sum_of, compartments_at, libraries_at, threads_at}
 use Rattle.def_image.specs.Checks.{first, walked, check}
-use Rattle.def_image.specs.Indexes.{exports_of, code_in, is_named, class_of, comes_before, is_switch, is_reserved, is_astray, slot_asked, is_own_astray, own_slot_asked, compartment_asked, library_asked, enters, thread_asked, part_size, code_size, index_checks}
+use Rattle.def_image.specs.Indexes.{exports_of, code_in, is_slot_named, slot_class, comes_before, is_switch, is_reserved, is_import_astray, slot_asked, is_own_astray, own_slot_asked, compartment_asked, library_asked, enters_export, thread_asked, part_size, code_size, index_checks}
 use Rattle.def_desc.specs.declared.tables.Form.{Form}
 use Rattle.def_desc.specs.declared.tables.Form.TheVariants as form
 use Rattle.def_desc.specs.Tables.{service_of}
 use Rattle.ct_entry.specs.Listed.{DeviceRow}
-use Rattle.def_desc.specs.Rows.{Target, SharedRow, SealedRow, ImportRow, QuotaRow, ExportRow, CompartmentRow, LimportRow, LexportRow, LibraryRow, ThreadRow, DescRow}
+use Rattle.def_desc.specs.Rows.{Target, DescShared, DescSealed, ImportRow, QuotaRow, ExportRow, DescCompartment, LimportRow, LexportRow, LibraryRow, DescThread, DescRow}
 use Rattle.def_desc.specs.Named.{device_names, shared_names, sealed_names, export_names, library_export_names}
 use Rattle.def_desc.specs.Lawful.{IsCallImport, IsLent, Resolves, IsLawful, IsLawfulImport, IsLawfulCompartment, IsLawfulLibrary, IsLawfulThread}
 use Rattle.def_link.specs.Owners.{numbered}
 use Rattle.def_link.specs.Slots.{index_of, slot, switch_row, claimed, target_row, form_row, import_slot, quota_slot, key_slot, compartment_slots, library_slots, Exporter, compartment_export_named, library_export_named, export_gate, lexport_gate}
-use Rattle.def_link.specs.Linked.{sizes_of, BuiltCompartment, BuiltLibrary, compartment_parts, compartment_entries, library_parts, library_entries, shared_parts, sealed_parts, thread_parts, parts_of}
+use Rattle.def_link.specs.Linked.{sizes_of, BuiltCompartment, BuiltLibrary, compartment_parts, built_compartment_entries, library_parts, built_library_entries, shared_parts, sealed_parts, thread_parts, parts_of}
 use Rattle.def_link.specs.Links.{RowsLinkTo}
 use Rattle.law_link.proofs.Walks.{next_none, walk_all, walk_holding, walk_joined}
 use Rattle.law_link.proofs.Linkeds.{Parts, parts, GoodCompartment, GoodLibrary, compartments_good, libraries_good, compartments_all, libraries_all}
@@ -38,12 +38,12 @@ pub numbered_length : {A B : Type 0} (f : ℕ → A → B) (n : ℕ) (xs : List 
 numbered_length f n [] = refl
 numbered_length f n (x ∷ xs) = ap suc (numbered_length f (n + 1) xs)
 
-pub shared_length : (regions : List Region) (ss : List SharedRow) → length (shared_parts regions ss) ≡ length ss
+pub shared_length : (regions : List Region) (ss : List DescShared) → length (shared_parts regions ss) ≡ length ss
 unfolding shared_parts
 shared_length regions [] = refl
 shared_length regions (s ∷ ss) = ap suc (shared_length (drop 1 regions) ss)
 
-pub sealed_length : (regions : List Region) (ss : List SealedRow) → length (sealed_parts regions ss) ≡ length ss
+pub sealed_length : (regions : List Region) (ss : List DescSealed) → length (sealed_parts regions ss) ≡ length ss
 unfolding sealed_parts
 sealed_length regions [] = refl
 sealed_length regions (s ∷ ss) = ap suc (sealed_length (drop 1 regions) ss)
@@ -57,7 +57,7 @@ exports_there d entry regions (c ∷ cs) zero x is =
     let same : exporter_of c.row ≡ x = cc in
     let count : length (export_names c.row) ≡ length c.row.exports = length-map c.row.exports (λ (e : ExportRow). e.name) in
     numbered_length (export_gate c.built) (entry + 2 + (1 + length c.row.imports + length c.row.quotas + length c.row.keys)) c.row.exports ∙ sym count ∙ ap (λ (e : Exporter). length e.exports) same
-exports_there d entry regions (c ∷ cs) (suc n) x is = exports_there d (entry + compartment_entries c) (drop 3 regions) cs n x is
+exports_there d entry regions (c ∷ cs) (suc n) x is = exports_there d (entry + built_compartment_entries c) (drop 3 regions) cs n x is
 
 lent_there : (d : DescRow) (entry : ℕ) (regions : List Region) (ls : List BuiltLibrary) (n : ℕ) (x : Exporter)
     → slice_get (map library_exporter_of (map (λ (c : BuiltLibrary). c.row) ls)) n ≡ Some x → exports_of (slice_get (library_parts d entry regions ls) n) ≡ length x.exports
@@ -67,7 +67,7 @@ lent_there d entry regions (c ∷ cs) zero x is =
     let same : library_exporter_of c.row ≡ x = cc in
     let count : length (library_export_names c.row) ≡ length c.row.exports = length-map c.row.exports (λ (e : LexportRow). e.name) in
     numbered_length (lexport_gate c.built) (entry + 1 + length c.row.imports) c.row.exports ∙ sym count ∙ ap (λ (e : Exporter). length e.exports) same
-lent_there d entry regions (c ∷ cs) (suc n) x is = lent_there d (entry + library_entries c) (drop 1 regions) cs n x is
+lent_there d entry regions (c ∷ cs) (suc n) x is = lent_there d (entry + built_library_entries c) (drop 1 regions) cs n x is
 
 -- what slots name is in the parts
 pub record Targets (d : DescRow) (p : PartsRow) : Type 0 where
@@ -98,7 +98,7 @@ targets d p s =
           (ap (λ i. exports_of (code_in (compartment_parts d 1 regions s.cs) i)) owner ∙ count);
       lent = λ text h.
           let f = lent_found d text h in
-          let entry = 1 + sum_of compartment_entries s.cs in
+          let entry = 1 + sum_of built_compartment_entries s.cs in
           let tail = drop (3 * length s.cs) regions in
           let at : slice_get (map library_exporter_of (map (λ (c : BuiltLibrary). c.row) s.ls)) f.index ≡ Some f.owner = subst (λ l. slice_get (map library_exporter_of l) f.index ≡ Some f.owner) (sym s.library_rows) f.at in
           let count = lent_there d entry tail s.ls f.index f.owner at in
@@ -111,9 +111,9 @@ targets d p s =
 
 -- it names what is there, and isn't the switch or the return
 pub record IsSlot (p : PartsRow) (n : ℕ) (s : SlotRow) : Type 0 where
-  pub named : is_named p s.row s.row.kind ≡ true
+  pub named : is_slot_named p s.row s.row.kind ≡ true
   pub free : is_reserved s.row ≡ false
-  pub class : class_of s.row.kind ≡ n
+  pub class : slot_class s.row.kind ≡ n
 
 served : (text : List ℕ) (n : ℕ) → service_of text ≡ Some n → 2 ≤ n → (nat_eq (unwrap_or (service_of text) 0) 0 || nat_eq (unwrap_or (service_of text) 0) 1) ≡ false
 served text n is low =
@@ -127,12 +127,12 @@ form_slot d p t x form.Device text h = record {
   class = refl;
 }
 form_slot d p t x form.Shared text h = record {
-  named = (let lt = index_less text (shared_names d) h in let count : length (shared_names d) ≡ length d.shared = length-map d.shared (λ (v : SharedRow). v.name) in let all = t.shared in lt-ltb (index_of text (shared_names d)) (length p.shared) (omega (arith, lt, count, all)));
+  named = (let lt = index_less text (shared_names d) h in let count : length (shared_names d) ≡ length d.shared = length-map d.shared (λ (v : DescShared). v.name) in let all = t.shared in lt-ltb (index_of text (shared_names d)) (length p.shared) (omega (arith, lt, count, all)));
   free = refl;
   class = refl;
 }
 form_slot d p t x form.Sealed text h = record {
-  named = (let lt = index_less text (sealed_names d) h in let count : length (sealed_names d) ≡ length d.sealed = length-map d.sealed (λ (v : SealedRow). v.name) in let all = t.sealed in lt-ltb (index_of text (sealed_names d)) (length p.sealed) (omega (arith, lt, count, all)));
+  named = (let lt = index_less text (sealed_names d) h in let count : length (sealed_names d) ≡ length d.sealed = length-map d.sealed (λ (v : DescSealed). v.name) in let all = t.sealed in lt-ltb (index_of text (sealed_names d)) (length p.sealed) (omega (arith, lt, count, all)));
   free = refl;
   class = refl;
 }
@@ -157,21 +157,21 @@ library_slot_is d p t x h = record { named = t.lent x.library h; free = refl; cl
 
 -- those before are of no later class
 AtMost : ℕ → List SlotRow → Type 0
-AtMost n earlier = AllByRecursion (λ (s : SlotRow). class_of s.row.kind ≤ n) earlier
+AtMost n earlier = AllByRecursion (λ (s : SlotRow). slot_class s.row.kind ≤ n) earlier
 
-none_later : (n : ℕ) (r : SlotImport) (earlier : List SlotRow) → class_of r.kind ≡ n → AtMost n earlier → list_any (comes_before r) earlier ≡ false
+none_later : (n : ℕ) (r : SlotImport) (earlier : List SlotRow) → slot_class r.kind ≡ n → AtMost n earlier → list_any (comes_before r) earlier ≡ false
 unfolding AtMost
 none_later n r [] is h = refl
 none_later n r (s ∷ ss) is h =
     let le = h.0 in
-    ap₂ (λ a b. a || b) (le-ltb (class_of r.kind) (class_of s.row.kind) (omega (arith, is, le))) (none_later n r ss is h.1)
+    ap₂ (λ a b. a || b) (le-ltb (slot_class r.kind) (slot_class s.row.kind) (omega (arith, is, le))) (none_later n r ss is h.1)
 
-not_astray : (p : PartsRow) (n : ℕ) (earlier : List SlotRow) (s : SlotRow) → AtMost n earlier → IsSlot p n s → is_astray p earlier s.row ≡ false
+not_astray : (p : PartsRow) (n : ℕ) (earlier : List SlotRow) (s : SlotRow) → AtMost n earlier → IsSlot p n s → is_import_astray p earlier s.row ≡ false
 not_astray p n earlier s before h = rw (h.named, h.free, none_later n s.row earlier h.class before) refl
 
 one_more : (n : ℕ) (p : PartsRow) (earlier : List SlotRow) (s : SlotRow) → AtMost n earlier → IsSlot p n s → AtMost n (earlier ++ s ∷ [])
 unfolding AtMost
-one_more n p earlier s h k = all_joined (λ (s : SlotRow). class_of s.row.kind ≤ n) earlier (s ∷ []) h ((let is = k.class in omega (arith, is)), tt)
+one_more n p earlier s h k = all_joined (λ (s : SlotRow). slot_class s.row.kind ≤ n) earlier (s ∷ []) h ((let is = k.class in omega (arith, is)), tt)
 
 -- after the first slot, where some stand before
 HasMore : ℕ → List SlotRow → Type 0
@@ -184,7 +184,7 @@ more_length (e ∷ es) s = ne_eqb (suc (length (es ++ s ∷ []))) 0 (λ e. omega
 own_passes : (p : PartsRow) (n at : ℕ) (earlier : List SlotRow) (s : SlotRow) → HasMore n earlier → IsSlot p n s → first (own_slot_asked p at earlier s) ≡ None
 unfolding HasMore
 own_passes p n at earlier s before h =
-    one_none at (is_own_astray p earlier s.row) (ap (λ b. cond b (not (is_switch s.row)) (is_astray p earlier s.row)) before.0 ∙ not_astray p n earlier s before.1 h)
+    one_none at (is_own_astray p earlier s.row) (ap (λ b. cond b (not (is_switch s.row)) (is_import_astray p earlier s.row)) before.0 ∙ not_astray p n earlier s before.1 h)
 
 own_more : (p : PartsRow) (n : ℕ) (earlier : List SlotRow) (s : SlotRow) → HasMore n earlier → IsSlot p n s → HasMore n (earlier ++ s ∷ [])
 unfolding HasMore
@@ -198,9 +198,9 @@ stretch_more : (p : PartsRow) (n m : ℕ) (earlier xs : List SlotRow) → n ≤ 
 unfolding HasMore AtMost
 stretch_more p n m earlier xs le h k = (
   long earlier xs h.0,
-  all_joined (λ (s : SlotRow). class_of s.row.kind ≤ m) earlier xs
-      (all_so (λ (s : SlotRow). class_of s.row.kind ≤ n) (λ (s : SlotRow). class_of s.row.kind ≤ m) earlier (λ s c. omega (arith, c, le)) h.1)
-      (all_so (IsSlot p n) (λ (s : SlotRow). class_of s.row.kind ≤ m) xs (λ s c. let is = c.class in omega (arith, is, le)) k),
+  all_joined (λ (s : SlotRow). slot_class s.row.kind ≤ m) earlier xs
+      (all_so (λ (s : SlotRow). slot_class s.row.kind ≤ n) (λ (s : SlotRow). slot_class s.row.kind ≤ m) earlier (λ s c. omega (arith, c, le)) h.1)
+      (all_so (IsSlot p n) (λ (s : SlotRow). slot_class s.row.kind ≤ m) xs (λ s c. let is = c.class in omega (arith, is, le)) k),
 )
   where
     long : (earlier xs : List SlotRow) → nat_eq (length earlier) 0 ≡ false → nat_eq (length (earlier ++ xs)) 0 ≡ false
@@ -209,7 +209,7 @@ stretch_more p n m earlier xs le h k = (
 
 -- ---- compartments
 
-compartment_passes : (d : DescRow) (p : PartsRow) → Targets d p → (c : CompartmentRow) → IsLawfulCompartment d c → (at : ℕ) → first (walked (own_slot_asked p) (λ s. ENTRY) at [] (compartment_slots d c)) ≡ None
+compartment_passes : (d : DescRow) (p : PartsRow) → Targets d p → (c : DescCompartment) → IsLawfulCompartment d c → (at : ℕ) → first (walked (own_slot_asked p) (λ s. ENTRY) at [] (compartment_slots d c)) ≡ None
 unfolding walked HasMore AtMost
 compartment_passes d p t c h at =
     let sw = slot (codes "switch") switch_row in
@@ -243,7 +243,7 @@ library_passes : (d : DescRow) (p : PartsRow) → Targets d p → (l : LibraryRo
 unfolding AtMost
 library_passes d p t l h at =
     walk_holding (AtMost 0) (IsSlot p 0) (slot_asked p) (λ s. ENTRY)
-    (λ place earlier s before k. one_none place (is_astray p earlier s.row) (not_astray p 0 earlier s before k))
+    (λ place earlier s before k. one_none place (is_import_astray p earlier s.row) (not_astray p 0 earlier s before k))
     (λ earlier s before k. one_more 0 p earlier s before k) at [] (library_slots d l) none
     (all_mapped (IsSlot p 0) (λ (x : LimportRow). slot x.alias (form_row d 0 form.Library x.library)) l.imports
     (all_so (λ (x : LimportRow). IsLent d x.library) (λ x. IsSlot p 0 (slot x.alias (form_row d 0 form.Library x.library))) l.imports (λ x i. library_slot_is d p t x i) h.import))
@@ -253,8 +253,8 @@ library_passes d p t l h at =
 
 -- ---- threads
 
-threads_pass : (d : DescRow) (p : PartsRow) → Targets d p → (regions : List Region) (ts : List ThreadRow) → AllByRecursion (IsLawfulThread d) ts
-    → AllByRecursion (λ (t : ThreadPart). enters p t ≡ true) (thread_parts d regions ts)
+threads_pass : (d : DescRow) (p : PartsRow) → Targets d p → (regions : List Region) (ts : List DescThread) → AllByRecursion (IsLawfulThread d) ts
+    → AllByRecursion (λ (t : ThreadPart). enters_export p t ≡ true) (thread_parts d regions ts)
 unfolding thread_parts
 threads_pass d p t regions [] h = tt
 threads_pass d p t regions (x ∷ xs) h = (t.called x.entry h.0.entry, threads_pass d p t (drop 1 regions) xs h.1)
@@ -265,7 +265,7 @@ threads_pass d p t regions (x ∷ xs) h = (t.called x.entry h.0.entry, threads_p
 record Listed (d : DescRow) (p : PartsRow) : Type 0 where
   pub compartments : AllByRecursion (λ (c : CompartmentPart). (at : ℕ) → first (walked (own_slot_asked p) (λ s. ENTRY) at [] c.code.slots) ≡ None) p.compartments
   pub libraries : AllByRecursion (λ (c : CodePart). (at : ℕ) → first (walked (slot_asked p) (λ s. ENTRY) at [] c.slots) ≡ None) p.libraries
-  pub threads : AllByRecursion (λ (t : ThreadPart). enters p t ≡ true) p.threads
+  pub threads : AllByRecursion (λ (t : ThreadPart). enters_export p t ≡ true) p.threads
 
 listed : (d : DescRow) (p : PartsRow) → IsLawful d → (s : Parts d p) → (q : PartsRow) → Targets d q → p ≡ q → Listed d q
 unfolding parts_of
@@ -278,9 +278,9 @@ listed d p law s q t same =
           (λ entry rs x g at. compartment_passes d q t x.row g.row at) (compartments_good d p law.compartment s));
       libraries = subst (λ (z : PartsRow). AllByRecursion (λ (c : CodePart). (at : ℕ) → first (walked (slot_asked q) (λ s. ENTRY) at [] c.slots) ≡ None) z.libraries) (sym is)
           (libraries_all d (GoodLibrary d) (λ (c : CodePart). (at : ℕ) → first (walked (slot_asked q) (λ s. ENTRY) at [] c.slots) ≡ None)
-          (1 + sum_of compartment_entries s.cs) (drop (3 * length s.cs) regions) s.ls
+          (1 + sum_of built_compartment_entries s.cs) (drop (3 * length s.cs) regions) s.ls
           (λ entry rs x g at. library_passes d q t x.row g.row at) (libraries_good d p law.library s));
-      threads = subst (λ (z : PartsRow). AllByRecursion (λ (t : ThreadPart). enters q t ≡ true) z.threads) (sym is)
+      threads = subst (λ (z : PartsRow). AllByRecursion (λ (t : ThreadPart). enters_export q t ≡ true) z.threads) (sym is)
           (threads_pass d q t (drop (3 * length s.cs + length s.ls + length d.shared + length d.sealed) regions) d.threads law.thread);
     }
 
@@ -296,8 +296,8 @@ all_pass d p h =
     (λ at earlier c k. k (at + COMPARTMENT_HEAD)) (compartments_at (raw_of p)) [] p.compartments h.compartments)
     (walk_all (λ (c : CodePart). (at : ℕ) → first (walked (slot_asked p) (λ s. ENTRY) at [] c.slots) ≡ None) (library_asked p) code_size
     (λ at earlier c k. k (at + LIBRARY_HEAD)) (libraries_at (raw_of p)) [] p.libraries h.libraries))
-    (walk_all (λ (t : ThreadPart). enters p t ≡ true) (thread_asked p) (λ t. THREAD)
-    (λ at earlier t k. one_none (at + 40) (not (enters p t)) (ap not k)) (threads_at (raw_of p)) [] p.threads h.threads)
+    (walk_all (λ (t : ThreadPart). enters_export p t ≡ true) (thread_asked p) (λ t. THREAD)
+    (λ at earlier t k. one_none (at + 40) (not (enters_export p t)) (ap not k)) (threads_at (raw_of p)) [] p.threads h.threads)
 
 -- what slots and threads name is there, and slots stand in their order
 pub indexes_pass : (d : DescRow) (sources : List (List ℕ)) (p : PartsRow) → RowsLinkTo d sources p → first (index_checks p) ≡ None

@@ -19,11 +19,11 @@ use Rattle.def_image.specs.Profile.{outside}
 use Rattle.def_image.specs.Checks.{first, walked, check}
 use Rattle.def_image.specs.Limits as lim
 use Rattle.def_image.specs.Limits.{name_checks, is_missized, header_limits, device_limits, shared_limits, sealed_limits, compartment_name, compartment_limits, library_name, first_library_entry, library_limits, thread_limits, limit_checks}
-use Rattle.def_desc.specs.Rows.{CompartmentRow, LibraryRow, SharedRow, SealedRow, ThreadRow, DescRow}
+use Rattle.def_desc.specs.Rows.{DescCompartment, LibraryRow, DescShared, DescSealed, DescThread, DescRow}
 use Rattle.def_desc.specs.Named.{device_names, shared_names, sealed_names}
 use Rattle.def_desc.specs.Named as rows
 use Rattle.def_desc.specs.Lawful.{IsLawful}
-use Rattle.def_link.specs.Linked.{BuiltCompartment, BuiltLibrary, library_code_size, sizes_of, compartment_parts, compartment_entries, library_parts, library_entries, shared_parts, sealed_parts, thread_parts, parts_of}
+use Rattle.def_link.specs.Linked.{BuiltCompartment, BuiltLibrary, library_code_size, sizes_of, compartment_parts, built_compartment_entries, library_parts, built_library_entries, shared_parts, sealed_parts, thread_parts, parts_of}
 use Rattle.def_link.specs.Links.{RowsLinkTo}
 use Rattle.law_link.proofs.Walks.{next_none}
 use Rattle.law_link.proofs.Linkeds.{parts, GoodCompartment, GoodLibrary, compartments_good, libraries_good}
@@ -44,15 +44,15 @@ owner_title c = c.code.name
 unfoldable pub library_title : CodePart → List ℕ
 library_title c = c.name
 
-owner_titles : (d : DescRow) (entry : ℕ) (regions : List Region) (cs : List BuiltCompartment) → map owner_title (compartment_parts d entry regions cs) ≡ map (λ (c : CompartmentRow). c.name) (map (λ (x : BuiltCompartment). x.row) cs)
+owner_titles : (d : DescRow) (entry : ℕ) (regions : List Region) (cs : List BuiltCompartment) → map owner_title (compartment_parts d entry regions cs) ≡ map (λ (c : DescCompartment). c.name) (map (λ (x : BuiltCompartment). x.row) cs)
 unfolding compartment_parts owner_title
 owner_titles d entry regions [] = refl
-owner_titles d entry regions (x ∷ xs) = ap (λ l. x.row.name ∷ l) (owner_titles d (entry + compartment_entries x) (drop 3 regions) xs)
+owner_titles d entry regions (x ∷ xs) = ap (λ l. x.row.name ∷ l) (owner_titles d (entry + built_compartment_entries x) (drop 3 regions) xs)
 
 library_titles : (d : DescRow) (entry : ℕ) (regions : List Region) (ls : List BuiltLibrary) → map library_title (library_parts d entry regions ls) ≡ map (λ (l : LibraryRow). l.name) (map (λ (x : BuiltLibrary). x.row) ls)
 unfolding library_parts library_title
 library_titles d entry regions [] = refl
-library_titles d entry regions (x ∷ xs) = ap (λ l. x.row.name ∷ l) (library_titles d (entry + library_entries x) (drop 1 regions) xs)
+library_titles d entry regions (x ∷ xs) = ap (λ l. x.row.name ∷ l) (library_titles d (entry + built_library_entries x) (drop 1 regions) xs)
 
 AreNamed : List (List ℕ) → Type 0
 AreNamed names = AllByRecursion (λ n. is_name n ≡ true) names
@@ -79,7 +79,7 @@ compartments_pass : (at : ℕ) (cs : List CompartmentPart) → Along raw_compart
 unfolding owner_title Numbered
 compartments_pass at cs numbered formed new =
     walk_along raw_compartment (λ before c. Numbered before c × (among c.code.name (map compartment_name before) ≡ false)) compartment_limits compartment_size
-    (λ place before c k. compartment_passes (1 + sum_of lim.compartment_entries before) place (map compartment_name before) c k.0 k.1) at [] cs
+    (λ place before c k. compartment_passes (1 + sum_of lim.raw_compartment_entries before) place (map compartment_name before) c k.0 k.1) at [] cs
     (along_both raw_compartment Numbered (λ before (c : CompartmentPart). among c.code.name (map compartment_name before) ≡ false) [] cs numbered
     (along_new raw_compartment compartment_name owner_title [] [] cs refl (owners_back cs formed) new))
 
@@ -88,7 +88,7 @@ libraries_pass : (r : RawImage) (at : ℕ) (ls : List CodePart) → Along raw_co
 unfolding library_title NumberedAfter
 libraries_pass r at ls numbered formed new =
     walk_along raw_code (λ before c. NumberedAfter (first_library_entry r) before c × (among c.name (map compartment_name r.compartments ++ map library_name before) ≡ false)) (library_limits r) library_size
-    (λ place before c k. library_passes (first_library_entry r + sum_of lim.library_entries before) place (map compartment_name r.compartments ++ map library_name before) c k.0 k.1) at [] ls
+    (λ place before c k. library_passes (first_library_entry r + sum_of lim.raw_library_entries before) place (map compartment_name r.compartments ++ map library_name before) c k.0 k.1) at [] ls
     (along_both raw_code (NumberedAfter (first_library_entry r)) (λ before (c : CodePart). among c.name (map compartment_name r.compartments ++ map library_name before) ≡ false) [] ls numbered
     (along_after raw_code library_name library_title (map compartment_name r.compartments) [] [] ls refl (libraries_back ls formed)
     (subst (λ l. New l (map library_title ls)) (sym (append-nil (map compartment_name r.compartments))) new)))
@@ -145,14 +145,14 @@ header_pass p h =
 pub compartments_length : (d : DescRow) (entry : ℕ) (regions : List Region) (cs : List BuiltCompartment) → length (compartment_parts d entry regions cs) ≡ length cs
 unfolding compartment_parts
 compartments_length d entry regions [] = refl
-compartments_length d entry regions (x ∷ xs) = ap suc (compartments_length d (entry + compartment_entries x) (drop 3 regions) xs)
+compartments_length d entry regions (x ∷ xs) = ap suc (compartments_length d (entry + built_compartment_entries x) (drop 3 regions) xs)
 
 pub libraries_length : (d : DescRow) (entry : ℕ) (regions : List Region) (ls : List BuiltLibrary) → length (library_parts d entry regions ls) ≡ length ls
 unfolding library_parts
 libraries_length d entry regions [] = refl
-libraries_length d entry regions (x ∷ xs) = ap suc (libraries_length d (entry + library_entries x) (drop 1 regions) xs)
+libraries_length d entry regions (x ∷ xs) = ap suc (libraries_length d (entry + built_library_entries x) (drop 1 regions) xs)
 
-pub threads_length : (d : DescRow) (regions : List Region) (ts : List ThreadRow) → length (thread_parts d regions ts) ≡ length ts
+pub threads_length : (d : DescRow) (regions : List Region) (ts : List DescThread) → length (thread_parts d regions ts) ≡ length ts
 unfolding thread_parts
 threads_length d regions [] = refl
 threads_length d regions (t ∷ ts) = ap suc (threads_length d (drop 1 regions) ts)
@@ -169,7 +169,7 @@ pub record PartsGood (p : PartsRow) : Type 0 where
   pub compartments : Along raw_compartment Numbered [] p.compartments
   pub compartment_names : AllByRecursion (λ n. is_name n ≡ true) (map owner_title p.compartments)
   pub compartments_new : New [] (map owner_title p.compartments)
-  pub libraries : Along raw_code (NumberedAfter (1 + sum_of lim.compartment_entries (map raw_compartment p.compartments))) [] p.libraries
+  pub libraries : Along raw_code (NumberedAfter (1 + sum_of lim.raw_compartment_entries (map raw_compartment p.compartments))) [] p.libraries
   pub library_names : AllByRecursion (λ n. is_name n ≡ true) (map library_title p.libraries)
   pub libraries_new : New (map owner_title p.compartments) (map library_title p.libraries)
   pub threads : AllByRecursion ThreadGood p.threads
@@ -204,18 +204,18 @@ all_pass p h =
 
 -- names of owners, by their lists
 record Named (d : DescRow) : Type 0 where
-  pub c_formed : AllByRecursion (λ n. is_name n ≡ true) (map (λ (c : CompartmentRow). c.name) d.compartments)
+  pub c_formed : AllByRecursion (λ n. is_name n ≡ true) (map (λ (c : DescCompartment). c.name) d.compartments)
   pub l_formed : AllByRecursion (λ n. is_name n ≡ true) (map (λ (l : LibraryRow). l.name) d.libraries)
-  pub t_formed : AllByRecursion (λ n. is_name n ≡ true) (map (λ (t : ThreadRow). t.name) d.threads)
-  pub c_new : New [] (map (λ (c : CompartmentRow). c.name) d.compartments)
-  pub l_new : New (map (λ (c : CompartmentRow). c.name) d.compartments) (map (λ (l : LibraryRow). l.name) d.libraries)
-  pub t_new : New (map (λ (c : CompartmentRow). c.name) d.compartments ++ map (λ (l : LibraryRow). l.name) d.libraries) (map (λ (t : ThreadRow). t.name) d.threads)
+  pub t_formed : AllByRecursion (λ n. is_name n ≡ true) (map (λ (t : DescThread). t.name) d.threads)
+  pub c_new : New [] (map (λ (c : DescCompartment). c.name) d.compartments)
+  pub l_new : New (map (λ (c : DescCompartment). c.name) d.compartments) (map (λ (l : LibraryRow). l.name) d.libraries)
+  pub t_new : New (map (λ (c : DescCompartment). c.name) d.compartments ++ map (λ (l : LibraryRow). l.name) d.libraries) (map (λ (t : DescThread). t.name) d.threads)
 
 named_rows : (d : DescRow) → IsLawful d → Named d
 named_rows d law =
-    let c = map (λ (c : CompartmentRow). c.name) d.compartments in
+    let c = map (λ (c : DescCompartment). c.name) d.compartments in
     let l = map (λ (l : LibraryRow). l.name) d.libraries in
-    let t = map (λ (t : ThreadRow). t.name) d.threads in
+    let t = map (λ (t : DescThread). t.name) d.threads in
     let good = λ (n : List ℕ). is_name n ≡ true in
     let formed = law.owners.formed in
     let new = all_new (rows.owner_names d) law.owners.once in
@@ -239,20 +239,20 @@ parts_good d cs ls law rows library_rows good_cs good_ls e =
     let n = named_rows d law in
     let z = trusted_size d ∷ [] in
     let l = map library_code_size ls in
-    let s = map (λ (s : SharedRow). s.size) d.shared in
-    let x = map (λ (s : SealedRow). length s.bytes) d.sealed in
-    let t = map (λ (t : ThreadRow). t.stack) d.threads in
+    let s = map (λ (s : DescShared). s.size) d.shared in
+    let x = map (λ (s : DescSealed). length s.bytes) d.sealed in
+    let t = map (λ (t : DescThread). t.stack) d.threads in
     let c_count : length cs ≡ length d.compartments = sym (length-map cs (λ (x : BuiltCompartment). x.row)) ∙ ap length rows in
     let l_count : length ls ≡ length d.libraries = sym (length-map ls (λ (x : BuiltLibrary). x.row)) ∙ ap length library_rows in
     let c_few = law.few.compartments in
     let l_few = law.few.libraries in
     let most = entries_most d cs good_cs in
-    let c_names = owner_titles d 1 all cs ∙ ap (map (λ (c : CompartmentRow). c.name)) rows in
-    let l_names = library_titles d (1 + sum_of compartment_entries cs) (drop (3 * length cs) all) ls ∙ ap (map (λ (l : LibraryRow). l.name)) library_rows in
+    let c_names = owner_titles d 1 all cs ∙ ap (map (λ (c : DescCompartment). c.name)) rows in
+    let l_names = library_titles d (1 + sum_of built_compartment_entries cs) (drop (3 * length cs) all) ls ∙ ap (map (λ (l : LibraryRow). l.name)) library_rows in
     let t_names = thread_titles d (drop (3 * length cs + length ls + length d.shared + length d.sealed) all) d.threads in
     let entry = entries_same d 1 all cs in
-    let c_rows = all_unmapped (λ (c : CompartmentRow). is_name c.name ≡ true) (λ (x : BuiltCompartment). x.row) cs
-    (all_unmapped (λ n. is_name n ≡ true) (λ (c : CompartmentRow). c.name) (map (λ (x : BuiltCompartment). x.row) cs) (subst (λ y. AllByRecursion (λ n. is_name n ≡ true) (map (λ (c : CompartmentRow). c.name) y)) (sym rows) n.c_formed)) in
+    let c_rows = all_unmapped (λ (c : DescCompartment). is_name c.name ≡ true) (λ (x : BuiltCompartment). x.row) cs
+    (all_unmapped (λ n. is_name n ≡ true) (λ (c : DescCompartment). c.name) (map (λ (x : BuiltCompartment). x.row) cs) (subst (λ y. AllByRecursion (λ n. is_name n ≡ true) (map (λ (c : DescCompartment). c.name) y)) (sym rows) n.c_formed)) in
     let l_rows = all_unmapped (λ (l : LibraryRow). is_name l.name ≡ true) (λ (x : BuiltLibrary). x.row) ls
     (all_unmapped (λ n. is_name n ≡ true) (λ (l : LibraryRow). l.name) (map (λ (x : BuiltLibrary). x.row) ls) (subst (λ y. AllByRecursion (λ n. is_name n ≡ true) (map (λ (l : LibraryRow). l.name) y)) (sym library_rows) n.l_formed)) in
     record {
@@ -261,7 +261,7 @@ parts_good d cs ls law rows library_rows good_cs good_ls e =
         shared = (let f = law.few.shared in let c = shared_length (drop (3 * length cs + length ls) all) d.shared in omega (arith, f, c));
         sealed = (let f = law.few.sealed in let c = sealed_length (drop (3 * length cs + length ls + length d.shared) all) d.sealed in omega (arith, f, c));
         compartments = (let c = compartments_length d 1 all cs in omega (arith, c_few, c_count, c));
-        libraries = (let c = libraries_length d (1 + sum_of compartment_entries cs) (drop (3 * length cs) all) ls in omega (arith, l_few, l_count, c));
+        libraries = (let c = libraries_length d (1 + sum_of built_compartment_entries cs) (drop (3 * length cs) all) ls in omega (arith, l_few, l_count, c));
         threads = subst (λ k. k ≤ version.most_threads d.version) (sym (threads_length d (drop (3 * length cs + length ls + length d.shared + length d.sealed) all) d.threads)) law.few.threads;
         quantum = inside 1 1000000 d.quantum law.quantum;
         ram = law.ram.base;
@@ -281,8 +281,8 @@ parts_good d cs ls law rows library_rows good_cs good_ls e =
           (compartments_along d law 1 d.ram.base (l ++ (s ++ (x ++ (t ++ z)))) [] cs refl (omega (arith, c_few, c_count)) good_cs c_rows);
       compartment_names = subst (AllByRecursion (λ n. is_name n ≡ true)) (sym c_names) n.c_formed;
       compartments_new = subst (New []) (sym c_names) n.c_new;
-      libraries = subst (λ rs. Along raw_code (NumberedAfter (1 + sum_of lim.compartment_entries (map raw_compartment (compartment_parts d 1 all cs)))) [] (library_parts d (1 + sum_of compartment_entries cs) rs ls)) (sym e.libraries)
-          (libraries_along d law (1 + sum_of lim.compartment_entries (map raw_compartment (compartment_parts d 1 all cs))) (1 + sum_of compartment_entries cs) e.e1 (s ++ (x ++ (t ++ z))) [] ls
+      libraries = subst (λ rs. Along raw_code (NumberedAfter (1 + sum_of lim.raw_compartment_entries (map raw_compartment (compartment_parts d 1 all cs)))) [] (library_parts d (1 + sum_of built_compartment_entries cs) rs ls)) (sym e.libraries)
+          (libraries_along d law (1 + sum_of lim.raw_compartment_entries (map raw_compartment (compartment_parts d 1 all cs))) (1 + sum_of built_compartment_entries cs) e.e1 (s ++ (x ++ (t ++ z))) [] ls
           (omega (arith, entry)) (omega (arith, most, c_few, c_count, l_few, l_count)) good_ls l_rows);
       library_names = subst (AllByRecursion (λ n. is_name n ≡ true)) (sym l_names) n.l_formed;
       libraries_new = rw (c_names, l_names) n.l_new;

@@ -7,12 +7,12 @@ use Rattle.law_lists.proofs.Tests.{lt_tells}
 use Rattle.def_layout.specs.declared.Region.{Region}
 use Rattle.def_layout.specs.Placement.{placed, last_end, needed}
 use Rattle.def_image.specs.Parts.{CompartmentRow as CompartmentPart, CodeRow as CodePart, PartsRow}
-use Rattle.def_desc.specs.Rows.{CompartmentRow, LibraryRow, DescRow}
+use Rattle.def_desc.specs.Rows.{DescCompartment, LibraryRow, DescRow}
 use Rattle.def_desc.specs.Lawful.{IsLawfulCompartment, IsLawfulLibrary}
 use Rattle.def_link.specs.declared.LinkFault.{LinkFault}
 use Rattle.def_link.specs.declared.LinkFault.TheVariants as fault
-use Rattle.def_link.specs.Owners.{Unit as OwnerUnit, Built, compartment_unit, library_unit, numbered, units_of, unit_built, with_front, source_for, rest_of, all_built}
-use Rattle.def_link.specs.Linked.{BuiltCompartment, BuiltLibrary, compartments_with, libraries_with, sizes_of, compartment_part, compartment_parts, compartment_entries, library_part, library_parts, library_entries, parts_of, built_parts, linked_with, linked}
+use Rattle.def_link.specs.Owners.{Unit as OwnerUnit, Built, compartment_unit, library_unit, numbered, units_of, unit_built, built_before, source_for, rest_of, all_built}
+use Rattle.def_link.specs.Linked.{BuiltCompartment, BuiltLibrary, compartments_with, libraries_with, sizes_of, compartment_part, compartment_parts, built_compartment_entries, library_part, library_parts, built_library_entries, parts_of, built_parts, linked_with, linked}
 
 -- ---- owners one after another
 
@@ -32,7 +32,7 @@ are_built [] sources bs e = let same : [] ≡ bs = cc in subst (AreBuilt []) sam
 are_built (u ∷ us) sources bs e = by (unit_built u (source_for u.code.file sources)) refl (all_built us (rest_of u.code.file sources)) refl e (λ cs h. are_built us (rest_of u.code.file sources) cs h)
   where
     by : (o : Result Built LinkFault) → unit_built u (source_for u.code.file sources) ≡ o
-        → (r : Result (List Built) LinkFault) → all_built us (rest_of u.code.file sources) ≡ r → with_front o r ≡ Ok bs
+        → (r : Result (List Built) LinkFault) → all_built us (rest_of u.code.file sources) ≡ r → built_before o r ≡ Ok bs
         → ((cs : List Built) → all_built us (rest_of u.code.file sources) ≡ Ok cs → AreBuilt us cs) → AreBuilt (u ∷ us) bs
     by (Err f) is r rest h so = absurd (let no : Err f ≡ Ok bs = h in cc)
     by (Ok b) is (Err f) rest h so = absurd (let no : Err f ≡ Ok bs = h in cc)
@@ -48,12 +48,12 @@ pub record LibraryBuilt (x : BuiltLibrary) : Type 0 where
   pub index : ℕ
   pub built : IsBuilt (library_unit index x.row) x.built
 
-record CompartmentsWith (cs : List CompartmentRow) (rest : List OwnerUnit) (bs : List Built) : Type 0 where
+record CompartmentsWith (cs : List DescCompartment) (rest : List OwnerUnit) (bs : List Built) : Type 0 where
   pub rows : map (λ (x : BuiltCompartment). x.row) (compartments_with cs (take (length cs) bs)) ≡ cs
   pub built : AllByRecursion CompartmentBuilt (compartments_with cs (take (length cs) bs))
   pub after : AreBuilt rest (drop (length cs) bs)
 
-compartments_are : (i : ℕ) (cs : List CompartmentRow) (rest : List OwnerUnit) (bs : List Built) → AreBuilt (numbered compartment_unit i cs ++ rest) bs → CompartmentsWith cs rest bs
+compartments_are : (i : ℕ) (cs : List DescCompartment) (rest : List OwnerUnit) (bs : List Built) → AreBuilt (numbered compartment_unit i cs ++ rest) bs → CompartmentsWith cs rest bs
 unfolding AreBuilt
 compartments_are i [] rest bs h = record { rows = refl; built = tt; after = h }
 compartments_are i (c ∷ cs) rest [] h = absurd h
@@ -149,11 +149,11 @@ pub compartments_all : (d : DescRow) (Q : BuiltCompartment → Type 0) (P : Comp
     → AllByRecursion P (compartment_parts d entry regions cs)
 unfolding compartment_parts
 compartments_all d Q P entry regions [] so h = tt
-compartments_all d Q P entry regions (x ∷ xs) so h = (so entry regions x h.0, compartments_all d Q P (entry + compartment_entries x) (drop 3 regions) xs so h.1)
+compartments_all d Q P entry regions (x ∷ xs) so h = (so entry regions x h.0, compartments_all d Q P (entry + built_compartment_entries x) (drop 3 regions) xs so h.1)
 
 pub libraries_all : (d : DescRow) (Q : BuiltLibrary → Type 0) (P : CodePart → Type 0) (entry : ℕ) (regions : List Region) (ls : List BuiltLibrary)
     → ((entry : ℕ) (regions : List Region) (x : BuiltLibrary) → Q x → P (library_part d entry regions x)) → AllByRecursion Q ls
     → AllByRecursion P (library_parts d entry regions ls)
 unfolding library_parts
 libraries_all d Q P entry regions [] so h = tt
-libraries_all d Q P entry regions (x ∷ xs) so h = (so entry regions x h.0, libraries_all d Q P (entry + library_entries x) (drop 1 regions) xs so h.1)
+libraries_all d Q P entry regions (x ∷ xs) so h = (so entry regions x h.0, libraries_all d Q P (entry + built_library_entries x) (drop 1 regions) xs so h.1)

@@ -17,9 +17,9 @@ use Rattle.def_image.specs.Spelling.{padding_after, raw_device, raw_shared, raw_
 use Rattle.def_image.specs.Sizes.{sealed_size}
 use Rattle.def_image.specs.Profile.{outside}
 use Rattle.def_image.specs.Checks.{first, walked, check}
-use Rattle.def_image.specs.Limits.{name_checks, device_name, device_limits, shared_name, shared_limits, sealed_name, overfills, sealed_limits, thread_name, thread_limits_by, owner_names, thread_limits, are_zeros}
+use Rattle.def_image.specs.Limits.{name_checks, raw_device_name, device_limits, shared_name, shared_limits, sealed_name, overfills, sealed_limits, thread_name, thread_limits_by, raw_owner_names, thread_limits, are_zeros}
 use Rattle.def_image.specs.Sound.{IsWithin}
-use Rattle.def_desc.specs.Rows.{SharedRow, SealedRow, ThreadRow, DescRow}
+use Rattle.def_desc.specs.Rows.{DescShared, DescSealed, DescThread, DescRow}
 use Rattle.def_desc.specs.Lawful.{IsLawfulShared, IsLawfulSealed, IsLawfulThread}
 use Rattle.def_link.specs.Linked.{shared_parts, sealed_parts, thread_parts}
 use Rattle.law_link.proofs.Walks.{next_none}
@@ -39,13 +39,13 @@ kind_within Uart = refl
 kind_within Timer = refl
 kind_within Gpio = refl
 
-device_passes : (at : ℕ) (earlier : List RawDevice) (d : DeviceRow) → is_name d.name ≡ true → among d.name (map device_name earlier) ≡ false → first (device_limits at earlier (raw_device d)) ≡ None
+device_passes : (at : ℕ) (earlier : List RawDevice) (d : DeviceRow) → is_name d.name ≡ true → among d.name (map raw_device_name earlier) ≡ false → first (device_limits at earlier (raw_device d)) ≡ None
 unfolding device_limits
 device_passes at earlier d formed new =
-    joined_none (name_checks at false (map device_name earlier) (raw_device d).name) (check (at + 32) (outside 1 3 (device_number d.kind)) ∷ [])
-    (name_passes at false (map device_name earlier) d.name formed new refl) (one_none (at + 32) (outside 1 3 (device_number d.kind)) (kind_within d.kind))
+    joined_none (name_checks at false (map raw_device_name earlier) (raw_device d).name) (check (at + 32) (outside 1 3 (device_number d.kind)) ∷ [])
+    (name_passes at false (map raw_device_name earlier) d.name formed new refl) (one_none (at + 32) (outside 1 3 (device_number d.kind)) (kind_within d.kind))
 
-devices_back : (ds : List DeviceRow) → AllByRecursion (λ (d : DeviceRow). is_name d.name ≡ true) ds → AllByRecursion (λ d. device_name (raw_device d) ≡ device_title d) ds
+devices_back : (ds : List DeviceRow) → AllByRecursion (λ (d : DeviceRow). is_name d.name ≡ true) ds → AllByRecursion (λ d. raw_device_name (raw_device d) ≡ device_title d) ds
 unfolding device_title
 devices_back [] h = tt
 devices_back (d ∷ ds) h = (name_back d.name (name_is d.name h.0), devices_back ds h.1)
@@ -54,11 +54,11 @@ pub devices_pass : (at : ℕ) (ds : List DeviceRow) → AllByRecursion (λ (d : 
     → first (walked device_limits (λ d. DEVICE) at [] (map raw_device ds)) ≡ None
 unfolding device_title
 devices_pass at ds formed new =
-    walk_along raw_device (λ before (d : DeviceRow). (is_name d.name ≡ true) × (among d.name (map device_name before) ≡ false)) device_limits (λ d. DEVICE)
+    walk_along raw_device (λ before (d : DeviceRow). (is_name d.name ≡ true) × (among d.name (map raw_device_name before) ≡ false)) device_limits (λ d. DEVICE)
     (λ place before d k. device_passes place before d k.0 k.1) at [] ds
-    (along_both raw_device (λ before (d : DeviceRow). is_name d.name ≡ true) (λ before (d : DeviceRow). among d.name (map device_name before) ≡ false) [] ds
+    (along_both raw_device (λ before (d : DeviceRow). is_name d.name ≡ true) (λ before (d : DeviceRow). among d.name (map raw_device_name before) ≡ false) [] ds
     (along_all raw_device (λ (d : DeviceRow). is_name d.name ≡ true) [] ds formed)
-    (along_new raw_device device_name device_title [] [] ds refl (devices_back ds formed) new))
+    (along_new raw_device raw_device_name device_title [] [] ds refl (devices_back ds formed) new))
 
 -- ---- shared objects
 
@@ -69,8 +69,8 @@ pub record SharedGood (s : SharedPart) : Type 0 where
   pub named : is_name s.name ≡ true
   pub sized : IsWithin 1 MOST_BYTES s.length
 
-pub shared_good : (end : ℕ) (rest : List ℕ) (ss : List SharedRow) → AllByRecursion IsLawfulShared ss → AllByRecursion (λ n. is_name n ≡ true) (map (λ (s : SharedRow). s.name) ss)
-    → AllByRecursion SharedGood (shared_parts (placed end (map (λ (s : SharedRow). s.size) ss ++ rest)) ss)
+pub shared_good : (end : ℕ) (rest : List ℕ) (ss : List DescShared) → AllByRecursion IsLawfulShared ss → AllByRecursion (λ n. is_name n ≡ true) (map (λ (s : DescShared). s.name) ss)
+    → AllByRecursion SharedGood (shared_parts (placed end (map (λ (s : DescShared). s.size) ss ++ rest)) ss)
 unfolding shared_parts placed
 shared_good end rest [] h names = tt
 shared_good end rest (s ∷ ss) h names =
@@ -81,7 +81,7 @@ shared_good end rest (s ∷ ss) h names =
       shared_good (region_base end s.size + region_length s.size) rest ss h.1 names.1,
     )
 
-pub shared_titles : (regions : List Region) (ss : List SharedRow) → map shared_title (shared_parts regions ss) ≡ map (λ (s : SharedRow). s.name) ss
+pub shared_titles : (regions : List Region) (ss : List DescShared) → map shared_title (shared_parts regions ss) ≡ map (λ (s : DescShared). s.name) ss
 unfolding shared_parts shared_title
 shared_titles regions [] = refl
 shared_titles regions (s ∷ ss) = ap (λ l. s.name ∷ l) (shared_titles (drop 1 regions) ss)
@@ -119,8 +119,8 @@ pub record SealedGood (s : SealedPart) : Type 0 where
   pub fits : length s.bytes ≤ s.length
   pub bytes : AllByRecursion (λ b. b < 256) s.bytes
 
-pub sealed_good : (end : ℕ) (rest : List ℕ) (ss : List SealedRow) → AllByRecursion IsLawfulSealed ss → AllByRecursion (λ n. is_name n ≡ true) (map (λ (s : SealedRow). s.name) ss)
-    → AllByRecursion SealedGood (sealed_parts (placed end (map (λ (s : SealedRow). length s.bytes) ss ++ rest)) ss)
+pub sealed_good : (end : ℕ) (rest : List ℕ) (ss : List DescSealed) → AllByRecursion IsLawfulSealed ss → AllByRecursion (λ n. is_name n ≡ true) (map (λ (s : DescSealed). s.name) ss)
+    → AllByRecursion SealedGood (sealed_parts (placed end (map (λ (s : DescSealed). length s.bytes) ss ++ rest)) ss)
 unfolding sealed_parts placed
 sealed_good end rest [] h names = tt
 sealed_good end rest (s ∷ ss) h names =
@@ -132,7 +132,7 @@ sealed_good end rest (s ∷ ss) h names =
       sealed_good (region_base end n + region_length n) rest ss h.1 names.1,
     )
 
-pub sealed_titles : (regions : List Region) (ss : List SealedRow) → map sealed_title (sealed_parts regions ss) ≡ map (λ (s : SealedRow). s.name) ss
+pub sealed_titles : (regions : List Region) (ss : List DescSealed) → map sealed_title (sealed_parts regions ss) ≡ map (λ (s : DescSealed). s.name) ss
 unfolding sealed_parts sealed_title
 sealed_titles regions [] = refl
 sealed_titles regions (s ∷ ss) = ap (λ l. s.name ∷ l) (sealed_titles (drop 1 regions) ss)
@@ -177,8 +177,8 @@ pub record ThreadGood (t : ThreadPart) : Type 0 where
   pub priority : t.priority ≤ 15
   pub frames : IsWithin 1 96 t.frames
 
-pub threads_good : (d : DescRow) (end : ℕ) (rest : List ℕ) (ts : List ThreadRow) → AllByRecursion (IsLawfulThread d) ts → AllByRecursion (λ n. is_name n ≡ true) (map (λ (t : ThreadRow). t.name) ts)
-    → AllByRecursion ThreadGood (thread_parts d (placed end (map (λ (t : ThreadRow). t.stack) ts ++ rest)) ts)
+pub threads_good : (d : DescRow) (end : ℕ) (rest : List ℕ) (ts : List DescThread) → AllByRecursion (IsLawfulThread d) ts → AllByRecursion (λ n. is_name n ≡ true) (map (λ (t : DescThread). t.name) ts)
+    → AllByRecursion ThreadGood (thread_parts d (placed end (map (λ (t : DescThread). t.stack) ts ++ rest)) ts)
 unfolding thread_parts placed
 threads_good d end rest [] h names = tt
 threads_good d end rest (t ∷ ts) h names =
@@ -188,7 +188,7 @@ threads_good d end rest (t ∷ ts) h names =
       threads_good d (region_base end t.stack + region_length t.stack) rest ts h.1 names.1,
     )
 
-pub thread_titles : (d : DescRow) (regions : List Region) (ts : List ThreadRow) → map thread_title (thread_parts d regions ts) ≡ map (λ (t : ThreadRow). t.name) ts
+pub thread_titles : (d : DescRow) (regions : List Region) (ts : List DescThread) → map thread_title (thread_parts d regions ts) ≡ map (λ (t : DescThread). t.name) ts
 unfolding thread_parts thread_title
 thread_titles d regions [] = refl
 thread_titles d regions (t ∷ ts) = ap (λ l. t.name ∷ l) (thread_titles d (drop 1 regions) ts)
@@ -198,10 +198,10 @@ unfolding thread_title
 threads_back [] h = tt
 threads_back (t ∷ ts) h = (name_back t.name (name_is t.name h.0.named), threads_back ts h.1)
 
-thread_passes : (r : RawImage) (at : ℕ) (earlier : List RawThread) (t : ThreadPart) → ThreadGood t → among t.name (owner_names r ++ map thread_name earlier) ≡ false → first (thread_limits r at earlier (raw_thread t)) ≡ None
+thread_passes : (r : RawImage) (at : ℕ) (earlier : List RawThread) (t : ThreadPart) → ThreadGood t → among t.name (raw_owner_names r ++ map thread_name earlier) ≡ false → first (thread_limits r at earlier (raw_thread t)) ≡ None
 unfolding thread_limits_by
 thread_passes r at earlier t h new =
-    let seen = owner_names r ++ map thread_name earlier in
+    let seen = raw_owner_names r ++ map thread_name earlier in
     let c1 = check (at + 36) (outside 256 32768 t.stack_length) in
     let c2 = check (at + 48) (nat_lt 15 t.priority) in
     let c3 = check (at + 52) (outside 1 96 t.frames) in
@@ -211,11 +211,11 @@ thread_passes r at earlier t h new =
     (next_none c2 (c3 ∷ []) (le-ltb 15 t.priority h.priority)
     (one_none (at + 52) (outside 1 96 t.frames) (inside 1 96 t.frames h.frames))))
 
-pub threads_pass : (r : RawImage) (at : ℕ) (ts : List ThreadPart) → AllByRecursion ThreadGood ts → New (owner_names r) (map thread_title ts) → first (walked (thread_limits r) (λ t. THREAD) at [] (map raw_thread ts)) ≡ None
+pub threads_pass : (r : RawImage) (at : ℕ) (ts : List ThreadPart) → AllByRecursion ThreadGood ts → New (raw_owner_names r) (map thread_title ts) → first (walked (thread_limits r) (λ t. THREAD) at [] (map raw_thread ts)) ≡ None
 unfolding thread_title
 threads_pass r at ts good new =
-    walk_along raw_thread (λ before (t : ThreadPart). ThreadGood t × (among t.name (owner_names r ++ map thread_name before) ≡ false)) (thread_limits r) (λ t. THREAD)
+    walk_along raw_thread (λ before (t : ThreadPart). ThreadGood t × (among t.name (raw_owner_names r ++ map thread_name before) ≡ false)) (thread_limits r) (λ t. THREAD)
     (λ place before t k. thread_passes r place before t k.0 k.1) at [] ts
-    (along_both raw_thread (λ before t. ThreadGood t) (λ before (t : ThreadPart). among t.name (owner_names r ++ map thread_name before) ≡ false) [] ts
+    (along_both raw_thread (λ before t. ThreadGood t) (λ before (t : ThreadPart). among t.name (raw_owner_names r ++ map thread_name before) ≡ false) [] ts
     (along_all raw_thread ThreadGood [] ts good)
-    (along_after raw_thread thread_name thread_title (owner_names r) [] [] ts refl (threads_back ts good) (subst (λ l. New l (map thread_title ts)) (sym (append-nil (owner_names r))) new)))
+    (along_after raw_thread thread_name thread_title (raw_owner_names r) [] [] ts refl (threads_back ts good) (subst (λ l. New l (map thread_title ts)) (sym (append-nil (raw_owner_names r))) new)))

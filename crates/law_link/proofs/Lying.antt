@@ -6,7 +6,7 @@ use Rattle.std.proofs.lemmas.Bool.{le-leb, le-ltb, eq-eqb}
 use Rattle.ct_entry.specs.Listed.{DeviceRow}
 use Rattle.law_lists.proofs.Alls.{all_joined, all_so}
 use Rattle.law_lists.proofs.Tests.{lt_tells}
-use Rattle.def_layout.specs.Placement.{region, region_length, region_base, placed, last_end}
+use Rattle.def_layout.specs.Placement.{region_from, region_length, region_base, placed, last_end}
 use Rattle.def_image.specs.declared.format.TheConstants.{DEVICE}
 use Rattle.def_image.specs.Parts.{PartsRow}
 use Rattle.def_image.specs.Spelling.{raw_of}
@@ -14,13 +14,13 @@ use Rattle.def_image.specs.Sizes.{sum_of, header_size, shared_at, sealed_at, com
 use Rattle.def_image.specs.Regions.{RegionRow, TrustedPart, trusted_region, trusted_length, shared_regions, sealed_regions, compartment_regions, library_regions, stack_regions, later_regions}
 use Rattle.def_image.specs.Regions as regions
 use Rattle.def_image.specs.Checks.{first, walked, check}
-use Rattle.def_image.specs.Lying.{meets, meets_native, is_laid, is_heap_laid, region_asked, meets_device, is_device_laid, device_asked, region_checks}
+use Rattle.def_image.specs.Lying.{overlaps, overlaps_native, is_laid, is_heap_laid, region_asked, overlaps_device, is_device_laid, device_asked, region_checks}
 use Rattle.def_image.specs.Sound.{IsAway}
 use Rattle.def_desc.specs.declared.Ram.{Ram}
-use Rattle.def_desc.specs.Rows.{SharedRow, SealedRow, ThreadRow, DescRow}
+use Rattle.def_desc.specs.Rows.{DescShared, DescSealed, DescThread, DescRow}
 use Rattle.def_desc.specs.Lawful.{IsLawful, IsLawfulDevice, IsLawfulShared, IsLawfulSealed, IsLawfulThread, AreApart}
 use Rattle.def_link.specs.Owners.{compartment_unit, library_unit}
-use Rattle.def_link.specs.Linked.{BuiltCompartment, BuiltLibrary, library_code_size, compartment_sizes, area_size, sizes_of, base_at, compartment_parts, compartment_entries, library_parts, shared_parts, sealed_parts, thread_parts, parts_of}
+use Rattle.def_link.specs.Linked.{BuiltCompartment, BuiltLibrary, library_code_size, compartment_sizes, saved_area_size, sizes_of, base_at, compartment_parts, built_compartment_entries, library_parts, shared_parts, sealed_parts, thread_parts, parts_of}
 use Rattle.law_image.proofs.Limited.{threads_most}
 use Rattle.law_image.proofs.Members.{all_at}
 use Rattle.law_image.proofs.Passing.{joined_none, one_none}
@@ -64,16 +64,16 @@ library_sized d x g =
 
 -- the sizes of a list's regions
 unfoldable pub shared_sizes : DescRow → List ℕ
-shared_sizes d = map (λ (s : SharedRow). s.size) d.shared
+shared_sizes d = map (λ (s : DescShared). s.size) d.shared
 
 unfoldable pub sealed_sizes : DescRow → List ℕ
-sealed_sizes d = map (λ (s : SealedRow). length s.bytes) d.sealed
+sealed_sizes d = map (λ (s : DescSealed). length s.bytes) d.sealed
 
 unfoldable pub stack_sizes : DescRow → List ℕ
-stack_sizes d = map (λ (t : ThreadRow). t.stack) d.threads
+stack_sizes d = map (λ (t : DescThread). t.stack) d.threads
 
 unfoldable pub trusted_size : DescRow → ℕ
-trusted_size d = 16 + sum_of area_size d.threads
+trusted_size d = 16 + sum_of saved_area_size d.threads
 
 -- five lists and a last size, cut after each list
 cut_1 : (a b c e f z : List ℕ) → a ++ b ++ c ++ e ++ f ++ z ≡ a ++ (b ++ (c ++ (e ++ (f ++ z))))
@@ -115,16 +115,16 @@ ends d cs ls =
     let b = d.ram.base in
     let c = compartment_sizes cs in
     let l = map library_code_size ls in
-    let s = map (λ (s : SharedRow). s.size) d.shared in
-    let x = map (λ (s : SealedRow). length s.bytes) d.sealed in
-    let t = map (λ (t : ThreadRow). t.stack) d.threads in
-    let n = 16 + sum_of area_size d.threads in
+    let s = map (λ (s : DescShared). s.size) d.shared in
+    let x = map (λ (s : DescSealed). length s.bytes) d.sealed in
+    let t = map (λ (t : DescThread). t.stack) d.threads in
+    let n = 16 + sum_of saved_area_size d.threads in
     let z = n ∷ [] in
     let count_c : length c ≡ 3 * length cs = compartment_count cs in
     let count_l : length l ≡ length ls = length-map ls library_code_size in
-    let count_s : length s ≡ length d.shared = length-map d.shared (λ (s : SharedRow). s.size) in
-    let count_x : length x ≡ length d.sealed = length-map d.sealed (λ (s : SealedRow). length s.bytes) in
-    let count_t : length t ≡ length d.threads = length-map d.threads (λ (t : ThreadRow). t.stack) in
+    let count_s : length s ≡ length d.shared = length-map d.shared (λ (s : DescShared). s.size) in
+    let count_x : length x ≡ length d.sealed = length-map d.sealed (λ (s : DescSealed). length s.bytes) in
+    let count_t : length t ≡ length d.threads = length-map d.threads (λ (t : DescThread). t.stack) in
     let n2 = length-append c l in
     let n3 = length-append (c ++ l) s in
     let n4 = length-append (c ++ l ++ s) x in
@@ -141,7 +141,7 @@ ends d cs ls =
       x_to = sym (last_joined b (c ++ l ++ s) x);
       t_to = sym (last_joined b (c ++ l ++ s ++ x) t);
       heap = last_joined b (c ++ l ++ s ++ x ++ t) z;
-      trusted = last_base b (3 * length cs + length ls + length d.shared + length d.sealed + length d.threads) (sizes_of d cs ls) (c ++ l ++ s ++ x ++ t) n (region 0 0) refl
+      trusted = last_base b (3 * length cs + length ls + length d.shared + length d.sealed + length d.threads) (sizes_of d cs ls) (c ++ l ++ s ++ x ++ t) n (region_from 0 0) refl
           (omega (arith, count_c, count_l, count_s, count_x, count_t, n2, n3, n4, n5));
       all = ap (placed b) (cut_1 c l s x t z);
       libraries = left_after b (3 * length cs) (sizes_of d cs ls) c (l ++ (s ++ (x ++ (t ++ z)))) (cut_1 c l s x t z) (sym count_c);
@@ -175,13 +175,13 @@ stretches d cs ls law good_cs good_ls e =
     let all = placed d.ram.base sizes in
     let p = parts_of d cs ls all (last_end d.ram.base sizes) in
     let r = raw_of p in
-    let n = 16 + sum_of area_size d.threads in
+    let n = 16 + sum_of saved_area_size d.threads in
     let z = n ∷ [] in
     let l = map library_code_size ls in
-    let s = map (λ (s : SharedRow). s.size) d.shared in
-    let x = map (λ (s : SealedRow). length s.bytes) d.sealed in
-    let t = map (λ (t : ThreadRow). t.stack) d.threads in
-    let frames = all_so (IsLawfulThread d) (λ (t : ThreadRow). t.frames ≤ 96) d.threads (λ t h. h.frames.1) law.thread in
+    let s = map (λ (s : DescShared). s.size) d.shared in
+    let x = map (λ (s : DescSealed). length s.bytes) d.sealed in
+    let t = map (λ (t : DescThread). t.stack) d.threads in
+    let frames = all_so (IsLawfulThread d) (λ (t : DescThread). t.frames ≤ 96) d.threads (λ t h. h.frames.1) law.thread in
     let few = law.few.threads in
     let most = threads_most d.version in
     let small = few_areas d.threads 64 frames (omega (arith, few, most)) in
@@ -195,19 +195,19 @@ stretches d cs ls law good_cs good_ls e =
       compartments = subst (λ rs. Between d.ram.base (compartment_regions (compartments_at r) 0 (compartment_parts d 1 rs cs)) e.e1) (sym e.all)
           (subst (Between d.ram.base (compartment_regions (compartments_at r) 0 (compartment_parts d 1 (placed d.ram.base (compartment_sizes cs ++ (l ++ (s ++ (x ++ (t ++ z)))))) cs))) e.c_to
           (compartments_between d 1 d.ram.base (compartments_at r) 0 (l ++ (s ++ (x ++ (t ++ z)))) cs (all_so (GoodCompartment d) AreSized cs (λ y g. compartment_sized d y g) good_cs)));
-      libraries = subst (λ rs. Between e.e1 (library_regions (libraries_at r) 0 (library_parts d (1 + sum_of compartment_entries cs) rs ls)) e.e2) (sym e.libraries)
-          (subst (Between e.e1 (library_regions (libraries_at r) 0 (library_parts d (1 + sum_of compartment_entries cs) (placed e.e1 (l ++ (s ++ (x ++ (t ++ z))))) ls))) e.l_to
-          (libraries_between d (1 + sum_of compartment_entries cs) e.e1 (libraries_at r) 0 (s ++ (x ++ (t ++ z))) ls (all_so (GoodLibrary d) (λ y. library_code_size y ≤ 2097152) ls (λ y g. library_sized d y g) good_ls)));
+      libraries = subst (λ rs. Between e.e1 (library_regions (libraries_at r) 0 (library_parts d (1 + sum_of built_compartment_entries cs) rs ls)) e.e2) (sym e.libraries)
+          (subst (Between e.e1 (library_regions (libraries_at r) 0 (library_parts d (1 + sum_of built_compartment_entries cs) (placed e.e1 (l ++ (s ++ (x ++ (t ++ z))))) ls))) e.l_to
+          (libraries_between d (1 + sum_of built_compartment_entries cs) e.e1 (libraries_at r) 0 (s ++ (x ++ (t ++ z))) ls (all_so (GoodLibrary d) (λ y. library_code_size y ≤ 2097152) ls (λ y g. library_sized d y g) good_ls)));
       shared = subst (λ rs. Between e.e2 (shared_regions (shared_at r) 0 (shared_parts rs d.shared)) e.e3) (sym e.shared)
           (subst (Between e.e2 (shared_regions (shared_at r) 0 (shared_parts (placed e.e2 (s ++ (x ++ (t ++ z)))) d.shared))) e.s_to
-          (shared_between e.e2 (shared_at r) 0 (x ++ (t ++ z)) d.shared (all_so IsLawfulShared (λ (y : SharedRow). y.size ≤ 2097152) d.shared (λ y h. let k = h.1 in omega (arith, k)) law.shared_object)));
+          (shared_between e.e2 (shared_at r) 0 (x ++ (t ++ z)) d.shared (all_so IsLawfulShared (λ (y : DescShared). y.size ≤ 2097152) d.shared (λ y h. let k = h.1 in omega (arith, k)) law.shared_object)));
       sealed = subst (λ rs. Between e.e3 (sealed_regions (sealed_at r) 0 (sealed_parts rs d.sealed)) e.e4) (sym e.sealed)
           (subst (Between e.e3 (sealed_regions (sealed_at r) 0 (sealed_parts (placed e.e3 (x ++ (t ++ z))) d.sealed))) e.x_to
-          (sealed_between e.e3 (sealed_at r) 0 (t ++ z) d.sealed (all_so IsLawfulSealed (λ (y : SealedRow). length y.bytes ≤ 2097152) d.sealed (λ y h. let k = h.few.1 in omega (arith, k)) law.sealed_object)));
+          (sealed_between e.e3 (sealed_at r) 0 (t ++ z) d.sealed (all_so IsLawfulSealed (λ (y : DescSealed). length y.bytes ≤ 2097152) d.sealed (λ y h. let k = h.few.1 in omega (arith, k)) law.sealed_object)));
       stacks = subst (λ rs. Between e.e4 (stack_regions (threads_at r) 0 (thread_parts d rs d.threads)) e.e5) (sym e.threads)
           (subst (Between e.e4 (stack_regions (threads_at r) 0 (thread_parts d (placed e.e4 (t ++ z)) d.threads))) e.t_to
-          (stacks_between d e.e4 (threads_at r) 0 z d.threads (all_so (IsLawfulThread d) (λ (y : ThreadRow). y.stack ≤ 2097152) d.threads (λ y h. let k = h.stack.1 in omega (arith, k)) law.thread)));
-      trusted = subst (λ k. Stands e.e5 (regions.region TrustedPart 44 k (trusted_length p))) (sym e.trusted)
+          (stacks_between d e.e4 (threads_at r) 0 z d.threads (all_so (IsLawfulThread d) (λ (y : DescThread). y.stack ≤ 2097152) d.threads (λ y h. let k = h.stack.1 in omega (arith, k)) law.thread)));
+      trusted = subst (λ k. Stands e.e5 (regions.region_row TrustedPart 44 k (trusted_length p))) (sym e.trusted)
           (stands e.e5 n TrustedPart 44 (trusted_length p) (omega (arith, small)) length_is);
       heap = (let h = e.heap in let b = e.trusted in omega (arith, h, b, length_is));
     }
@@ -292,12 +292,12 @@ later_pass p s top =
 
 -- ---- devices
 
-away_meets : (a m b n : ℕ) → IsAway a m b (b + n) → meets a m b n ≡ false
+away_meets : (a m b n : ℕ) → IsAway a m b (b + n) → overlaps a m b n ≡ false
 away_meets a m b n (inl le) = rw (le-ltb b (a + m) le) (fourth_false (nat_lt 0 m) (nat_lt 0 n) (nat_lt a (b + n)))
 away_meets a m b n (inr le) = rw (le-ltb a (b + n) le) (third_false (nat_lt 0 m) (nat_lt 0 n) (nat_lt b (a + m)))
 
 -- two bases of whole units that differ
-units_apart : (a b : ℕ) → a % 16 ≡ 0 → b % 16 ≡ 0 → (b ≡ a → ⊥) → meets a 16 b 16 ≡ false
+units_apart : (a b : ℕ) → a % 16 ≡ 0 → b % 16 ≡ 0 → (b ≡ a → ⊥) → overlaps a 16 b 16 ≡ false
 units_apart a b ea eb unlike = elim (lt_tells a b) [
   | inl h ↦ (let lt = h.1 in away_meets a 16 b 16 (inl (omega (arith, lt, ea, eb))))
   | inr h ↦ elim (lt_tells b a) [
@@ -321,7 +321,7 @@ device_passes q r ds base size each apart i x is =
       eq-eqb (x.base % 16) 0 h.even,
       away_meets x.base 16 q.ram q.size away,
       away_meets x.base 16 65536 4096 h.native,
-      none_taken (meets_device x.base) ds i (λ k y lt at.
+      none_taken (overlaps_device x.base) ds i (λ k y lt at.
           units_apart x.base y.base h.even (all_at (IsLawfulDevice r) ds k y each at).even
           (λ same. let one = apart k i y x at is same in omega (arith, one, lt))),
     ) refl
@@ -346,7 +346,7 @@ all_pass p r s base size top native each apart =
     let heap_laid : is_heap_laid p ≡ true = rw (eq-eqb (p.heap % 16) 0 (omega (arith, heap, even, whole)), le-leb p.heap (p.ram + p.size) top, le-leb (p.trusted + trusted_length p) p.heap (omega (arith, heap))) refl in
     let v = walked (device_asked p) (λ d. DEVICE) (header_size p.version) [] p.devices in
     let w = walked (region_asked p) (λ r. 0) 0 [] (later_regions p) in
-    next_none (check 36 (meets_native p.ram p.size)) (check 44 (not (is_laid p [] (trusted_region p))) ∷ check 48 (not (is_heap_laid p)) ∷ v ++ w) (away_meets p.ram p.size 65536 4096 native)
+    next_none (check 36 (overlaps_native p.ram p.size)) (check 44 (not (is_laid p [] (trusted_region p))) ∷ check 48 (not (is_heap_laid p)) ∷ v ++ w) (away_meets p.ram p.size 65536 4096 native)
     (next_none (check 44 (not (is_laid p [] (trusted_region p)))) (check 48 (not (is_heap_laid p)) ∷ v ++ w) (ap not laid)
     (next_none (check 48 (not (is_heap_laid p))) (v ++ w) (ap not heap_laid)
     (joined_none v w (devices_pass p r p.devices (header_size p.version) base size each apart) (later_pass p s top))))

@@ -16,8 +16,8 @@ use Rattle.def_image.specs.Limits.{compartment_bounds, library_bounds}
 use Rattle.def_desc.specs.Rows.{DescRow}
 use Rattle.def_desc.specs.Lawful.{IsLawful}
 use Rattle.def_link.specs.Owners.{compartment_unit, library_unit}
-use Rattle.def_link.specs.Slots.{slot, switch_row, import_slot, quota_slot, key_slot, compartment_slots, library_slots, export_gate, lexport_gate, compartment_gates, library_gates}
-use Rattle.def_link.specs.Linked.{BuiltCompartment, BuiltLibrary, compartment_slot_count, compartment_code_size, library_code_size, compartment_sizes, compartment_part, compartment_parts, compartment_entries, library_part, library_parts, library_entries}
+use Rattle.def_link.specs.Slots.{slot, switch_row, import_slot, quota_slot, key_slot, compartment_slots, library_slots, export_gate, lexport_gate, compartment_gate_rows, library_gate_rows}
+use Rattle.def_link.specs.Linked.{BuiltCompartment, BuiltLibrary, compartment_slot_count, compartment_code_size, library_code_size, compartment_sizes, compartment_part, compartment_parts, built_compartment_entries, library_part, library_parts, built_library_entries}
 use Rattle.law_link.proofs.Linkeds.{GoodCompartment, GoodLibrary}
 use Rattle.law_link.proofs.Indexed.{numbered_length}
 use Rattle.law_link.proofs.Texts.{IsText}
@@ -79,19 +79,19 @@ compartment_good d entry end rest x name law g small =
       slots = refl;
       slots_few = omega (arith, count, i, q, k);
       own = own_slots d law x.row row;
-      gates = subst (λ m. Gates compartment_bounds (length x.built.text) m (compartment_gates x.built first x.row)) same
+      gates = subst (λ m. Gates compartment_bounds (length x.built.text) m (compartment_gate_rows x.built first x.row)) same
           (compartment_gates_good x.built first x.row text.few (omega (arith, i, q, k, e, small)) b.begins row.export row.gates);
     }
 
-raw_count : (d : DescRow) (entry : ℕ) (regions : List Region) (x : BuiltCompartment) → lim.compartment_entries (raw_compartment (compartment_part d entry regions x)) ≡ compartment_entries x
+raw_count : (d : DescRow) (entry : ℕ) (regions : List Region) (x : BuiltCompartment) → lim.raw_compartment_entries (raw_compartment (compartment_part d entry regions x)) ≡ built_compartment_entries x
 raw_count d entry regions x =
     let first = entry + 2 + compartment_slot_count x.row in
-    let fields = fields_count (compartment_slots d x.row) (compartment_gates x.built first x.row) in
+    let fields = fields_count (compartment_slots d x.row) (compartment_gate_rows x.built first x.row) in
     let slots = slot_count d x.row in
     let gates = numbered_length (export_gate x.built) first x.row.exports in
     omega (arith, fields, slots, gates)
 
-entries_few : (d : DescRow) (x : BuiltCompartment) → GoodCompartment d x → compartment_entries x ≤ MOST_COMPARTMENT_ENTRIES
+entries_few : (d : DescRow) (x : BuiltCompartment) → GoodCompartment d x → built_compartment_entries x ≤ MOST_COMPARTMENT_ENTRIES
 entries_few d x g =
     let row = g.row in
     let i = row.imports in
@@ -102,10 +102,10 @@ entries_few d x g =
 
 -- each part is good under the number of its first entry
 unfoldable pub Numbered : List RawCompartment → CompartmentPart → Type 0
-Numbered before c = CompartmentGood (1 + sum_of lim.compartment_entries before) c
+Numbered before c = CompartmentGood (1 + sum_of lim.raw_compartment_entries before) c
 
 pub compartments_along : (d : DescRow) → IsLawful d → (entry end : ℕ) (rest : List ℕ) (earlier : List RawCompartment) (cs : List BuiltCompartment)
-    → entry ≡ 1 + sum_of lim.compartment_entries earlier → entry + MOST_COMPARTMENT_ENTRIES * length cs ≤ 100000
+    → entry ≡ 1 + sum_of lim.raw_compartment_entries earlier → entry + MOST_COMPARTMENT_ENTRIES * length cs ≤ 100000
     → AllByRecursion (GoodCompartment d) cs → AllByRecursion (λ (x : BuiltCompartment). is_name x.row.name ≡ true) cs
     → Along raw_compartment Numbered earlier (compartment_parts d entry (placed end (compartment_sizes cs ++ rest)) cs)
 unfolding compartment_parts Along Numbered placed last_end
@@ -114,9 +114,9 @@ compartments_along d law entry end rest earlier (x ∷ xs) is small good names =
     let part = compartment_part d entry (placed end (compartment_sizes (x ∷ xs) ++ rest)) x in
     let few = entries_few d x good.0 in
     let count = raw_count d entry (placed end (compartment_sizes (x ∷ xs) ++ rest)) x in
-    let sum = sum_end lim.compartment_entries earlier (raw_compartment part) in (
+    let sum = sum_end lim.raw_compartment_entries earlier (raw_compartment part) in (
       subst (λ n. CompartmentGood n part) is (compartment_good d entry end (compartment_sizes xs ++ rest) x names.0 law good.0 (omega (arith, small))),
-      compartments_along d law (entry + compartment_entries x) (last_end end (compartment_sizes (x ∷ []))) rest (earlier ++ raw_compartment part ∷ []) xs (omega (arith, is, count, sum)) (omega (arith, small, few)) good.1 names.1,
+      compartments_along d law (entry + built_compartment_entries x) (last_end end (compartment_sizes (x ∷ []))) rest (earlier ++ raw_compartment part ∷ []) xs (omega (arith, is, count, sum)) (omega (arith, small, few)) good.1 names.1,
     )
 
 -- ---- libraries
@@ -142,23 +142,23 @@ library_good d entry end rest x name law g small =
       code = code_good (library_part d entry (placed end (library_code_size x ∷ rest)) x) x.built.initial name text (omega (arith, code_fits, count)) (omega (arith, e, gates));
       few = omega (arith, count, i);
       slots = library_slots_good d law x.row row;
-      gates = subst (λ m. Gates library_bounds (length x.built.text) m (library_gates x.built first x.row)) same
+      gates = subst (λ m. Gates library_bounds (length x.built.text) m (library_gate_rows x.built first x.row)) same
           (library_gates_good x.built first x.row text.few (omega (arith, i, e, small)) b.begins row.gates);
     }
 
-raw_library_count : (d : DescRow) (entry : ℕ) (regions : List Region) (x : BuiltLibrary) → lim.library_entries (raw_code (library_part d entry regions x)) ≡ library_entries x
+raw_library_count : (d : DescRow) (entry : ℕ) (regions : List Region) (x : BuiltLibrary) → lim.raw_library_entries (raw_code (library_part d entry regions x)) ≡ built_library_entries x
 raw_library_count d entry regions x =
     let first = entry + 1 + length x.row.imports in
-    let fields = fields_count (library_slots d x.row) (library_gates x.built first x.row) in
+    let fields = fields_count (library_slots d x.row) (library_gate_rows x.built first x.row) in
     let slots = library_slot_count d x.row in
     let gates = numbered_length (lexport_gate x.built) first x.row.exports in
     omega (arith, fields, slots, gates)
 
 unfoldable pub NumberedAfter : ℕ → List RawCode → CodePart → Type 0
-NumberedAfter first before c = LibraryGood (first + sum_of lim.library_entries before) c
+NumberedAfter first before c = LibraryGood (first + sum_of lim.raw_library_entries before) c
 
 pub libraries_along : (d : DescRow) → IsLawful d → (first entry end : ℕ) (rest : List ℕ) (earlier : List RawCode) (ls : List BuiltLibrary)
-    → entry ≡ first + sum_of lim.library_entries earlier → entry + MOST_LIBRARY_ENTRIES * length ls ≤ 200000
+    → entry ≡ first + sum_of lim.raw_library_entries earlier → entry + MOST_LIBRARY_ENTRIES * length ls ≤ 200000
     → AllByRecursion (GoodLibrary d) ls → AllByRecursion (λ (x : BuiltLibrary). is_name x.row.name ≡ true) ls
     → Along raw_code (NumberedAfter first) earlier (library_parts d entry (placed end (map library_code_size ls ++ rest)) ls)
 unfolding library_parts Along NumberedAfter placed
@@ -172,21 +172,21 @@ libraries_along d law first entry end rest earlier (x ∷ xs) is small good name
     let i = row.imports in
     let e = row.exports in
     let count = raw_library_count d entry regions x in
-    let sum = sum_end lim.library_entries earlier (raw_code part) in (
+    let sum = sum_end lim.raw_library_entries earlier (raw_code part) in (
       subst (λ k. LibraryGood k part) is (library_good d entry end (map library_code_size xs ++ rest) x names.0 law good.0 (omega (arith, small))),
-      libraries_along d law first (entry + library_entries x) next rest (earlier ++ raw_code part ∷ []) xs (omega (arith, is, count, sum)) (omega (arith, small, i, e)) good.1 names.1,
+      libraries_along d law first (entry + built_library_entries x) next rest (earlier ++ raw_code part ∷ []) xs (omega (arith, is, count, sum)) (omega (arith, small, i, e)) good.1 names.1,
     )
 
 -- how many entries compartments have, at most
-pub entries_most : (d : DescRow) (cs : List BuiltCompartment) → AllByRecursion (GoodCompartment d) cs → sum_of compartment_entries cs ≤ MOST_COMPARTMENT_ENTRIES * length cs
+pub entries_most : (d : DescRow) (cs : List BuiltCompartment) → AllByRecursion (GoodCompartment d) cs → sum_of built_compartment_entries cs ≤ MOST_COMPARTMENT_ENTRIES * length cs
 entries_most d [] good = omega arith
 entries_most d (x ∷ xs) good = let few = entries_few d x good.0 in let rest = entries_most d xs good.1 in omega (arith, few, rest)
 
 -- the entries of the parts' fields are those of the rows
-pub entries_same : (d : DescRow) (entry : ℕ) (regions : List Region) (cs : List BuiltCompartment) → sum_of lim.compartment_entries (map raw_compartment (compartment_parts d entry regions cs)) ≡ sum_of compartment_entries cs
+pub entries_same : (d : DescRow) (entry : ℕ) (regions : List Region) (cs : List BuiltCompartment) → sum_of lim.raw_compartment_entries (map raw_compartment (compartment_parts d entry regions cs)) ≡ sum_of built_compartment_entries cs
 unfolding compartment_parts
 entries_same d entry regions [] = refl
 entries_same d entry regions (x ∷ xs) =
     let one = raw_count d entry regions x in
-    let rest = entries_same d (entry + compartment_entries x) (drop 3 regions) xs in
+    let rest = entries_same d (entry + built_compartment_entries x) (drop 3 regions) xs in
     omega (arith, one, rest)

@@ -9,7 +9,7 @@ use Rattle.def_layout.specs.Placement.{region_length, region_base, placed, last_
 use Rattle.law_layout.proofs.Multiples.{after}
 use Rattle.law_layout.proofs.Placing.{spelled_one}
 use Rattle.def_image.specs.Parts.{PartsRow}
-use Rattle.def_image.specs.Regions.{Holder, RegionRow, region, trusted_region}
+use Rattle.def_image.specs.Regions.{Holder, RegionRow, region_row, trusted_region}
 use Rattle.def_image.specs.Checks.{first, walked}
 use Rattle.def_image.specs.Lying.{meets_region, is_laid, is_laid_below, region_asked}
 use Rattle.law_image.proofs.Passing.{joined_none, one_none}
@@ -55,10 +55,10 @@ Between low [] high = low ≤ high
 Between low (r ∷ rs) high = Stands low r × Between (r.base + r.length) rs high
 
 -- the region of a size, with that length said in another way
-pub stands : (end n : ℕ) (h : Holder) (place k : ℕ) → n ≤ 2097152 → k ≡ region_length n → Stands end (region h place (region_base end n) k)
+pub stands : (end n : ℕ) (h : Holder) (place k : ℕ) → n ≤ 2097152 → k ≡ region_length n → Stands end (region_row h place (region_base end n) k)
 stands end n h place k small is =
     let s = spelled_one end n small in
-    subst (λ l. Stands end (region h place (region_base end n) l)) (sym is) (record { low = after end n; even = s.even; whole = s.whole; exact = s.exact })
+    subst (λ l. Stands end (region_row h place (region_base end n) l)) (sym is) (record { low = after end n; even = s.even; whole = s.whole; exact = s.exact })
 
 pub grows : (low high : ℕ) (rs : List RegionRow) → Between low rs high → low ≤ high
 unfolding Between

@@ -11,7 +11,7 @@ use Rattle.def_image.specs.Spelling.{padding_after, raw_slot, raw_gate, raw_code
 use Rattle.def_image.specs.Sizes.{entries_size, tables_size}
 use Rattle.def_image.specs.Profile.{outside}
 use Rattle.def_image.specs.Checks.{first, walked, check}
-use Rattle.def_image.specs.Limits.{name_checks, code_limits, own_slot_limits, slot_limits, export_limits, own_numbers, own_slots_limits, own_gates, dirty_padding, library_numbers, slots_limits, library_gates, exports_limits, compartment_limits_by, library_limits_by, Bounds, compartment_bounds, library_bounds, entry_name, are_zeros, switch_name}
+use Rattle.def_image.specs.Limits.{name_checks, code_limits, own_slot_limits, slot_limits, export_limits, own_numbers, own_slots_limits, own_gates, dirty_padding, library_numbers, slots_limits, library_gate_checks, exports_limits, compartment_limits_by, library_limits_by, Bounds, compartment_bounds, library_bounds, entry_name, are_zeros, switch_name}
 use Rattle.def_image.specs.Sound.{IsWithin}
 use Rattle.law_link.proofs.Walks.{next_none}
 use Rattle.law_link.proofs.Fields.{inside, zeros_are, name_passes}
@@ -148,7 +148,7 @@ library_passes entry at seen c h new =
     let k = code_limits at r in
     let m = library_numbers at r in
     let own = slots_limits (at + LIBRARY_HEAD) r in
-    let x = library_gates entry at r in
+    let x = library_gate_checks entry at r in
     let slots : length r.slots ≡ length c.slots = length-map c.slots raw_slot in
     let exports : length r.exports ≡ length c.exports = length-map c.exports raw_gate in
     let gates_none : first x ≡ None = subst (λ k. first (exports_limits library_bounds (entry + 1 + k) (at + LIBRARY_HEAD + entries_size r.slots) r) ≡ None) (sym slots)

@@ -15,7 +15,7 @@ use Rattle.def_image.specs.Parts.{SlotRow, GateRow}
 use Rattle.def_image.specs.Spelling.{kind_byte, import_field, posture_byte, passes_byte, export_field, name_field, raw_slot, raw_gate}
 use Rattle.def_image.specs.Profile.{outside}
 use Rattle.def_image.specs.Checks.{first, check}
-use Rattle.def_image.specs.Limits.{name_checks, are_zeros, byte_at, number_at, misnumbered, has_second, row_limits, Bounds, gate_limits, entry_name, key_name, is_unnamed_key, switch_name, is_misnamed, own_slot_limits, slot_limits, export_limits}
+use Rattle.def_image.specs.Limits.{name_checks, are_zeros, byte_in, number_field, misnumbered, has_second, row_limits, Bounds, gate_limits, entry_name, key_slot_name, is_unnamed_key, switch_name, is_misnamed, own_slot_limits, slot_limits, export_limits}
 use Rattle.law_image.proofs.Rows.{number_back, first_at, offset_at, stack_at, entry_at}
 use Rattle.law_image.proofs.Passing.{joined_none, one_none}
 use Rattle.law_link.proofs.Walks.{next_none}
@@ -30,7 +30,7 @@ pub record SlotSized (s : SlotRow) : Type 0 where
   pub second_small : s.row.second < 2 ^ 32
   pub numbered : misnumbered (kind_byte s.row.kind) s.row.first ≡ false
   pub second : (not (has_second (kind_byte s.row.kind)) && not (s.row.second == 0)) ≡ false
-  pub key : (nat_eq (kind_byte s.row.kind) 8 && not (bytes_eq s.name (key_name s.row.first))) ≡ false
+  pub key : (nat_eq (kind_byte s.row.kind) 8 && not (bytes_eq s.name (key_slot_name s.row.first))) ≡ false
 
 pub record SlotGood (s : SlotRow) : Type 0 where
   pub named : is_name s.name ≡ true
@@ -46,28 +46,28 @@ kind_within kind.Library = refl
 kind_within kind.Quota = refl
 kind_within kind.Key = refl
 
-second_at : (r : SlotImport) → r.second < 2 ^ 32 → number_at (import_field r) 8 ≡ r.second
+second_at : (r : SlotImport) → r.second < 2 ^ 32 → number_field (import_field r) 8 ≡ r.second
 second_at r small = number_back r.second small
 
-third_at : (r : SlotImport) → number_at (import_field r) 12 ≡ 0
+third_at : (r : SlotImport) → number_field (import_field r) 12 ≡ 0
 third_at r = number_back 0 (omega arith)
 
 row_passes : (at : ℕ) (s : SlotRow) → SlotGood s → first (row_limits at (import_field s.row)) ≡ None
 unfolding row_limits
 row_passes at s h =
     let row = import_field s.row in
-    let c1 = check at (outside 1 8 (byte_at row 0)) in
-    let c2 = check (at + 1) (nat_lt 63 (byte_at row 1)) in
+    let c1 = check at (outside 1 8 (byte_in row 0)) in
+    let c2 = check (at + 1) (nat_lt 63 (byte_in row 1)) in
     let c3 = check (at + 2) (not (are_zeros (take 2 (drop 2 row)))) in
-    let c4 = check (at + 4) (misnumbered (byte_at row 0) (number_at row 4)) in
-    let c5 = check (at + 8) (not (has_second (byte_at row 0)) && not (number_at row 8 == 0)) in
-    let c6 = check (at + 12) (not (number_at row 12 == 0)) in
+    let c4 = check (at + 4) (misnumbered (byte_in row 0) (number_field row 4)) in
+    let c5 = check (at + 8) (not (has_second (byte_in row 0)) && not (number_field row 8 == 0)) in
+    let c6 = check (at + 12) (not (number_field row 12 == 0)) in
     next_none c1 (c2 ∷ c3 ∷ c4 ∷ c5 ∷ c6 ∷ []) (kind_within s.row.kind)
     (next_none c2 (c3 ∷ c4 ∷ c5 ∷ c6 ∷ []) (le-ltb 63 s.row.rights h.sized.rights)
     (next_none c3 (c4 ∷ c5 ∷ c6 ∷ []) refl
     (next_none c4 (c5 ∷ c6 ∷ []) (ap (misnumbered (kind_byte s.row.kind)) (first_at s.row h.sized.first_small) ∙ h.sized.numbered)
     (next_none c5 (c6 ∷ []) (ap (λ n. not (has_second (kind_byte s.row.kind)) && not (n == 0)) (second_at s.row h.sized.second_small) ∙ h.sized.second)
-    (one_none (at + 12) (not (number_at row 12 == 0)) (ap (λ n. not (n == 0)) (third_at s.row)))))))
+    (one_none (at + 12) (not (number_field row 12 == 0)) (ap (λ n. not (n == 0)) (third_at s.row)))))))
 
 -- ---- slots
 
@@ -76,7 +76,7 @@ slot_name_back s e = name_back s.name (name_is s.name e)
 
 key_named : (s : SlotRow) → SlotGood s → is_unnamed_key (raw_slot s) ≡ false
 key_named s h =
-    ap₂ (λ n k. nat_eq (kind_byte s.row.kind) 8 && not (bytes_eq n (key_name k))) (slot_name_back s h.named) (first_at s.row h.sized.first_small) ∙ h.sized.key
+    ap₂ (λ n k. nat_eq (kind_byte s.row.kind) 8 && not (bytes_eq n (key_slot_name k))) (slot_name_back s h.named) (first_at s.row h.sized.first_small) ∙ h.sized.key
 
 pub first_slot_passes : (at : ℕ) (s : SlotRow) → SlotGood s → s.name ≡ switch_name → first (own_slot_limits at [] (raw_slot s)) ≡ None
 unfolding own_slot_limits
@@ -128,13 +128,13 @@ gate_row_passes b text entry at x h is =
     let o = offset_at x.row (omega (arith, inside, small)) in
     let s = stack_at x.row (omega (arith, stack, most)) in
     let e = entry_at x.row h.entry_small in
-    let c1 = check at (not (number_at row 0 % 4 == 0) || nat_le text (number_at row 0)) in
-    let c2 = check (at + 4) (nat_lt b.stack (number_at row 4)) in
-    let c3 = check (at + 8) (nat_lt b.args (byte_at row 8)) in
-    let c4 = check (at + 9) (outside b.posture 3 (byte_at row 9)) in
-    let c5 = check (at + 10) (outside 1 b.passes (byte_at row 10)) in
-    let c6 = check (at + 11) (not (byte_at row 11 == 0)) in
-    let c7 = check (at + 12) (not (number_at row 12 == entry)) in
+    let c1 = check at (not (number_field row 0 % 4 == 0) || nat_le text (number_field row 0)) in
+    let c2 = check (at + 4) (nat_lt b.stack (number_field row 4)) in
+    let c3 = check (at + 8) (nat_lt b.args (byte_in row 8)) in
+    let c4 = check (at + 9) (outside b.posture 3 (byte_in row 9)) in
+    let c5 = check (at + 10) (outside 1 b.passes (byte_in row 10)) in
+    let c6 = check (at + 11) (not (byte_in row 11 == 0)) in
+    let c7 = check (at + 12) (not (number_field row 12 == entry)) in
     next_none c1 (c2 ∷ c3 ∷ c4 ∷ c5 ∷ c6 ∷ c7 ∷ [])
     (ap (λ n. not (n % 4 == 0) || nat_le text n) o ∙ ap₂ (λ p q. not p || q) (eq-eqb (x.row.offset % 4) 0 h.even) (lt-leb text x.row.offset inside))
     (next_none c2 (c3 ∷ c4 ∷ c5 ∷ c6 ∷ c7 ∷ []) (ap (nat_lt b.stack) s ∙ le-ltb b.stack x.row.stack stack)
@@ -142,7 +142,7 @@ gate_row_passes b text entry at x h is =
     (next_none c4 (c5 ∷ c6 ∷ c7 ∷ []) h.posture
     (next_none c5 (c6 ∷ c7 ∷ []) h.passes
     (next_none c6 (c7 ∷ []) refl
-    (one_none (at + 12) (not (number_at row 12 == entry)) (ap (λ n. not (n == entry)) e ∙ ap not (eq-eqb x.row.entry entry is))))))))
+    (one_none (at + 12) (not (number_field row 12 == entry)) (ap (λ n. not (n == entry)) e ∙ ap not (eq-eqb x.row.entry entry is))))))))
 
 pub gate_name_back : (x : GateRow) → is_name x.name ≡ true → entry_name (raw_gate x) ≡ x.name
 gate_name_back x e = name_back x.name (name_is x.name e)

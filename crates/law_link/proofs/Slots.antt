@@ -14,16 +14,16 @@ use Rattle.ct_entry.specs.Listed.{DeviceRow}
 use Rattle.def_words.specs.Permissions.{bit, set_where, form_of, packed}
 use Rattle.def_texts.specs.Names.{is_name, among}
 use Rattle.def_image.specs.Parts.{SlotRow}
-use Rattle.def_image.specs.Limits.{key_name, switch_name}
+use Rattle.def_image.specs.Limits.{key_slot_name, switch_name}
 use Rattle.def_image.specs.Sound.{IsWithin}
 use Rattle.law_image.proofs.Members.{all_at}
 use Rattle.def_desc.specs.declared.tables.Form.{Form}
 use Rattle.def_desc.specs.declared.tables.Form.TheVariants as form
 use Rattle.def_desc.specs.Names.{key_name as own_key_name}
-use Rattle.def_desc.specs.Reading.{rights_of as rights_of_text}
+use Rattle.def_desc.specs.Reading.{rights_of_text as rights_of_text}
 use Rattle.def_desc.specs.Tables.{device_rights, shared_rights, service_of}
 use Rattle.def_desc.specs.References.{rights_fit}
-use Rattle.def_desc.specs.Rows.{Target, SharedRow, SealedRow, ImportRow, QuotaRow, ExportRow, CompartmentRow, LimportRow, LexportRow, LibraryRow, DescRow}
+use Rattle.def_desc.specs.Rows.{Target, DescShared, DescSealed, ImportRow, QuotaRow, ExportRow, DescCompartment, LimportRow, LexportRow, LibraryRow, DescRow}
 use Rattle.def_desc.specs.Named.{device_names, shared_names, sealed_names, slot_names, export_names, library_slot_names, library_export_names}
 use Rattle.def_desc.specs.Lawful.{IsCallImport, IsLent, Resolves, IsLawful, IsLawfulImport, IsLawfulCompartment, IsLawfulLibrary}
 use Rattle.def_link.specs.Slots.{Exporter, granted, claimed, slot, switch_row, target_row, form_row, import_slot, quota_slot, key_slot, compartment_slots, library_slots, compartment_exporters, library_exporters, compartment_export_named, library_export_named}
@@ -47,7 +47,7 @@ call_small d text law h =
     let few = law.few.compartments in
     let counted = f.counted in
     let all : AllByRecursion (λ (e : Exporter). length e.exports ≤ 64) (compartment_exporters d) = all_mapped (λ (e : Exporter). length e.exports ≤ 64) exporter_of d.compartments
-    (all_so (IsLawfulCompartment d) (λ (c : CompartmentRow). length (export_names c) ≤ 64) d.compartments (λ c k. let most = k.exports in let same : length (export_names c) ≡ length c.exports = length-map c.exports (λ (e : ExportRow). e.name) in omega (arith, most, same)) law.compartment) in
+    (all_so (IsLawfulCompartment d) (λ (c : DescCompartment). length (export_names c) ≤ 64) d.compartments (λ c k. let most = k.exports in let same : length (export_names c) ≡ length c.exports = length-map c.exports (λ (e : ExportRow). e.name) in omega (arith, most, same)) law.compartment) in
     let most = all_at (λ (e : Exporter). length e.exports ≤ 64) (compartment_exporters d) f.index f.owner all f.at in
     let lt = f.inside in
     record { owner_small = omega (arith, at, count, few, counted); export_small = omega (arith, lt, most) }
@@ -86,12 +86,12 @@ form_sized d law x form.Device text h e =
     record { rights = device_rights_small x e; first_small = omega (arith, lt, count, few); second_small = omega arith; numbered = refl; second = refl; key = refl }
 form_sized d law x form.Shared text h e =
     let lt = index_less text (shared_names d) h in
-    let count : length (shared_names d) ≡ length d.shared = length-map d.shared (λ (v : SharedRow). v.name) in
+    let count : length (shared_names d) ≡ length d.shared = length-map d.shared (λ (v : DescShared). v.name) in
     let few = law.few.shared in
     record { rights = shared_rights_small x e; first_small = omega (arith, lt, count, few); second_small = omega arith; numbered = refl; second = refl; key = refl }
 form_sized d law x form.Sealed text h e =
     let lt = index_less text (sealed_names d) h in
-    let count : length (sealed_names d) ≡ length d.sealed = length-map d.sealed (λ (v : SealedRow). v.name) in
+    let count : length (sealed_names d) ≡ length d.sealed = length-map d.sealed (λ (v : DescSealed). v.name) in
     let few = law.few.sealed in
     record { rights = omega arith; first_small = omega (arith, lt, count, few); second_small = omega arith; numbered = refl; second = refl; key = refl }
 form_sized d law x form.Call text h e =
@@ -137,13 +137,13 @@ unfolding packed set_where bit form_of
 quota_sized q le = record { rights = omega arith; first_small = omega (arith, le); second_small = omega arith; numbered = le-ltb 2147483647 q.limit le; second = refl; key = refl }
 
 -- a key's name is the one that its slot must have
-key_same : (n : ℕ) → IsWithin 13 15 n → own_key_name n ≡ key_name n
+key_same : (n : ℕ) → IsWithin 13 15 n → own_key_name n ≡ key_slot_name n
 unfolding digits
 key_same n w = elim (le_tells n 13) [
-  | inl h ↦ (let le = h.1 in let low = w.0 in let is : 13 ≡ n = omega (arith, le, low) in subst (λ k. own_key_name k ≡ key_name k) is refl)
+  | inl h ↦ (let le = h.1 in let low = w.0 in let is : 13 ≡ n = omega (arith, le, low) in subst (λ k. own_key_name k ≡ key_slot_name k) is refl)
   | inr h ↦ elim (le_tells n 14) [
-    | inl k ↦ (let le = k.1 in let low = h.1 in let is : 14 ≡ n = omega (arith, le, low) in subst (λ k. own_key_name k ≡ key_name k) is refl)
-    | inr k ↦ (let low = k.1 in let top = w.1 in let is : 15 ≡ n = omega (arith, low, top) in subst (λ k. own_key_name k ≡ key_name k) is refl)
+    | inl k ↦ (let le = k.1 in let low = h.1 in let is : 14 ≡ n = omega (arith, le, low) in subst (λ k. own_key_name k ≡ key_slot_name k) is refl)
+    | inr k ↦ (let low = k.1 in let top = w.1 in let is : 15 ≡ n = omega (arith, low, top) in subst (λ k. own_key_name k ≡ key_slot_name k) is refl)
   ]
 ]
 
@@ -157,12 +157,12 @@ key_sized n w =
       second_small = omega arith;
       numbered = inside 13 15 n w;
       second = refl;
-      key = ap not ((bytes_eq-Decides (own_key_name n) (key_name n)).1 (key_same n w));
+      key = ap not ((bytes_eq-Decides (own_key_name n) (key_slot_name n)).1 (key_same n w));
     }
 
 -- ---- slots of an owner
 
-rest_sized : (d : DescRow) → IsLawful d → (c : CompartmentRow) → IsLawfulCompartment d c → AllByRecursion SlotSized (map (import_slot d) c.imports ++ map quota_slot c.quotas ++ map key_slot c.keys)
+rest_sized : (d : DescRow) → IsLawful d → (c : DescCompartment) → IsLawfulCompartment d c → AllByRecursion SlotSized (map (import_slot d) c.imports ++ map quota_slot c.quotas ++ map key_slot c.keys)
 rest_sized d law c h =
     all_joined SlotSized (map (import_slot d) c.imports ++ map quota_slot c.quotas) (map key_slot c.keys)
     (all_joined SlotSized (map (import_slot d) c.imports) (map quota_slot c.quotas)
@@ -174,7 +174,7 @@ unfoldable pub title : SlotRow → List ℕ
 title s = s.name
 
 -- the names of the slots after the first
-rest_names : (d : DescRow) (c : CompartmentRow) → map title (map (import_slot d) c.imports ++ map quota_slot c.quotas ++ map key_slot c.keys)
+rest_names : (d : DescRow) (c : DescCompartment) → map title (map (import_slot d) c.imports ++ map quota_slot c.quotas ++ map key_slot c.keys)
     ≡ map (λ (x : ImportRow). x.alias) c.imports ++ map (λ (q : QuotaRow). q.name) c.quotas ++ map own_key_name c.keys
 unfolding title
 rest_names d c =
@@ -199,7 +199,7 @@ pub record OwnSlots (first : SlotRow) (rest : List SlotRow) : Type 0 where
   pub each : AllByRecursion SlotGood rest
   pub new : New (switch_name ∷ []) (map title rest)
 
-pub own_slots : (d : DescRow) → IsLawful d → (c : CompartmentRow) → IsLawfulCompartment d c
+pub own_slots : (d : DescRow) → IsLawful d → (c : DescCompartment) → IsLawfulCompartment d c
     → OwnSlots (slot (codes "switch") switch_row) (map (import_slot d) c.imports ++ map quota_slot c.quotas ++ map key_slot c.keys)
 unfolding title New
 own_slots d law c h =
@@ -230,7 +230,7 @@ library_slots_good d law l h =
 
 -- ---- how many
 
-pub slot_count : (d : DescRow) (c : CompartmentRow) → length (compartment_slots d c) ≡ 1 + length c.imports + length c.quotas + length c.keys
+pub slot_count : (d : DescRow) (c : DescCompartment) → length (compartment_slots d c) ≡ 1 + length c.imports + length c.quotas + length c.keys
 slot_count d c =
     let a = map (import_slot d) c.imports in
     let b = map quota_slot c.quotas in

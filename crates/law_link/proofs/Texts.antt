@@ -14,10 +14,10 @@ use Rattle.def_source.specs.declared.parts.Section.{Section}
 use Rattle.def_source.specs.declared.parts.Section.TheVariants as section
 use Rattle.def_source.specs.declared.parts.Part.{Part}
 use Rattle.def_source.specs.declared.parts.Part.TheVariants as part
-use Rattle.def_source.specs.Source.{Name, Statements, in_section, numbers_fit, registers_exist, is_lawful, lines_of, section_after, program_of, lawful_from}
+use Rattle.def_source.specs.Source.{Name, Statements, in_section, numbers_fit, registers_exist, is_lawful_statement, lines_of, section_after, program_of, lawful_from}
 use Rattle.def_object.specs.declared.Place.{Place}
 use Rattle.def_object.specs.declared.Fault.{Fault}
-use Rattle.def_object.specs.Object.{Labels, size_at, offset, advanced, start, label_in, size_fault, reference_fault, statement_fault, on_line, fault_from, fault_in, number_word, is_short, padding, same_section, instructions_at, word_bytes, instruction_bytes, bytes_at, section_bytes, bytes_from, text_of, initial_of}
+use Rattle.def_object.specs.Object.{Labels, size_at, offset, place_after, start, label_in, size_fault, reference_fault, statement_fault, on_line, fault_from, fault_in, number_word, is_short, padding, same_section, instructions_at, word_bytes, instruction_bytes, bytes_at, section_bytes, bytes_from, text_of, initial_of}
 use Rattle.ct_asm.proofs.Walks.{neither, no_number, either_none}
 use Rattle.law_assembly.proofs.Lengths.{at_place, after_section, filled, statement_length}
 
@@ -65,11 +65,11 @@ pub section_all_bytes : (w : Section) (labels : Labels) (slots : List Name) (p :
 unfolding Bytes
 section_all_bytes w labels slots p [] = tt
 section_all_bytes w labels slots p (s ∷ ss) =
-    all_joined (λ b. b < 256) (section_bytes w labels slots p s.part) (bytes_from w labels slots (advanced p s.part) ss)
-    (section_is_bytes w labels slots p s.part) (section_all_bytes w labels slots (advanced p s.part) ss)
+    all_joined (λ b. b < 256) (section_bytes w labels slots p s.part) (bytes_from w labels slots (place_after p s.part) ss)
+    (section_is_bytes w labels slots p s.part) (section_all_bytes w labels slots (place_after p s.part) ss)
 
 filled_on : (w s : Section) (t i : ℕ) (labels : Labels) (slots : List Name) (q : Part Name)
-    → filled w (at_place s t i) + length (section_bytes w labels slots (at_place s t i) q) ≡ filled w (advanced (at_place s t i) q)
+    → filled w (at_place s t i) + length (section_bytes w labels slots (at_place s t i) q) ≡ filled w (place_after (at_place s t i) q)
 unfolding filled at_place
 filled_on section.Text section.Text t i labels slots part.Text = add-zero t
 filled_on section.Text section.Text t i labels slots part.Data = add-zero t
@@ -93,7 +93,7 @@ size_kept at q e = elim (lt_tells MOST_BYTES (at + size_at q at)) [
 ]
 
 -- after a statement that keeps the limit
-filled_kept : (w s : Section) (t i : ℕ) (q : Part Name) → filled w (at_place s t i) ≤ MOST_BYTES → size_fault (offset (at_place s t i)) q ≡ None → filled w (advanced (at_place s t i) q) ≤ MOST_BYTES
+filled_kept : (w s : Section) (t i : ℕ) (q : Part Name) → filled w (at_place s t i) ≤ MOST_BYTES → size_fault (offset (at_place s t i)) q ≡ None → filled w (place_after (at_place s t i) q) ≤ MOST_BYTES
 unfolding filled at_place
 filled_kept section.Text section.Text t i part.Text h e = h
 filled_kept section.Text section.Text t i part.Data h e = h
@@ -113,12 +113,12 @@ section_few : (w : Section) (labels : Labels) (slots : List Name) (p : Place) (k
 unfolding at_place
 section_few w labels slots p k [] h e = rw (add-zero (filled w p)) h
 section_few w labels slots p k (s ∷ ss) h e =
-    let f = neither (on_line s.line (statement_fault labels p k s.part)) (fault_from labels (advanced p s.part) (k + 1) ss) e in
+    let f = neither (on_line s.line (statement_fault labels p k s.part)) (fault_from labels (place_after p s.part) (k + 1) ss) e in
     let size = (either_none (reference_fault labels k (offset p) s.part) (size_fault (offset p) s.part) (no_number s.line (statement_fault labels p k s.part) f.0)).1 in
     let here = section_bytes w labels slots p s.part in
-    let later = bytes_from w labels slots (advanced p s.part) ss in
+    let later = bytes_from w labels slots (place_after p s.part) ss in
     let on = filled_on w p.section p.text p.initial labels slots s.part in
-    let rest = section_few w labels slots (advanced p s.part) (k + 1) ss (filled_kept w p.section p.text p.initial s.part h size) f.1 in
+    let rest = section_few w labels slots (place_after p s.part) (k + 1) ss (filled_kept w p.section p.text p.initial s.part h size) f.1 in
     let sum = length-append here later in
     omega (arith, on, rest, sum)
 
@@ -136,7 +136,7 @@ words_of labels slots at (part.LoadImmediate rd number) e = ap (λ n. n % 4) (st
     by false = refl
 words_of labels slots at q e = refl
 
-section_words : (s : Section) (t i : ℕ) (labels : Labels) (slots : List Name) (q : Part Name) → is_lawful s q ≡ true → length (section_bytes section.Text labels slots (at_place s t i) q) % 4 ≡ 0
+section_words : (s : Section) (t i : ℕ) (labels : Labels) (slots : List Name) (q : Part Name) → is_lawful_statement s q ≡ true → length (section_bytes section.Text labels slots (at_place s t i) q) % 4 ≡ 0
 unfolding at_place
 section_words section.Text t i labels slots q e =
     words_of labels slots t q (both_left (in_section section.Text q) (numbers_fit q) (both_left (in_section section.Text q && numbers_fit q) (registers_exist q) e))
@@ -147,11 +147,11 @@ unfolding at_place
 text_words labels slots p [] e = refl
 text_words labels slots p (s ∷ ss) e =
     let here = section_bytes section.Text labels slots p s.part in
-    let later = bytes_from section.Text labels slots (advanced p s.part) ss in
-    let a = both_left (is_lawful p.section s.part) (lawful_from (section_after p.section (Some s.part)) ss) e in
-    let b = both_right (is_lawful p.section s.part) (lawful_from (section_after p.section (Some s.part)) ss) e in
+    let later = bytes_from section.Text labels slots (place_after p s.part) ss in
+    let a = both_left (is_lawful_statement p.section s.part) (lawful_from (section_after p.section (Some s.part)) ss) e in
+    let b = both_right (is_lawful_statement p.section s.part) (lawful_from (section_after p.section (Some s.part)) ss) e in
     let first = section_words p.section p.text p.initial labels slots s.part a in
-    let rest = text_words labels slots (advanced p s.part) ss (subst (λ z. lawful_from z ss ≡ true) (sym (after_section p.section p.text p.initial s.part)) b) in
+    let rest = text_words labels slots (place_after p s.part) ss (subst (λ z. lawful_from z ss ≡ true) (sym (after_section p.section p.text p.initial s.part)) b) in
     let sum = length-append here later in
     omega (arith, first, rest, sum)
 

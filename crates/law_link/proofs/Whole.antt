@@ -27,7 +27,7 @@ use Rattle.def_image.specs.Accepted.{IsFaultless, IsImage, FaultAt}
 use Rattle.law_image.proofs.Limited.{threads_most}
 use Rattle.law_image.proofs.Backs.{one_reading}
 use Rattle.law_image.proofs.Faults.{no_fault}
-use Rattle.def_desc.specs.Rows.{ThreadRow, DescRow}
+use Rattle.def_desc.specs.Rows.{DescThread, DescRow}
 use Rattle.def_desc.specs.Lawful.{IsLawful, IsLawfulDevice, IsLawfulThread}
 use Rattle.def_link.specs.Linked.{sizes_of, thread_parts, parts_of}
 use Rattle.def_link.specs.Links.{RowsLinkTo}
@@ -95,7 +95,7 @@ compartments_few at b high (c ∷ cs) small h g =
     let table = h.1.0 in
     let globals = h.1.1.0 in
     let good = g.0.1 in
-    let entry = 1 + sum_of lim.compartment_entries g.0.0 in
+    let entry = 1 + sum_of lim.raw_compartment_entries g.0.0 in
     let initial = good.initial_few in (
       record {
         code = code_few c.code 148 good.code (omega (arith, top, small)) (omega (arith, top, small)) good.slots_few (omega arith) (compartment_slots_good entry c good)
@@ -125,7 +125,7 @@ pub record EntersFew (t : ThreadPart) : Type 0 where
   pub compartment : t.compartment ≤ 64
   pub export : t.export ≤ 64
 
-threads_enter : (d : DescRow) → IsLawful d → (regions : List Region) (ts : List ThreadRow) → AllByRecursion (IsLawfulThread d) ts → AllByRecursion EntersFew (thread_parts d regions ts)
+threads_enter : (d : DescRow) → IsLawful d → (regions : List Region) (ts : List DescThread) → AllByRecursion (IsLawfulThread d) ts → AllByRecursion EntersFew (thread_parts d regions ts)
 unfolding thread_parts
 threads_enter d law regions [] h = tt
 threads_enter d law regions (t ∷ ts) h =
@@ -161,7 +161,7 @@ unfolding Numbered
 compartments_clean cs h = all_so (λ c. (before : List RawCompartment) × Numbered before c) (λ (c : CompartmentPart). SpellableCode c.code) cs
     (λ c g. record {
       name = (name_is c.code.name g.1.code.named).clean;
-      slots = slots_spellable c.code.slots (compartment_slots_good (1 + sum_of lim.compartment_entries g.0) c g.1);
+      slots = slots_spellable c.code.slots (compartment_slots_good (1 + sum_of lim.raw_compartment_entries g.0) c g.1);
       exports = gates_spellable compartment_bounds (length c.code.text) c.code.exports g.1.gates.each;
     }) h
 
@@ -206,7 +206,7 @@ shaped p g s k =
     let e2_small = below s.e2 s.e3 o.o2 e3_small in
     let e1_small = below s.e1 s.e2 o.o1 e2_small in
     let cs = along_each raw_compartment Numbered [] p.compartments g.compartments in
-    let first = 1 + sum_of lim.compartment_entries (map raw_compartment p.compartments) in
+    let first = 1 + sum_of lim.raw_compartment_entries (map raw_compartment p.compartments) in
     let ls = along_each raw_code (NumberedAfter first) [] p.libraries g.libraries in
     let n1 = g.header.devices in
     let n2 = g.header.shared in
@@ -241,7 +241,7 @@ shaped p g s k =
 
 spellable : (p : PartsRow) → PartsGood p → (s : Stretches p) → Bounded p → IsSpellable p
 spellable p g s k =
-    let first = 1 + sum_of lim.compartment_entries (map raw_compartment p.compartments) in
+    let first = 1 + sum_of lim.raw_compartment_entries (map raw_compartment p.compartments) in
     record {
       shaped = shaped p g s k;
       name = (name_is p.name g.header.named).clean;

@@ -2,7 +2,7 @@
 //! whose contract is the law.
 
 ghost use Rattle.std.specs.Prelude.{◌≡◌, List, ℕ, Some, slice_get};
-ghost use Rattle.def_desc.specs.Rows.{CompartmentRow, LibraryRow, DescRow};
+ghost use Rattle.def_desc.specs.Rows.{DescCompartment, LibraryRow, DescRow};
 ghost use Rattle.def_image.specs.Parts.{CodeRow as CodePart, CompartmentRow as CompartmentPart, PartsRow};
 ghost use Rattle.def_link.specs.Links.{RowsLinkTo};
 ghost use Rattle.def_link.specs.Code.{CompartmentCode, LibraryCode};
@@ -11,7 +11,7 @@ ghost use Rattle.def_link.specs.Code.{CompartmentCode, LibraryCode};
 /// exports that their row and their own source are built to.
 pub fn code_is_built()
     ensures compartments { (d : DescRow) (sources : List (List ℕ)) (p : PartsRow) (i : ℕ)
-        (row : CompartmentRow) (c : CompartmentPart)
+        (row : DescCompartment) (c : CompartmentPart)
         → RowsLinkTo d sources p
         → slice_get d.compartments i ≡ Some row
         → slice_get p.compartments i ≡ Some c

@@ -3,7 +3,7 @@
 //! are the laws.
 
 ghost use Rattle.std.specs.Prelude.{◌≡◌, List, ℕ, map};
-ghost use Rattle.def_desc.specs.Rows.{CompartmentRow, LibraryRow, DescRow};
+ghost use Rattle.def_desc.specs.Rows.{DescCompartment, LibraryRow, DescRow};
 ghost use Rattle.def_image.specs.Parts.{CodeRow as CodePart, CompartmentRow as CompartmentPart, PartsRow};
 ghost use Rattle.def_layout.specs.Placement.{placed, last_end};
 ghost use Rattle.def_link.specs.Slots.{compartment_slots, library_slots};
@@ -25,7 +25,7 @@ pub fn rows_are_kept()
     ensures compartments { (d : DescRow) (sources : List (List ℕ)) (p : PartsRow)
         → RowsLinkTo d sources p
         → map (λ (c : CompartmentPart). c.code.name) p.compartments
-        ≡ map (λ (c : CompartmentRow). c.name) d.compartments }
+        ≡ map (λ (c : DescCompartment). c.name) d.compartments }
     ensures slots { (d : DescRow) (sources : List (List ℕ)) (p : PartsRow)
         → RowsLinkTo d sources p
         → map (λ (c : CompartmentPart). c.code.slots) p.compartments

@@ -1,7 +1,6 @@
 pub mod Sets
 pub mod Maps
 pub mod Tests
-pub mod Leasts
 pub mod Finds
 pub mod Alls
 pub mod Places

@@ -9,7 +9,7 @@ use Rattle.def_words.specs.LeastBounds.{rounded_of}
 use Rattle.def_words.specs.Permissions.{IsLegal, Within, bit, has, cap_perms, global, store_local, execute}
 use Rattle.def_words.specs.Derive.{derive, memory_root, root_cap}
 use Rattle.def_words.specs.Narrows.{IsMade}
-use Rattle.def_words.specs.Facts.{Spells}
+use Rattle.def_words.specs.Facts.{SpellsPermissions}
 use Rattle.law_words.proofs.Rights.{heap_not_local, memory_is_root, stack_not_global, taken}
 use Rattle.law_words.proofs.Narrowing.{addressed, exact_set}
 use Rattle.law_words.proofs.Making.{derive_makes}
@@ -115,7 +115,7 @@ not_return : IsReturnType 0 → ⊥
 not_return (inl e) = let clash : 0 ≡ 4 = e in omega (arith, clash)
 not_return (inr e) = let clash : 0 ≡ 5 = e in omega (arith, clash)
 
-memory_made : (base length set address : ℕ) (from : Shadow) → Spells memory_root set → base < 2 ^ 32 → base + length ≤ 2 ^ 32 → base ≤ address → address ≤ base + length → address < 2 ^ 32 → (derive memory_root base length set address 0 from).tag ≡ true
+memory_made : (base length set address : ℕ) (from : Shadow) → SpellsPermissions memory_root set → base < 2 ^ 32 → base + length ≤ 2 ^ 32 → base ≤ address → address ≤ base + length → address < 2 ^ 32 → (derive memory_root base length set address 0 from).tag ≡ true
     → IsMade base (base + length) set address 0 (derive memory_root base length set address 0 from) × ((derive memory_root base length set address 0 from).shadow ≡ from)
 memory_made base length set address from normal low fits starts ends small tagged =
     let made = derive_makes memory_root base length set address 0 from (record {

@@ -8,7 +8,7 @@ use Rattle.def_words.specs.Capability.{with_address, raised, with_bounds, with_e
 use Rattle.def_words.specs.Permissions.{bit, has, execute, memory_capability}
 use Rattle.def_words.specs.Seals.{cap_seal}
 use Rattle.def_words.specs.Loaded.{attenuated}
-use Rattle.def_words.specs.Jumped.{linked}
+use Rattle.def_words.specs.Jumped.{return_link}
 use Rattle.law_words.proofs.Narrowing.{addressed, address_narrows, bounds_narrows, exact_narrows, masked_narrows}
 use Rattle.law_words.proofs.Sealed.{sealed_narrows, unsealed_narrows}
 use Rattle.law_words.proofs.Passing.{loaded_facts, loaded_narrows, linked_is}
@@ -113,5 +113,5 @@ pub raised_runs : (c : Cap) (n : ℕ) → has c execute ≡ true → (raised c n
 raised_runs c n = address_runs c ((cap_address c + n) % 2 ^ 32) (omega arith)
 
 -- the link of a jump
-pub linked_links : (pcc : Cap) (before : Posture) → has pcc execute ≡ true → Links pcc before (linked pcc before)
+pub linked_links : (pcc : Cap) (before : Posture) → has pcc execute ≡ true → Links pcc before (return_link pcc before)
 linked_links pcc before runs = λ tagged. linked_is pcc before runs tagged

@@ -12,9 +12,9 @@ use Rattle.def_image.specs.Parts.{PartsRow}
 use Rattle.def_policy.specs.declared.Subject.{Subject}
 use Rattle.def_policy.specs.declared.Subject.TheVariants as subject
 use Rattle.def_policy.specs.Breaking.{PolicyHolds, KeepsApart, KeepsRule, breaking, breaking_from}
-use Rattle.def_policy.specs.Denials.{AllDenied, Denies, Reaching, entry_line, entry_lines, path_line}
+use Rattle.def_policy.specs.Denials.{AllDenied, Denies, Reaching, entry_line, entry_lines, denied_path_line}
 use Rattle.def_policy.specs.Names.{name_of}
-use Rattle.def_policy.specs.Rules.{ended}
+use Rattle.def_policy.specs.Rules.{spaced_words}
 use Rattle.def_policy.specs.Rulings.{Ruling}
 use Rattle.ct_entries.proofs.Few.{few_rows}
 use Rattle.ct_entries.proofs.Standing.{stands}
@@ -31,7 +31,7 @@ same_reaching : (p : PartsRow) (line : ℕ) (o : Owner) (b : ℕ) (x y : List �
 same_reaching p line o b x y (inl m) (inl n) = m.1 ∙ sym n.1
 same_reaching p line o b x y (inl m) (inr n) = absurd (m.0 n.1.0)
 same_reaching p line o b x y (inr m) (inl n) = absurd (n.0 m.1.0)
-same_reaching p line o b x y (inr m) (inr n) = m.1.2 ∙ ap (path_line p line) (same_path _ o b m.0 n.0 m.1.1 n.1.1) ∙ sym n.1.2
+same_reaching p line o b x y (inr m) (inr n) = m.1.2 ∙ ap (denied_path_line p line) (same_path _ o b m.0 n.0 m.1.1 n.1.1) ∙ sym n.1.2
 
 same_denies : (p : PartsRow) (line : ℕ) (r : Ruling) (s : Subject) (x y : List ℕ) → Denies p line r s x → Denies p line r s y → x ≡ y
 same_denies p line r (subject.Only resource n) x y a b = a ∙ sym b
@@ -59,7 +59,7 @@ record HasDenies (p : PartsRow) (line : ℕ) (r : Ruling) (s : Subject) : Type 0
   is : Denies p line r s text
 
 reaching_by : (p : PartsRow) (line : ℕ) (r : Ruling) (o : Owner) (b : ℕ) → LeadsOrNot (entries_of p) o b → HasDenies p line r (subject.Apart o b)
-reaching_by p line r o b (inl l) = record { text = path_line p line l.owners; is = inr (l.owners, (l.reached, l.path, refl)) }
+reaching_by p line r o b (inl l) = record { text = denied_path_line p line l.owners; is = inr (l.owners, (l.reached, l.path, refl)) }
 reaching_by p line r o b (inr not) = record { text = []; is = inl (not, refl) }
 
 has_denies : (p : PartsRow) → IsFaultless p → (line : ℕ) (r : Ruling) (s : Subject) → IsUntrusted s → HasDenies p line r s
@@ -82,7 +82,7 @@ denials_there p f line (r ∷ rs) are =
 
 -- ---- where the text is empty
 
-line_some : (line : ℕ) (words : List (List ℕ)) → 0 < length (codes "denied " ++ (decimal line ++ ended words))
+line_some : (line : ℕ) (words : List (List ℕ)) → 0 < length (codes "denied " ++ (decimal line ++ spaced_words words))
 line_some line words = omega arith
 
 no_lines : (line : ℕ) (entries : List ℕ) → entry_lines line entries ≡ [] → entries ≡ []

@@ -12,7 +12,7 @@ use Rattle.def_policy.specs.declared.Resource.{Resource}
 use Rattle.def_policy.specs.declared.Resource.TheVariants.{Call, Device, Service, Shared}
 use Rattle.def_policy.specs.declared.Subject.TheVariants.{Data, Disabled, Only, Quota, Total}
 use Rattle.def_policy.specs.Resources.{imports, kind_of}
-use Rattle.def_policy.specs.Breaking.{KeepsRule, breaking, breaking_from, breaks, counted, is_listed}
+use Rattle.def_policy.specs.Breaking.{KeepsRule, breaking, breaking_from, breaks, counted, lists_owner}
 use Rattle.def_policy.specs.Rulings.{Ruling}
 use Rattle.def_policy.specs.Denied.{AreDisabledListed, AreListed, PassesData, limits_counted}
 
@@ -54,11 +54,11 @@ own_kind Service = refl
 own_kind Call = refl
 
 only_kept : (e : Listed) (r : Ruling) (resource : Resource) (n number : ℕ) (x : Entry) → r.subject ≡ Only resource n → Unbroken e r number x → x.kind ≡ kind_of resource → x.of ≡ n
-    → is_listed r.owners x.owner ≡ true
+    → lists_owner r.owners x.owner ≡ true
 only_kept e r resource n number x is u kind_is of_is =
     let no_break = u.is in
-    let told : not (is_listed r.owners x.owner) ≡ false = rw (is, kind_is, own_kind resource, of_is, eq-eqb n n refl) at no_break in
-    not-false (is_listed r.owners x.owner) told
+    let told : not (lists_owner r.owners x.owner) ≡ false = rw (is, kind_is, own_kind resource, of_is, eq-eqb n n refl) at no_break in
+    not-false (lists_owner r.owners x.owner) told
 
 pub only_held : (e : Listed) (r : Ruling) (resource : Resource) (n : ℕ) → r.subject ≡ Only resource n → KeepsRule e r → AreListed e r (kind_of resource) n
 only_held e r resource n is keeps k x there kind_is of_is = only_kept e r resource n (suc k) x is (unbroken e r k x keeps there) kind_is of_is
@@ -66,11 +66,11 @@ only_held e r resource n is keeps k x there kind_is of_is = only_kept e r resour
 -- ---- rules on exports
 
 disabled_kept : (e : Listed) (r : Ruling) (number : ℕ) (x : Entry) → r.subject ≡ Disabled → Unbroken e r number x → x.kind ≡ kind.Export → turns_interrupts_off (gate_for e.gates number).posture ≡ true
-    → is_listed r.owners x.owner ≡ true
+    → lists_owner r.owners x.owner ≡ true
 disabled_kept e r number x is u kind_is off =
     let no_break = u.is in
-    let told : not (is_listed r.owners x.owner) ≡ false = rw (is, kind_is, off) at no_break in
-    not-false (is_listed r.owners x.owner) told
+    let told : not (lists_owner r.owners x.owner) ≡ false = rw (is, kind_is, off) at no_break in
+    not-false (lists_owner r.owners x.owner) told
 
 pub disabled_held : (e : Listed) (r : Ruling) → r.subject ≡ Disabled → KeepsRule e r → AreDisabledListed e r
 disabled_held e r is keeps k x there kind_is off = disabled_kept e r (suc k) x is (unbroken e r k x keeps there) kind_is off

@@ -4,7 +4,7 @@ use Rattle.std.specs.List.{All, flat_map}
 use Rattle.std.proofs.lemmas.List.{append-nil}
 use Rattle.std.proofs.lemmas.List.Concat.{flat_map-cons}
 use Rattle.def_image.specs.Parts.{PartsRow}
-use Rattle.def_policy.specs.Rules.{Rule, IsRule, spelled, words_of}
+use Rattle.def_policy.specs.Rules.{Rule, IsRule, spelled_rule, words_of}
 use Rattle.def_policy.specs.Rulings.{Ruling, meant}
 use Rattle.def_policy.specs.Texts.{BeginsWithRule, BreaksPolicy, IsPolicyFault, IsKnown, ReadsAsPolicy}
 use Rattle.ct_policy.specs.Forms.{form_of}
@@ -31,7 +31,7 @@ begins_some text r rest b = omega (arith, ap length b.text_is, ended_long (words
 -- ---- the rules of a text and what is left of it
 
 abbrev Fronts : List ℕ → List Rule → List ℕ → Type 0
-Fronts text rules left = text ≡ flat_map spelled rules ++ left
+Fronts text rules left = text ≡ flat_map spelled_rule rules ++ left
 
 head_of : (P : Rule → Type 0) (r : Rule) (rs : List Rule) → All P (r ∷ rs) → P r
 head_of P r rs are = are 0 r (omega arith)
@@ -39,14 +39,14 @@ head_of P r rs are = are 0 r (omega arith)
 tail_of : (P : Rule → Type 0) (r : Rule) (rs : List Rule) → All P (r ∷ rs) → All P rs
 tail_of P r rs are k d inside = are (suc k) d (omega (arith, inside))
 
-first_begins : (text : List ℕ) (r : Rule) (rs : List Rule) (left : List ℕ) → All IsRule (r ∷ rs) → Fronts text (r ∷ rs) left → BeginsWithRule text r (flat_map spelled rs ++ left)
+first_begins : (text : List ℕ) (r : Rule) (rs : List Rule) (left : List ℕ) → All IsRule (r ∷ rs) → Fronts text (r ∷ rs) left → BeginsWithRule text r (flat_map spelled_rule rs ++ left)
 first_begins text r rs left are is = record {
   rule = head_of IsRule r rs are;
-  text_is = is ∙ ap (λ t. t ++ left) (flat_map-cons spelled r rs) ∙ append_assoc (spelled r) (flat_map spelled rs) left;
+  text_is = is ∙ ap (λ t. t ++ left) (flat_map-cons spelled_rule r rs) ∙ append_assoc (spelled_rule r) (flat_map spelled_rule rs) left;
 }
 
-whole : (text : List ℕ) (rules : List Rule) → text ≡ flat_map spelled rules → Fronts text rules []
-whole text rules is = is ∙ sym (append-nil (flat_map spelled rules))
+whole : (text : List ℕ) (rules : List Rule) → text ≡ flat_map spelled_rule rules → Fronts text rules []
+whole text rules is = is ∙ sym (append-nil (flat_map spelled_rule rules))
 
 -- ---- one reading
 
@@ -56,7 +56,7 @@ same_rules [] (s ∷ ss) text a b p q = absurd (omega (arith, ap length p, begin
 same_rules (r ∷ rs) [] text a b p q = absurd (omega (arith, ap length q, begins_some text r _ (first_begins text r rs [] a p)))
 same_rules (r ∷ rs) (s ∷ ss) text a b p q =
     let one = begins_once text r s _ _ (first_begins text r rs [] a p) (first_begins text s ss [] b q) in
-    let later : rs ≡ ss = same_rules rs ss (flat_map spelled rs ++ []) (tail_of IsRule r rs a) (tail_of IsRule s ss b) refl one.rest_is in
+    let later : rs ≡ ss = same_rules rs ss (flat_map spelled_rule rs ++ []) (tail_of IsRule r rs a) (tail_of IsRule s ss b) refl one.rest_is in
     ap (λ x. x ∷ rs) one.rule ∙ ap (λ xs. s ∷ xs) later
 
 same_some : (a b : List Ruling) → map (λ r. Some r) a ≡ map (λ r. Some r) b → a ≡ b
@@ -99,23 +99,23 @@ module _ (p : PartsRow) where
       → Fronts text rs left → BreaksPolicy p left number → Fronts text ss [] → ⊥
   broken_there [] [] text left number a b known is breaks all = omega (arith, ap length is, ap length all, broken_some p left number breaks)
   broken_there [] (s ∷ ss) text left number a b known is breaks all =
-      none_known p left number s _ breaks (subst (λ t. BeginsWithRule t s (flat_map spelled ss ++ [])) is (first_begins text s ss [] b all)) (head_of (IsKnown p) s ss known)
+      none_known p left number s _ breaks (subst (λ t. BeginsWithRule t s (flat_map spelled_rule ss ++ [])) is (first_begins text s ss [] b all)) (head_of (IsKnown p) s ss known)
   broken_there (r ∷ rs) [] text left number a b known is breaks all = omega (arith, ap length all, begins_some text r _ (first_begins text r rs left a is))
   broken_there (r ∷ rs) (s ∷ ss) text left number a b known is breaks all =
       let one = begins_once text r s _ _ (first_begins text r rs left a is) (first_begins text s ss [] b all) in
-      broken_there rs ss (flat_map spelled rs ++ left) left number (tail_of IsRule r rs a) (tail_of IsRule s ss b) (tail_of (IsKnown p) s ss known) refl breaks one.rest_is
+      broken_there rs ss (flat_map spelled_rule rs ++ left) left number (tail_of IsRule r rs a) (tail_of IsRule s ss b) (tail_of (IsKnown p) s ss known) refl breaks one.rest_is
 
   same_place : (rs ss : List Rule) (text left gone : List ℕ) (n m : ℕ) → All IsRule rs → All IsRule ss → All (IsKnown p) rs → All (IsKnown p) ss
       → Fronts text rs left → Fronts text ss gone → BreaksPolicy p left n → BreaksPolicy p gone m → (n ≡ m) × (length rs ≡ length ss)
   same_place [] [] text left gone n m a b known other is second x y =
       (same_number p left n m x (subst (λ t. BreaksPolicy p t m) (sym second ∙ is) y), refl)
   same_place [] (s ∷ ss) text left gone n m a b known other is second x y =
-      absurd (none_known p left n s _ x (subst (λ t. BeginsWithRule t s (flat_map spelled ss ++ gone)) is (first_begins text s ss gone b second)) (head_of (IsKnown p) s ss other))
+      absurd (none_known p left n s _ x (subst (λ t. BeginsWithRule t s (flat_map spelled_rule ss ++ gone)) is (first_begins text s ss gone b second)) (head_of (IsKnown p) s ss other))
   same_place (r ∷ rs) [] text left gone n m a b known other is second x y =
-      absurd (none_known p gone m r _ y (subst (λ t. BeginsWithRule t r (flat_map spelled rs ++ left)) second (first_begins text r rs left a is)) (head_of (IsKnown p) r rs known))
+      absurd (none_known p gone m r _ y (subst (λ t. BeginsWithRule t r (flat_map spelled_rule rs ++ left)) second (first_begins text r rs left a is)) (head_of (IsKnown p) r rs known))
   same_place (r ∷ rs) (s ∷ ss) text left gone n m a b known other is second x y =
       let one = begins_once text r s _ _ (first_begins text r rs left a is) (first_begins text s ss gone b second) in
-      let later = same_place rs ss (flat_map spelled rs ++ left) left gone n m (tail_of IsRule r rs a) (tail_of IsRule s ss b) (tail_of (IsKnown p) r rs known) (tail_of (IsKnown p) s ss other) refl one.rest_is x y in
+      let later = same_place rs ss (flat_map spelled_rule rs ++ left) left gone n m (tail_of IsRule r rs a) (tail_of IsRule s ss b) (tail_of (IsKnown p) r rs known) (tail_of (IsKnown p) s ss other) refl one.rest_is x y in
       (later.0, ap suc later.1)
 
   pub not_both : (text : List ℕ) (number line : ℕ) (rulings : List Ruling) → IsPolicyFault p text number line → ReadsAsPolicy p text rulings → ⊥

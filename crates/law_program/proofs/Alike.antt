@@ -14,7 +14,7 @@ use Rattle.def_port.specs.Told.{Told, Silent, Absent, File, FolderView, TellsSam
 use Rattle.def_program.specs.Answers.{Answers, Read, TurnCause, WereDue, Whole, contents}
 use Rattle.def_program.specs.Beside.{EndsUnlessWanting, IsDoneWith, TellsAll, TellsSameScript}
 use Rattle.def_program.specs.Calls.{CallRecord, FileHolds, IsFile, IsLarge, most}
-use Rattle.def_program.specs.Commands.{Command, Image, Run, RunImage, Upgrade, form_of}
+use Rattle.def_program.specs.Commands.{Command, Image, Run, RunImage, Upgrade, command_form}
 use Rattle.def_program.specs.Completing.{IsTold, NoFault}
 use Rattle.def_program.specs.Deciding.{ComesTo, IsToldWhenDue}
 use Rattle.def_program.specs.Lines.{description_line, image_line, large_line, script_line}
@@ -174,7 +174,7 @@ data Ended (e : CallRecord) (c : Command) (due : Status) (text : List ℕ) : Typ
   by_turn : EndedBy e c (Ends due text) → Ended e c due text
   by_size : (name : List ℕ) → EndedBy e c (Asks name) → IsLarge (e.folder.file name) → due ≡ status.TooLarge → text ≡ large_line name → Ended e c due text
 
-module _ (e : CallRecord) (c : Command) (form : form_of e.words ≡ Some c) where
+module _ (e : CallRecord) (c : Command) (form : command_form e.words ≡ Some c) where
   by_cause : (due : Status) (text : List ℕ) → TurnCause e due text → EndedBy e c (Ends due text)
   by_cause due text t =
       let same : t.command ≡ c = same_command e t.command c t.form form in
@@ -206,7 +206,7 @@ module _ (e : CallRecord) (c : Command) (form : form_of e.words ≡ Some c) wher
   ended status.Denied w no_read = by_turn (by_cause status.Denied w.text w.cause)
   ended status.Policy w no_read = by_turn (by_cause status.Policy w.text w.cause)
 
-done_by : (e : CallRecord) (c : Command) (text : List ℕ) → form_of e.words ≡ Some c → IsDoneWith e text → EndedBy e c (done text)
+done_by : (e : CallRecord) (c : Command) (text : List ℕ) → command_form e.words ≡ Some c → IsDoneWith e text → EndedBy e c (done text)
 done_by e c text form d =
     let w : Whole e status.Done = d.done in
     let here : Appends (Some d.before) e.sink_after.bytes w.text = subst (λ o. Appends o e.sink_after.bytes w.text) d.tells w.written in
@@ -246,7 +246,7 @@ asked_script p limit (Some n) [] name h = ap (λ (m : List ℕ). Some m) (sym (s
 asked_script p limit (Some n) (x ∷ more) name (inl f) = absurd (let clash : Asks name ≡ Ends status.Script (script_line f.fault.number f.fault.place) = f.due in cc)
 asked_script p limit (Some n) (x ∷ more) name (inr r) = absurd (let clash : Asks name ≡ Ends status.Done (run_text p r.dues limit) = r.due in cc)
 
-module _ (e : CallRecord) (s : Status) (file : List ℕ) (limit : ℕ) (script : Option (List ℕ)) (form : form_of e.words ≡ Some (RunImage file limit script))
+module _ (e : CallRecord) (s : Status) (file : List ℕ) (limit : ℕ) (script : Option (List ℕ)) (form : command_form e.words ≡ Some (RunImage file limit script))
     (bytes : List ℕ) (stored : IsTold e file bytes) (p : PartsRow) (image : IsImage bytes p) (answers : Answers e s) (none : NoFault e) where
   meets_text : (due : Status) (other text : List ℕ) → Meeting e (Ends due other) (Ends due text) → other ≡ text
   meets_text due other text (together is) = same_text due other text is
@@ -393,7 +393,7 @@ rows_of c b files turn d well (inr x) = subst (λ z. OfRows c z files turn) (sam
 
 module _ (image direct stored : CallRecord) (s : Status) (name file : List ℕ) (limit : ℕ) (script : Option (List ℕ)) (bytes : List ℕ)
     (tells : TellsAll image.folder) (same : TellsSame image.folder direct.folder) (scripts : TellsSameScript script image.folder stored.folder)
-    (form : form_of stored.words ≡ Some (RunImage file limit script)) (told_file : IsTold stored file bytes) (answers : Answers stored s) (none : NoFault stored)
+    (form : command_form stored.words ≡ Some (RunImage file limit script)) (told_file : IsTold stored file bytes) (answers : Answers stored s) (none : NoFault stored)
     (rs ts : List Read) (due : WereDue image (Image name) rs) (later : WereDue direct (Run name limit script) ts) where
   -- both read these bytes first
   module _ (b : List ℕ) (xs ys : List (List ℕ)) (first : contents rs ≡ b ∷ xs) (second : contents ts ≡ b ∷ ys)
@@ -504,7 +504,7 @@ by_ending other e c s due text (by_turn y) comes = comes (Ends due text) y
 by_ending other e c s due text (by_size name y large is same) comes = by_size_of e s due text (large_line name) is same (comes (Asks name) y large)
 
 pub stored_alike : (image direct stored : CallRecord) (s due : Status) (name file : List ℕ) (limit : ℕ) (script : Option (List ℕ)) (bytes : List ℕ)
-    → form_of image.words ≡ Some (Image name) → form_of direct.words ≡ Some (Run name limit script) → form_of stored.words ≡ Some (RunImage file limit script)
+    → command_form image.words ≡ Some (Image name) → command_form direct.words ≡ Some (Run name limit script) → command_form stored.words ≡ Some (RunImage file limit script)
     → TellsAll image.folder → TellsSame image.folder direct.folder → TellsSameScript script image.folder stored.folder
     → stored.folder.file file ≡ File bytes → length bytes ≤ most
     → IsDoneWith image bytes → (answer : Whole direct due) → (due ≡ status.ReadFault → ⊥) → Answers stored s → NoFault stored → EndsUnlessWanting stored s due answer.text
@@ -518,7 +518,7 @@ stored_alike image direct stored s due name file limit script bytes first second
 
 module _ (upgrade old new : CallRecord) (s : Status) (name file : List ℕ) (limit : ℕ) (script : Option (List ℕ)) (bytes : List ℕ)
     (tells : TellsAll upgrade.folder) (same : TellsSame upgrade.folder old.folder) (scripts : TellsSameScript script upgrade.folder new.folder)
-    (form : form_of new.words ≡ Some (RunImage file limit script)) (told_file : IsTold new file bytes) (answers : Answers new s) (none : NoFault new)
+    (form : command_form new.words ≡ Some (RunImage file limit script)) (told_file : IsTold new file bytes) (answers : Answers new s) (none : NoFault new)
     (rs ts : List Read) (due : WereDue upgrade (Upgrade name) rs) (later : WereDue old (RunImage name limit script) ts) where
   asks_image : (b given wanted : List ℕ) → OfImage (RunImage name limit script) b [] (Asks given) → script ≡ Some wanted → given ≡ wanted
   asks_image b given wanted (inl f) named = absurd (let clash : Asks given ≡ Ends status.Image (image_line f.fault.number f.fault.place) = f.due in cc)
@@ -558,7 +558,7 @@ module _ (upgrade old new : CallRecord) (s : Status) (name file : List ℕ) (lim
       from_image c ys second (subst (λ z. OfImage (Upgrade name) z [] (done bytes)) alike (drops_more b xs one)) turn other
 
 pub upgraded_alike : (upgrade old new : CallRecord) (s due : Status) (name file : List ℕ) (limit : ℕ) (script : Option (List ℕ)) (bytes : List ℕ)
-    → form_of upgrade.words ≡ Some (Upgrade name) → form_of old.words ≡ Some (RunImage name limit script) → form_of new.words ≡ Some (RunImage file limit script)
+    → command_form upgrade.words ≡ Some (Upgrade name) → command_form old.words ≡ Some (RunImage name limit script) → command_form new.words ≡ Some (RunImage file limit script)
     → TellsAll upgrade.folder → TellsSame upgrade.folder old.folder → TellsSameScript script upgrade.folder new.folder
     → new.folder.file file ≡ File bytes → length bytes ≤ most
     → IsDoneWith upgrade bytes → (answer : Whole old due) → (due ≡ status.ReadFault → ⊥) → Answers new s → NoFault new → EndsUnlessWanting new s due answer.text

@@ -6,7 +6,7 @@ use Rattle.law_lists.proofs.Tests.{lt_tells}
 use Rattle.def_port.specs.Told.{Told, Absent, File}
 use Rattle.def_program.specs.Answers.{Answers, LargeCause, Read, TurnCause, WereDue, contents}
 use Rattle.def_program.specs.Calls.{CallRecord, FileHolds, IsFile, IsLarge, most}
-use Rattle.def_program.specs.Commands.{Command, form_of}
+use Rattle.def_program.specs.Commands.{Command, command_form}
 use Rattle.def_program.specs.Completing.{IsTold, NoFault}
 use Rattle.def_program.specs.Deciding.{ComesTo, IsDecided, IsToldWhenDue, OrNoMemory}
 use Rattle.def_program.specs.Turns.{Turn, Asks, Ends, Follows}
@@ -89,7 +89,7 @@ none_absent t bytes is holds = let P : Told → Type 0 = λ u. FileHolds u bytes
 not_large_absent : (t : Told) → t ≡ Absent → IsLarge t → ⊥
 not_large_absent t is large = let P : Told → Type 0 = λ u. IsLarge u in subst P is large
 
-module _ (e : CallRecord) (c : Command) (form : form_of e.words ≡ Some c) where
+module _ (e : CallRecord) (c : Command) (form : command_form e.words ≡ Some c) where
   -- the call's last turn, where the dialogue over the told files comes to this one
   pub turns : (s : Status) (text : List ℕ) (turn : Turn) → TurnCause e s text → ComesTo e c turn → Meeting e (Ends s text) turn
   turns s text turn t comes =
@@ -155,7 +155,7 @@ module _ (e : CallRecord) (c : Command) (form : form_of e.words ≡ Some c) wher
 
 -- ---- by the status
 
-ends : (e : CallRecord) (s : Status) → Answers e s → (c : Command) (due : Status) (text : List ℕ) → form_of e.words ≡ Some c → ComesTo e c (Ends due text) → NoFault e → OrNoMemory s due
+ends : (e : CallRecord) (s : Status) → Answers e s → (c : Command) (due : Status) (text : List ℕ) → command_form e.words ≡ Some c → ComesTo e c (Ends due text) → NoFault e → OrNoMemory s due
 ends e status.Done w c due text form comes none = ends_so e c form status.Done due w.text text w.cause comes
 ends e status.Usage w c due text form comes none = absurd (not_both_forms e c w.cause.form form)
 ends e status.ReadFault w c due text form comes none = absurd (none.reads w.cause.rose)
@@ -171,7 +171,7 @@ ends e status.Name w c due text form comes none = ends_so e c form status.Name d
 ends e status.Denied w c due text form comes none = ends_so e c form status.Denied due w.text text w.cause comes
 ends e status.Policy w c due text form comes none = ends_so e c form status.Policy due w.text text w.cause comes
 
-large : (e : CallRecord) (s : Status) → Answers e s → (c : Command) (name bytes : List ℕ) → form_of e.words ≡ Some c → ComesTo e c (Asks name) → e.folder.file name ≡ File bytes → most < length bytes
+large : (e : CallRecord) (s : Status) → Answers e s → (c : Command) (name bytes : List ℕ) → command_form e.words ≡ Some c → ComesTo e c (Asks name) → e.folder.file name ≡ File bytes → most < length bytes
     → NoFault e → OrNoMemory s status.TooLarge
 large e status.Done w c name bytes form comes is long none = absurd (no_turn e c form status.Done w.text name (large_is_none e c form name bytes is long) w.cause comes)
 large e status.Usage w c name bytes form comes is long none = absurd (not_both_forms e c w.cause.form form)
@@ -188,7 +188,7 @@ large e status.Name w c name bytes form comes is long none = absurd (no_turn e c
 large e status.Denied w c name bytes form comes is long none = absurd (no_turn e c form status.Denied w.text name (large_is_none e c form name bytes is long) w.cause comes)
 large e status.Policy w c name bytes form comes is long none = absurd (no_turn e c form status.Policy w.text name (large_is_none e c form name bytes is long) w.cause comes)
 
-absent : (e : CallRecord) (s : Status) → Answers e s → (c : Command) (name : List ℕ) → form_of e.words ≡ Some c → ComesTo e c (Asks name) → e.folder.file name ≡ Absent
+absent : (e : CallRecord) (s : Status) → Answers e s → (c : Command) (name : List ℕ) → command_form e.words ≡ Some c → ComesTo e c (Asks name) → e.folder.file name ≡ Absent
     → OrNoMemory s status.ReadFault ⊎ (s ≡ status.WriteFault)
 absent e status.Done w c name form comes is = absurd (no_turn e c form status.Done w.text name (absent_is_none e c form name is) w.cause comes)
 absent e status.Usage w c name form comes is = absurd (not_both_forms e c w.cause.form form)

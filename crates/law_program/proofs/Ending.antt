@@ -12,7 +12,7 @@ use Rattle.def_link.specs.declared.LinkFault.{LinkFault}
 use Rattle.def_link.specs.Linked.{linked}
 use Rattle.def_program.specs.declared.Status.{Status}
 use Rattle.def_program.specs.declared.Status.TheVariants as status
-use Rattle.def_program.specs.Commands.{Command, Audit, Image, Run, RunImage, Why, Upgrade, Check, Demo, form_of, generated_by, file_of, reads_image}
+use Rattle.def_program.specs.Commands.{Command, Audit, Image, Run, RunImage, Why, Upgrade, Check, Demo, command_form, generated_by, file_of, reads_image}
 use Rattle.def_program.specs.Calls.{CallRecord, FileHolds, IsLarge, most}
 use Rattle.def_program.specs.Licences.{LinksTo, NumberStandsFor}
 use Rattle.def_program.specs.Lines.{script_line, policy_line, allow_line}
@@ -414,7 +414,7 @@ planned_for e (Demo number) p g = planned_number e number p g
 planned : (e : CallRecord) (p : PartsRow) → (a : IsAsked e p) → Planned e a.command p
 planned e p a = planned_for e a.command p a.given
 
-pub same_command : (e : CallRecord) (a b : Command) → form_of e.words ≡ Some a → form_of e.words ≡ Some b → a ≡ b
+pub same_command : (e : CallRecord) (a b : Command) → command_form e.words ≡ Some a → command_form e.words ≡ Some b → a ≡ b
 same_command e a b p q = let same : Some a ≡ Some b = sym p ∙ q in cc
 
 turn_status : (e : CallRecord) (p : PartsRow) (a : IsAsked e p) (s : Status) (text : List ℕ) → TurnCause e s text → Finishes a.command p s
@@ -426,7 +426,7 @@ turn_status e p a s text t =
     let ends_so : Follows a.command (contents t.reads) (Ends s text) = subst (λ c. Follows c (contents t.reads) (Ends s text)) same t.due in
     x.plan.last (length t.reads) s text so.1 (subst (λ fs. Follows a.command fs (Ends s text)) so.0 ends_so)
 
-not_large : (e : CallRecord) (p : PartsRow) (a : IsAsked e p) (c : Command) (rs : List Read) (name : List ℕ) → form_of e.words ≡ Some c → LastRead e c rs name → IsLarge (e.folder.file name) → ⊥
+not_large : (e : CallRecord) (p : PartsRow) (a : IsAsked e p) (c : Command) (rs : List Read) (name : List ℕ) → command_form e.words ≡ Some c → LastRead e c rs name → IsLarge (e.folder.file name) → ⊥
 not_large e p a c rs name form last large =
     let x = planned e p a in
     let same : c ≡ a.command = same_command e c a.command form a.form in
@@ -437,7 +437,7 @@ not_large e p a c rs name form last large =
     let file = told_at e x.names x.all (length rs) name x.plan.told named in
     too_large (e.folder.file name) file.0 file.1.1.told file.1.1.size large
 
-pub not_both_forms : (e : CallRecord) (a : Command) → form_of e.words ≡ None → form_of e.words ≡ Some a → ⊥
+pub not_both_forms : (e : CallRecord) (a : Command) → command_form e.words ≡ None → command_form e.words ≡ Some a → ⊥
 not_both_forms e a p q = absurd (let same : Some a ≡ None = sym q ∙ p in cc)
 
 pub completes : (e : CallRecord) (s : Status) → Answers e s → Completes e s

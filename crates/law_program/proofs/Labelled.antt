@@ -12,7 +12,7 @@ use Rattle.def_image.specs.declared.SlotKind.TheVariants as slot
 use Rattle.def_image.specs.Members.{no_code, no_compartment}
 use Rattle.def_image.specs.Parts.{SlotRow, GateRow, CodeRow, CompartmentRow, ThreadRow, PartsRow}
 use Rattle.def_program.specs.Owners.{owner_name}
-use Rattle.def_boot.specs.Entries.{slot_row, slot_rows, export_rows, library_export_row, compartment_rows, library_rows, stack_row, rows_from, entry_rows}
+use Rattle.def_boot.specs.Entries.{slot_entry, slot_rows, export_rows, library_export_row, compartment_rows, library_rows, stack_row, rows_from, entry_rows}
 use Rattle.def_report.specs.Labels.{Label, owner_label, slot_label, export_label, slots_and_exports, compartment_labels, library_labels, labels_of}
 use Rattle.law_boot.proofs.Standing.{slots_count, exports_count, slot_owner}
 

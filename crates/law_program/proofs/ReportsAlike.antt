@@ -8,7 +8,7 @@ use Rattle.def_image.specs.declared.SlotKind.TheVariants as slot
 use Rattle.def_image.specs.Parts.{SlotRow, CodeRow, CompartmentRow, ThreadRow, PartsRow, upgraded}
 use Rattle.def_boot.specs.Gates.{entries_of}
 use Rattle.def_report.specs.Labels.{Label, owner_label, of_name, seal_of, slot_label, export_label, slots_and_exports, compartment_labels, library_labels, labels_of}
-use Rattle.def_report.specs.Lines.{numbered}
+use Rattle.def_report.specs.Lines.{numbered_entries}
 use Rattle.def_report.specs.Report.{object_of, list, compartment_data, device_data, edges_data, heap_data, library_data, thread_data, data_over, report_data, report_line}
 use Rattle.serde_json.specs.Data.{Data}
 use Rattle.serde_json.specs.Written.{compact_text}
@@ -85,7 +85,7 @@ data_alike p e =
     (list (map compartment_data p.compartments))
     (list (map device_data p.devices))
     (edges_data e (length p.compartments))
-    (list (numbered 1 e.rows l))
+    (list (numbered_entries 1 e.rows l))
     (heap_data p)
     (list (map library_data p.libraries))
     (list (map (thread_data p) p.threads))) (labels_alike p)

@@ -7,7 +7,7 @@ use Rattle.law_lists.proofs.Tests.{bool_tells, eq_tells, le_tells, lt_tells}
 use Rattle.ct_entry.specs.Listed.{DeviceRow}
 use Rattle.def_profile.specs.declared.limits.TheConstants.{MOST_STEPS}
 use Rattle.def_script.specs.declared.ScriptFault.TheVariants.{At}
-use Rattle.def_script.specs.Script.{Row, BeginsWithRow, NoScriptLine, Due, ReadsAsScript, IsScriptFault, device_named, is_inner}
+use Rattle.def_script.specs.Script.{Row, BeginsWithRow, NoScriptLine, Due, ReadsAsScript, IsScriptFault, input_device_named, is_field_byte}
 use Rattle.law_script.proofs.Lines.{line_long}
 use Rattle.ct_script.specs.Fields.{IsNumber, NoNumber, IsName, NoName, row_of}
 use Rattle.ct_script.specs.Lines.{LinesRow, Going, IsRefusal, dues_of, given_of, last_of, with_line}
@@ -50,7 +50,7 @@ record Counted (text : List ℕ) (end : ℕ) : Type 0 where
   rest : List ℕ
   is : IsNumber text end number rest
 
-number_there : (text : List ℕ) (end : ℕ) → is_inner end ≡ false → Counted text end ⊎ NoNumber text end
+number_there : (text : List ℕ) (end : ℕ) → is_field_byte end ≡ false → Counted text end ⊎ NoNumber text end
 number_there text end ends = elim (lt_tells (place_of text) (length text)) [
   | inr long ↦ inr (endless text end ends long.1)
   | inl inside ↦ elim (eq_tells (get_or text (place_of text) 0) end) [
@@ -144,7 +144,7 @@ module _ (devices : List DeviceRow) (text : List ℕ) where
 
   module _ (left : List ℕ) (l : LinesRow) (g : Going devices text l left)
       (next : (rest : List ℕ) (new : LinesRow) → length rest < length left → Going devices text new rest → IsTold devices text) where
-    by_device : (line : Line left) → last_of l.steps ≤ line.row.step → (o : Option ℕ) → device_named devices line.row.name ≡ o → IsTold devices text
+    by_device : (line : Line left) → last_of l.steps ≤ line.row.step → (o : Option ℕ) → input_device_named devices line.row.name ≡ o → IsTold devices text
     by_device line order None none =
         refused left l 3 g (refl, inr (inr (refl, record { next = line.row; rest = line.rest; begins = line.is; order = order; unknown = none })))
     by_device line order (Some d) found =
@@ -161,7 +161,7 @@ module _ (devices : List DeviceRow) (text : List ℕ) where
     by_line : Line left ⊎ NoScriptLine left → IsTold devices text
     by_line (inr none) = refused left l 1 g (refl, inl (refl, none))
     by_line (inl line) = elim (le_tells (last_of l.steps) line.row.step) [
-      | inl order ↦ by_device line order.1 (device_named devices line.row.name) refl
+      | inl order ↦ by_device line order.1 (input_device_named devices line.row.name) refl
       | inr falls ↦ refused left l 2 g (refl, inr (inl (refl, record { next = line.row; rest = line.rest; begins = line.is; falls = falls.1 })))
     ]
 

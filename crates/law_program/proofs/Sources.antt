@@ -3,7 +3,7 @@ use Rattle.std.proofs.Common.{ℕ, ◌≡◌, ◌∙◌, List, length, take, dro
 use Rattle.std.proofs.lemmas.List.{take_all}
 use Rattle.def_image.specs.Parts.{PartsRow}
 use Rattle.def_desc.specs.Rows.{DescRow}
-use Rattle.def_desc.specs.Tables.{kind_of, posture_of, library_posture_of, passes_of, service_of}
+use Rattle.def_desc.specs.Tables.{device_kind_named, posture_of, library_posture_of, passes_of, service_of}
 use Rattle.def_link.specs.declared.LinkFault.{LinkFault}
 use Rattle.def_link.specs.Linked.{linked}
 use Rattle.def_program.specs.Commands.{Command}
@@ -20,31 +20,31 @@ of_rows c d sources turn r none size is due =
     (subst (λ z. OfLinked c d z (drop (length (source_names d)) sources) turn) (sym (ap (linked d) own ∙ is)) due)
 
 pub no_file : slice_get (source_names tiny_rows) 0 ≡ None
-unfolding kind_of posture_of library_posture_of passes_of service_of
+unfolding device_kind_named posture_of library_posture_of passes_of service_of
 no_file = refl
 
 pub no_file_in : slice_get (source_names (tiny_in 640)) 0 ≡ None
-unfolding kind_of posture_of library_posture_of passes_of service_of
+unfolding device_kind_named posture_of library_posture_of passes_of service_of
 no_file_in = refl
 
 pub one_file : slice_get (source_names filed) 0 ≡ Some (codes "app.s")
-unfolding kind_of posture_of library_posture_of passes_of service_of
+unfolding device_kind_named posture_of library_posture_of passes_of service_of
 one_file = refl
 
 pub no_other : slice_get (source_names filed) 1 ≡ None
-unfolding kind_of posture_of library_posture_of passes_of service_of
+unfolding device_kind_named posture_of library_posture_of passes_of service_of
 no_other = refl
 
 -- ---- how many files there are
 
 pub no_files : 0 ≡ length (source_names tiny_rows)
-unfolding kind_of posture_of library_posture_of passes_of service_of
+unfolding device_kind_named posture_of library_posture_of passes_of service_of
 no_files = refl
 
 pub no_files_in : 0 ≡ length (source_names (tiny_in 640))
-unfolding kind_of posture_of library_posture_of passes_of service_of
+unfolding device_kind_named posture_of library_posture_of passes_of service_of
 no_files_in = refl
 
 pub one : 1 ≡ length (source_names filed)
-unfolding kind_of posture_of library_posture_of passes_of service_of
+unfolding device_kind_named posture_of library_posture_of passes_of service_of
 one = refl

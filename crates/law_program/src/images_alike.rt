@@ -8,7 +8,7 @@ ghost use Rattle.def_port.specs.Told.{File, TellsSame};
 ghost use Rattle.def_program.specs.Answers.{Answers, Whole};
 ghost use Rattle.def_program.specs.Beside.{EndsUnlessWanting, IsDoneWith, TellsAll, TellsSameScript};
 ghost use Rattle.def_program.specs.Calls.{CallRecord, most};
-ghost use Rattle.def_program.specs.Commands.{Image, Run, RunImage, Upgrade, form_of};
+ghost use Rattle.def_program.specs.Commands.{Image, Run, RunImage, Upgrade, command_form};
 ghost use Rattle.def_program.specs.Completing.{NoFault};
 ghost use Rattle.def_program.specs.Licences.{LinksTo};
 ghost use Rattle.def_program.specs.Runs.{events_until};
@@ -29,9 +29,9 @@ ghost use Rattle.def_step.specs.Events.{happenings_of};
 pub fn stored_images_run_alike()
     ensures calls { (image direct stored : CallRecord) (s due : Status) (name file : List ℕ)
         (limit : ℕ) (script : Option (List ℕ)) (bytes : List ℕ)
-        → form_of image.words ≡ Some (Image name)
-        → form_of direct.words ≡ Some (Run name limit script)
-        → form_of stored.words ≡ Some (RunImage file limit script)
+        → command_form image.words ≡ Some (Image name)
+        → command_form direct.words ≡ Some (Run name limit script)
+        → command_form stored.words ≡ Some (RunImage file limit script)
         → TellsAll image.folder → TellsSame image.folder direct.folder
         → TellsSameScript script image.folder stored.folder
         → stored.folder.file file ≡ File bytes → length bytes ≤ most
@@ -57,9 +57,9 @@ pub fn stored_images_run_alike()
 pub fn upgraded_images_run_alike()
     ensures calls { (upgrade old new : CallRecord) (s due : Status) (name file : List ℕ)
         (limit : ℕ) (script : Option (List ℕ)) (bytes : List ℕ)
-        → form_of upgrade.words ≡ Some (Upgrade name)
-        → form_of old.words ≡ Some (RunImage name limit script)
-        → form_of new.words ≡ Some (RunImage file limit script)
+        → command_form upgrade.words ≡ Some (Upgrade name)
+        → command_form old.words ≡ Some (RunImage name limit script)
+        → command_form new.words ≡ Some (RunImage file limit script)
         → TellsAll upgrade.folder → TellsSame upgrade.folder old.folder
         → TellsSameScript script upgrade.folder new.folder
         → new.folder.file file ≡ File bytes → length bytes ≤ most

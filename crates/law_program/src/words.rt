@@ -5,7 +5,7 @@ ghost use Rattle.ct_entry.specs.declared.rows.Owner.TheVariants.{Compartment, Li
 ghost use Rattle.def_desc.specs.declared.faults.PartWord.TheVariants as part;
 ghost use Rattle.def_link.specs.declared.LinkFault.TheVariants as fault;
 ghost use Rattle.def_step.specs.declared.Event.TheVariants.{Input, Step, Sweep, Tick};
-ghost use Rattle.def_program.specs.Commands.{form_of, Audit, Image, Run, RunImage, Why, Upgrade, Check, Demo};
+ghost use Rattle.def_program.specs.Commands.{command_form, Audit, Image, Run, RunImage, Why, Upgrade, Check, Demo};
 ghost use Rattle.def_program.specs.Lines.{usage_line, read_line, large_line, description_line, link_text, image_line, name_line, script_line, policy_line, allow_line};
 ghost use Rattle.def_program.specs.Runs.{round};
 ghost use Rattle.law_desc.specs.Samples.{at};
@@ -16,38 +16,38 @@ ghost use Rattle.def_script.specs.Bytes.{two_bytes};
 /// most, a number with a leading zero or past the most, a word too many or too few, and a command
 /// that isn't one.
 pub fn forms_of_words()
-    ensures audit { form_of (codes "audit" ∷ codes "a.json" ∷ []) ≡ Some (Audit (codes "a.json")) }
-    ensures image { form_of (codes "image" ∷ codes "a.json" ∷ []) ≡ Some (Image (codes "a.json")) }
-    ensures run { form_of (codes "run" ∷ codes "a.json" ∷ codes "100" ∷ [])
+    ensures audit { command_form (codes "audit" ∷ codes "a.json" ∷ []) ≡ Some (Audit (codes "a.json")) }
+    ensures image { command_form (codes "image" ∷ codes "a.json" ∷ []) ≡ Some (Image (codes "a.json")) }
+    ensures run { command_form (codes "run" ∷ codes "a.json" ∷ codes "100" ∷ [])
         ≡ Some (Run (codes "a.json") 100 None) }
-    ensures runimage { form_of (codes "runimage" ∷ codes "a.img" ∷ codes "4000000000" ∷ [])
+    ensures runimage { command_form (codes "runimage" ∷ codes "a.img" ∷ codes "4000000000" ∷ [])
         ≡ Some (RunImage (codes "a.img") 4000000000 None) }
-    ensures why { form_of (codes "why" ∷ codes "a.json" ∷ codes "hex" ∷ codes "app" ∷ [])
+    ensures why { command_form (codes "why" ∷ codes "a.json" ∷ codes "hex" ∷ codes "app" ∷ [])
         ≡ Some (Why (codes "a.json") (codes "hex") (codes "app")) }
-    ensures script { form_of (codes "run" ∷ codes "a.json" ∷ codes "7" ∷ codes "a.script" ∷ [])
+    ensures script { command_form (codes "run" ∷ codes "a.json" ∷ codes "7" ∷ codes "a.script" ∷ [])
         ≡ Some (Run (codes "a.json") 7 (Some (codes "a.script"))) }
-    ensures of_image { form_of
+    ensures of_image { command_form
         (codes "runimage" ∷ codes "a.img" ∷ codes "7" ∷ codes "a.script" ∷ [])
         ≡ Some (RunImage (codes "a.img") 7 (Some (codes "a.script"))) }
-    ensures upgrade { form_of (codes "upgrade" ∷ codes "a.img" ∷ [])
+    ensures upgrade { command_form (codes "upgrade" ∷ codes "a.img" ∷ [])
         ≡ Some (Upgrade (codes "a.img")) }
-    ensures check { form_of (codes "check" ∷ codes "a.json" ∷ codes "a.policy" ∷ [])
+    ensures check { command_form (codes "check" ∷ codes "a.json" ∷ codes "a.policy" ∷ [])
         ≡ Some (Check (codes "a.json") (codes "a.policy")) }
-    ensures demo { form_of (codes "demo" ∷ codes "62" ∷ []) ≡ Some (Demo 62) }
-    ensures least { form_of (codes "demo" ∷ codes "0" ∷ []) ≡ Some (Demo 0) }
-    ensures greatest { form_of (codes "demo" ∷ codes "4294967295" ∷ [])
+    ensures demo { command_form (codes "demo" ∷ codes "62" ∷ []) ≡ Some (Demo 62) }
+    ensures least { command_form (codes "demo" ∷ codes "0" ∷ []) ≡ Some (Demo 0) }
+    ensures greatest { command_form (codes "demo" ∷ codes "4294967295" ∷ [])
         ≡ Some (Demo 4294967295) }
-    ensures greater { form_of (codes "demo" ∷ codes "4294967296" ∷ []) ≡ None }
-    ensures led { form_of (codes "demo" ∷ codes "062" ∷ []) ≡ None }
-    ensures signed { form_of (codes "demo" ∷ codes "-1" ∷ []) ≡ None }
-    ensures empty { form_of (codes "demo" ∷ [] ∷ []) ≡ None }
-    ensures no_steps { form_of (codes "run" ∷ codes "a.json" ∷ codes "0" ∷ []) ≡ None }
-    ensures leading { form_of (codes "run" ∷ codes "a.json" ∷ codes "01" ∷ []) ≡ None }
-    ensures past { form_of (codes "runimage" ∷ codes "a.img" ∷ codes "4000000001" ∷ []) ≡ None }
-    ensures few { form_of (codes "run" ∷ codes "a.json" ∷ []) ≡ None }
-    ensures many { form_of (codes "audit" ∷ codes "a.json" ∷ codes "b.json" ∷ []) ≡ None }
-    ensures other { form_of (codes "link" ∷ codes "a.json" ∷ []) ≡ None }
-    ensures none { form_of [] ≡ None }
+    ensures greater { command_form (codes "demo" ∷ codes "4294967296" ∷ []) ≡ None }
+    ensures led { command_form (codes "demo" ∷ codes "062" ∷ []) ≡ None }
+    ensures signed { command_form (codes "demo" ∷ codes "-1" ∷ []) ≡ None }
+    ensures empty { command_form (codes "demo" ∷ [] ∷ []) ≡ None }
+    ensures no_steps { command_form (codes "run" ∷ codes "a.json" ∷ codes "0" ∷ []) ≡ None }
+    ensures leading { command_form (codes "run" ∷ codes "a.json" ∷ codes "01" ∷ []) ≡ None }
+    ensures past { command_form (codes "runimage" ∷ codes "a.img" ∷ codes "4000000001" ∷ []) ≡ None }
+    ensures few { command_form (codes "run" ∷ codes "a.json" ∷ []) ≡ None }
+    ensures many { command_form (codes "audit" ∷ codes "a.json" ∷ codes "b.json" ∷ []) ≡ None }
+    ensures other { command_form (codes "link" ∷ codes "a.json" ∷ []) ≡ None }
+    ensures none { command_form [] ≡ None }
 {}
 
 /// Each line of a refusal, letter by letter.

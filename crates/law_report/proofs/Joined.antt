@@ -10,7 +10,7 @@ use Rattle.ct_graph.specs.Links.{link_of, links_of, own, goes, calls as link_cal
 use Rattle.ct_graph.proofs.Owners.{any_own}
 use Rattle.ct_graph.proofs.Steps.{step_found, step_made}
 use Rattle.ct_graph.proofs.Graphs.{neighbours_of}
-use Rattle.def_report.specs.Edges.{is_of, carries, calls, holds, share, are_joined}
+use Rattle.def_report.specs.Edges.{is_owned_by, carries, calls, holds_object, share, are_joined}
 
 any_same : {A : Type 0} (p q : A → Bool) (xs : List A) → ((x : A) → p x ≡ q x) → list_any p xs ≡ list_any q xs
 any_same p q [] same = refl
@@ -19,14 +19,14 @@ any_same p q (x ∷ xs) same = let here = same x in let rest = any_same p q xs s
 calls_same : (e : Listed) (a b : ℕ) → calls e a b ≡ list_any (link_calls (Compartment b)) (own (links_of e) (Compartment a))
 calls_same e a b = sym (any_own e e.rows (link_calls (Compartment b)) (Compartment a))
 
-holds_same : (e : Listed) (b object : ℕ) → holds e b object ≡ list_any (link_holds object) (own (links_of e) (Compartment b))
+holds_same : (e : Listed) (b object : ℕ) → holds_object e b object ≡ list_any (link_holds object) (own (links_of e) (Compartment b))
 holds_same e b object = sym (any_own e e.rows (link_holds object) (Compartment b))
 
 share_same : (e : Listed) (a b : ℕ) → share e a b ≡ list_any (link_shares (own (links_of e) (Compartment b))) (own (links_of e) (Compartment a))
 share_same e a b =
     let ms = own (links_of e) (Compartment b) in
-    any_same (λ (r : Entry). is_of a r && (carries r && holds e b r.of)) (λ (r : Entry). is_of a r && link_shares ms (link_of e r)) e.rows
-    (λ r. ap (λ t. is_of a r && (carries r && t)) (holds_same e b r.of))
+    any_same (λ (r : Entry). is_owned_by a r && (carries r && holds_object e b r.of)) (λ (r : Entry). is_owned_by a r && link_shares ms (link_of e r)) e.rows
+    (λ r. ap (λ t. is_owned_by a r && (carries r && t)) (holds_same e b r.of))
     ∙ sym (any_own e e.rows (link_shares ms) (Compartment a))
 
 joined_goes : (e : Listed) (a b : ℕ) → are_joined e a b ≡ goes e (Compartment a) (Compartment b)

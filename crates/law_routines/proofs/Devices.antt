@@ -19,7 +19,7 @@ use Rattle.def_step.specs.declared.Event.TheVariants.{Step, Tick, Sweep, Input}
 use Rattle.law_routines.proofs.Accesses.{by_access}
 use Rattle.def_step.specs.Accesses.{MemoryAndDevices, Accessed, access_of, access_checks, access_address, access_result, accessed, stored_value, unless}
 use Rattle.def_step.specs.Checks.{first_failed}
-use Rattle.def_step.specs.Devices.{DeviceStates, found, bank_read_at, bank_written_at, left_by_read, left_by_write, device, base_of, after_input}
+use Rattle.def_step.specs.Devices.{DeviceStates, found, bank_read_at, bank_written_at, left_by_read, left_by_write, device, registers_base, after_input}
 use Rattle.def_step.specs.Jumps.{Flowed, flow_result}
 use Rattle.def_step.specs.Operands.{operands_of, class_of}
 use Rattle.def_step.specs.Instructions.{Effect, Context, accesses, flows, executed, operand, carried_out, named_by, around}
@@ -32,11 +32,11 @@ use Rattle.law_routines.proofs.Stepping.{Steps, IfDone, carried, executed_left}
 
 read_keeps : (k : DeviceStates) (o : Option ℕ) (at width : ℕ) → length (bank_read_at k o at width).states ≡ length k.states
 read_keeps k None at width = refl
-read_keeps k (Some n) at width = length-set k.states n (left_by_read (device k.states n) (at - base_of k.bases n) width)
+read_keeps k (Some n) at width = length-set k.states n (left_by_read (device k.states n) (at - registers_base k.bases n) width)
 
 written_keeps : (k : DeviceStates) (o : Option ℕ) (at width value : ℕ) → length (bank_written_at k o at width value).states ≡ length k.states
 written_keeps k None at width value = refl
-written_keeps k (Some n) at width value = length-set k.states n (left_by_write (device k.states n) (at - base_of k.bases n) width value)
+written_keeps k (Some n) at width value = length-set k.states n (left_by_write (device k.states n) (at - registers_base k.bases n) width value)
 
 abbrev Keeps : MemoryAndDevices → Accessed → Type 0
 Keeps p m = length m.bank.states ≡ length p.bank.states

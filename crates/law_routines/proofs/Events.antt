@@ -29,7 +29,7 @@ use Rattle.def_step.specs.declared.Class.TheVariants as class
 use Rattle.def_step.specs.declared.Event.{Event}
 use Rattle.def_step.specs.declared.Event.TheVariants.{Step, Tick, Sweep, Input}
 use Rattle.def_confined.specs.Facts.{MadeSettled}
-use Rattle.def_step.specs.Routines.{answered, answers, wakes}
+use Rattle.def_step.specs.Routines.{answered, answers, threads_woken}
 use Rattle.def_step.specs.Switch.{called}
 use Rattle.def_step.specs.Quotas.{let_go}
 use Rattle.def_step.specs.Tokens.{with_row, sealed_token, opened_token}
@@ -201,7 +201,7 @@ given_settled (x ∷ xs) [] h t = h t
 given_settled (x ∷ xs) (y ∷ ys) h zero = let old = h zero in record { pcc = old.pcc; registers = old.registers; frames = old.frames }
 given_settled (x ∷ xs) (y ∷ ys) h (suc t) = given_settled xs ys (λ n. h (suc n)) t
 
-wakes_settled : (s : State) (t address most : ℕ) → Settled s → Settled (wakes s t address most)
+wakes_settled : (s : State) (t address most : ℕ) → Settled s → Settled (threads_woken s t address most)
 wakes_settled s t address most h =
     let told = answers_settled s t (integer (woken_count address most (statuses_of s.threads))) h (λ e. refl) in
     record {

@@ -26,10 +26,10 @@ use Rattle.def_step.specs.declared.TheConstants.{LAST_ROUTINE}
 use Rattle.def_step.specs.Checks.{Check, first_failed}
 use Rattle.def_step.specs.Native.{native}
 use Rattle.def_step.specs.Quotas.{Allocation, Refused, Made, allocation, is_quota_cap, quota_in, by_quota, allocated, allocate, freed_as, free, whole_of, let_go, gives_back, remaining}
-use Rattle.def_step.specs.Routines.{Ran, answered, answers, tells, code, checked, switched_to, switch, stops, yield, sleep, waits, wait, wakes, wake, word_checks}
+use Rattle.def_step.specs.Routines.{Ran, answered, answers, tells, code, checked, switched_to, switch, stops, yield, sleep, waits, wait, threads_woken, wake, word_checks}
 use Rattle.def_step.specs.Switch.{Switched, TooDeep, NoStack, Enters, return_checks, switch_checks, called, new_top, with_room, past_checks, frame_top}
 use Rattle.def_events.specs.Leaving.{Left, IfRan}
-use Rattle.def_step.specs.Tokens.{is_key_row, with_row, sealed_token, opened_token, key_of, token_of, made_token, by_key, opens, frees_token, token_key, token_new, token_open, token_free}
+use Rattle.def_step.specs.Tokens.{is_key_row, with_row, sealed_token, opened_token, key_of, token_object, made_token, by_key, opens, frees_token, token_key, token_new, token_open, token_free}
 use Rattle.law_routines.proofs.Cases.{Routines, by_routine}
 use Rattle.law_routines.proofs.Objects.{Found, whole_found}
 use Rattle.law_routines.proofs.Tokens.{key_says, token_found}
@@ -65,11 +65,11 @@ pub record Moves (Q : State → Option (ℕ × Act) → Type 0) (i : Image) (s :
   pub tells : (n : ℕ) → Q (answers s t (integer n)) None
   pub enters : (high : ℕ) → Q (entering i s t (called i.entries (thread s t)) high) (Some (call_told s t (called i.entries (thread s t))))
   pub stops : (status : Status) → Q (stopped s t status) None
-  pub wakes : (address most : ℕ) → Q (wakes s t address most) None
+  pub wakes : (address most : ℕ) → Q (threads_woken s t address most) None
   pub hands : (size : ℕ) (r : Object) → allocation i s (quota_in s t) size ≡ Made r → Q (answers (with_object s r) t (object_cap r)) (Some (allocate_told s r))
   pub gives : (r : Object) (c : Cap) → Found (quota_in s t) c s.objects r → Q (answers (let_go i s t r) t (integer 0)) (Some (free_told i s t r))
   pub seals : (size : ℕ) (key : Option ℕ) (r : Object) → allocation i s (quota_in s t) size ≡ Made r → IsKeyOf s key → Q (answers (with_object (with_row s r key) r) t (sealed_token r)) (Some (allocate_told (with_row s r key) r))
-  pub opens : (key : ℕ) (r : Object) → token_of s key (register (thread s t) 11) ≡ Some r → Q (answers s t (opened_token (register (thread s t) 11))) None
+  pub opens : (key : ℕ) (r : Object) → token_object s key (register (thread s t) 11) ≡ Some r → Q (answers s t (opened_token (register (thread s t) 11))) None
 
 pub option_tells : {A : Type 0} (o : Option A) → (o ≡ None) ⊎ ((x : A) × (o ≡ Some x))
 option_tells None = inl refl
@@ -109,7 +109,7 @@ module _ (Q : State → Option (ℕ × Act) → Type 0) (i : Image) (s : State) 
           (λ is. halts (awaiting (cap_address (register (thread s t) 10)) held (cap_address (register (thread s t) 11))))
           (λ not. answer (4294967296 - 21))
 
-  pub wake_left : ((address most : ℕ) → Q (wakes s t address most) None) → Left Q (wake i s t)
+  pub wake_left : ((address most : ℕ) → Q (threads_woken s t address most) None) → Left Q (wake i s t)
   wake_left woke = checked_left Q (return_checks (register (thread s t) 1)) _ (checked_left Q (word_checks i s (register (thread s t) 10)) _ (woke (cap_address (register (thread s t) 10)) (cap_address (register (thread s t) 11))))
 
   quota_left : (r : Ran) → ((n : ℕ) → Q (answers s t (integer n)) None) → Left Q r → Left Q (by_quota s t r)
@@ -149,19 +149,19 @@ module _ (Q : State → Option (ℕ × Act) → Type 0) (i : Image) (s : State) 
       (λ k is. made_left (cap_address (register (thread s t) 11)) (Some k.number) (allocation i s (quota_in s t) (cap_address (register (thread s t) 11))) answer
       (λ r made. seals (cap_address (register (thread s t) 11)) k.number r made (key_says s (register (thread s t) 12) k is))))
 
-  pub token_open_left : ((n : ℕ) → Q (answers s t (integer n)) None) → ((key : ℕ) (r : Object) → token_of s key (register (thread s t) 11) ≡ Some r → Q (answers s t (opened_token (register (thread s t) 11))) None) → Left Q (token_open s t)
+  pub token_open_left : ((n : ℕ) → Q (answers s t (integer n)) None) → ((key : ℕ) (r : Object) → token_object s key (register (thread s t) 11) ≡ Some r → Q (answers s t (opened_token (register (thread s t) 11))) None) → Left Q (token_open s t)
   token_open_left answer open_ = checked_left Q (return_checks (register (thread s t) 1)) _ (by_key_left (key_of s (register (thread s t) 10)) _ answer
-      (λ k is. by_found k.number (token_of s k.number (register (thread s t) 11)) refl))
+      (λ k is. by_found k.number (token_object s k.number (register (thread s t) 11)) refl))
     where
-      by_found : (key : ℕ) (o : Option Object) → token_of s key (register (thread s t) 11) ≡ o → Left Q (opens s t (register (thread s t) 11) o)
+      by_found : (key : ℕ) (o : Option Object) → token_object s key (register (thread s t) 11) ≡ o → Left Q (opens s t (register (thread s t) 11) o)
       by_found key None is = answer (4294967296 - 8)
       by_found key (Some r) is = open_ key r is
 
   pub token_free_left : ((n : ℕ) → Q (answers s t (integer n)) None) → ((r : Object) (c : Cap) → Found (quota_in s t) c s.objects r → Q (answers (let_go i s t r) t (integer 0)) (Some (free_told i s t r))) → Left Q (token_free i s t)
   token_free_left answer gives = quota_left _ answer (by_key_left (key_of s (register (thread s t) 11)) _ answer
-      (λ k is. by_found k.number (token_of s k.number (register (thread s t) 12)) refl))
+      (λ k is. by_found k.number (token_object s k.number (register (thread s t) 12)) refl))
     where
-      by_found : (key : ℕ) (o : Option Object) → token_of s key (register (thread s t) 12) ≡ o → Left Q (frees_token i s t (quota_in s t) o)
+      by_found : (key : ℕ) (o : Option Object) → token_object s key (register (thread s t) 12) ≡ o → Left Q (frees_token i s t (quota_in s t) o)
       by_found key None is = answer (4294967296 - 8)
       by_found key (Some r) is = chosen (Left Q) (r.quota == quota_in s t) (gives_back i s t r) (tells s t (code 6))
           (λ same. gives r (register (thread s t) 12) (token_found s key (register (thread s t) 12) r (quota_in s t) is (eqb-true r.quota (quota_in s t) same)))

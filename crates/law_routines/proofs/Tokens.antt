@@ -10,7 +10,7 @@ use Rattle.def_words.specs.Authority.{cap_base, cap_top}
 use Rattle.def_words.specs.Seals.{cap_seal}
 use Rattle.def_machine.specs.State.{State, Object, Token}
 use Rattle.def_machine.specs.Objects.{Any}
-use Rattle.def_step.specs.Tokens.{is_key_row, is_row_of, is_all_of, sealed_object, as_key, as_token, key_of, token_of}
+use Rattle.def_step.specs.Tokens.{is_key_row, is_row_of, is_all_of, sealed_object, as_key, as_token, key_of, token_object}
 use Rattle.law_routines.proofs.Objects.{Found}
 
 -- a live object whose bounds are a sealed capability's
@@ -62,8 +62,8 @@ as_token_says tokens key (Some q) r e = chosen (λ (o : Option Object). o ≡ So
     (λ not none. absurd (let clash : None ≡ Some r = none in cc))
     e
 
-pub token_says : (s : State) (key : ℕ) (c : Cap) (r : Object) → token_of s key c ≡ Some r → IsToken s key c r
+pub token_says : (s : State) (key : ℕ) (c : Cap) (r : Object) → token_object s key c ≡ Some r → IsToken s key c r
 token_says s key c r e = let both = as_token_says s.tokens key (sealed_object s.objects c) r e in record { sealed = sealed_says s.objects c r both.0; row = both.1 }
 
-pub token_found : (s : State) (key : ℕ) (c : Cap) (r : Object) (quota : ℕ) → token_of s key c ≡ Some r → r.quota ≡ quota → Found quota c s.objects r
+pub token_found : (s : State) (key : ℕ) (c : Cap) (r : Object) (quota : ℕ) → token_object s key c ≡ Some r → r.quota ≡ quota → Found quota c s.objects r
 token_found s key c r quota e charged = let t = token_says s key c r e in record { there = t.sealed.there; live = t.sealed.live; charged = charged }

@@ -26,7 +26,7 @@ use Rattle.law_granules.proofs.Lists.{plain_settled}
 use Rattle.def_step.specs.declared.Access.{Access}
 use Rattle.def_step.specs.Checks.{first_failed}
 use Rattle.def_step.specs.Devices.{bank_value}
-use Rattle.def_step.specs.Jumps.{Flowed, jumped_to, passed_over, branched, register_jumped, flow_result, target_checks, target_at, register_jump_checks, register_target}
+use Rattle.def_step.specs.Jumps.{Flowed, jumped_to, passed_over, branched, register_jumped, flow_result, target_checks, jump_target, register_jump_checks, register_target}
 use Rattle.def_step.specs.Accesses.{MemoryAndDevices, Accessed, ram_value, ram_stored, device_value, widened, accessed, unless, access_result, access_of, access_checks, access_address}
 
 -- ---- single values
@@ -80,7 +80,7 @@ over_settled : (pcc : Cap) (posture : Posture) → IfFlows (passed_over pcc post
 over_settled pcc posture = record { link = plain_settled 0; pcc = address_settles pcc _ }
 
 branch_settled : (taken : Bool) (pcc : Cap) (posture : Posture) (offset : ℕ) → IfFlows (branched taken pcc posture offset)
-branch_settled taken pcc posture offset = chosen IfFlows taken (jumped_to pcc posture (target_at pcc offset) None) (passed_over pcc posture) (λ is. to_settled pcc posture (target_at pcc offset) None (plain_settled 0)) (λ not. over_settled pcc posture)
+branch_settled taken pcc posture offset = chosen IfFlows taken (jumped_to pcc posture (jump_target pcc offset) None) (passed_over pcc posture) (λ is. to_settled pcc posture (jump_target pcc offset) None (plain_settled 0)) (λ not. over_settled pcc posture)
 
 register_settled : (to at : ℕ) (x : Cap) (n : ℕ) (pcc : Cap) (posture : Posture) (named : ℕ) → IfFlows (register_jumped to at x n pcc posture named)
 register_settled to at x n pcc posture named = unless_flows (first_failed (register_jump_checks to at x n)) _ (record { link = links_settles pcc posture; pcc = address_settles (opened x) (register_target x n) })

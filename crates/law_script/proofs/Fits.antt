@@ -8,20 +8,20 @@ use Rattle.std.proofs.lemmas.List.Elements.{All-map}
 use Rattle.std.proofs.lemmas.List.Quantifiers.{position-Some}
 use Rattle.ct_entry.specs.Listed.{DeviceRow}
 use Rattle.ct_entry.specs.declared.hardware.DeviceKind.TheVariants.{Timer}
-use Rattle.def_script.specs.Script.{Row, Due, ReadsAsScript, due, device_named, is_named, spelled}
+use Rattle.def_script.specs.Script.{Row, Due, ReadsAsScript, due, input_device_named, is_named, spelled_row}
 use Rattle.law_script.proofs.Lines.{line_long}
 
-rows_short : (rows : List Row) → length rows ≤ length (flat_map spelled rows)
+rows_short : (rows : List Row) → length rows ≤ length (flat_map spelled_row rows)
 rows_short [] = omega arith
 rows_short (r ∷ rs) =
     let rest = rows_short rs in
-    omega (arith, rest, line_long r (flat_map spelled rs), ap length (flat_map-cons spelled r rs), length-append (spelled r) (flat_map spelled rs))
+    omega (arith, rest, line_long r (flat_map spelled_row rs), ap length (flat_map-cons spelled_row r rs), length-append (spelled_row r) (flat_map spelled_row rs))
 
 pub few : (devices : List DeviceRow) (text : List ℕ) (dues : List Due) → ReadsAsScript devices text dues → length dues ≤ length text
 few devices text dues is =
     omega (arith, ap length is.dues_are, length-map is.rows (due devices), rows_short is.rows, ap length is.text_is)
 
-found : (devices : List DeviceRow) (name : List ℕ) (o : Option ℕ) → device_named devices name ≡ o → IsSome o → unwrap_or o 0 < length devices
+found : (devices : List DeviceRow) (name : List ℕ) (o : Option ℕ) → input_device_named devices name ≡ o → IsSome o → unwrap_or o 0 < length devices
 found devices name (Some i) is some = (position-Some (is_named name) devices i (record { name = []; kind = Timer; base = 0 }) is).0
 found devices name None is some = absurd (let bad : false ≡ true = some in cc)
 
@@ -31,5 +31,5 @@ named devices text dues is =
     (All-map (λ (d : Due). d.given.device < length devices) (due devices) is.rows
     (λ k r inside. one k r inside))
   where
-    one : (k : ℕ) (r : Row) → k < length is.rows → unwrap_or (device_named devices (get_or is.rows k r).name) 0 < length devices
-    one k r inside = found devices (get_or is.rows k r).name (device_named devices (get_or is.rows k r).name) refl (is.script.named k r inside)
+    one : (k : ℕ) (r : Row) → k < length is.rows → unwrap_or (input_device_named devices (get_or is.rows k r).name) 0 < length devices
+    one k r inside = found devices (get_or is.rows k r).name (input_device_named devices (get_or is.rows k r).name) refl (is.script.named k r inside)

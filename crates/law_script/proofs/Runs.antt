@@ -8,7 +8,7 @@ use Rattle.std.proofs.lemmas.Str.Parse.{IsNumeralModel, numerals_by_fold}
 use Rattle.std.proofs.lemmas.Fmt.{digits_decimal, decimal_injective}
 use Rattle.std.proofs.lemmas.Bool.{both_ways}
 use Rattle.law_lists.proofs.Tests.{both_left, both_right}
-use Rattle.def_script.specs.Script.{is_inner}
+use Rattle.def_script.specs.Script.{is_field_byte}
 
 -- two runs that the same text begins with are the same, and what follows them is
 pub same_run : (p : ℕ → Bool) (xs ys : List ℕ) (a b : ℕ) (r s : List ℕ)
@@ -46,22 +46,22 @@ own : IsNumeralModel (λ ds. all_ascii_digits ds ≡ true) (read_on 0)
 unfolding read_on
 own = numerals_by_fold _ (search rules) read_on (search rules)
 
-digit_is_inner : (c : ℕ) → (nat_le 48 c && nat_le c 57) ≡ true → is_inner c ≡ true
+digit_is_inner : (c : ℕ) → (nat_le 48 c && nat_le c 57) ≡ true → is_field_byte c ≡ true
 digit_is_inner c h = grind arith
 
-digits_inner : (ds : List ℕ) → all_ascii_digits ds ≡ true → list_all is_inner ds ≡ true
+digits_inner : (ds : List ℕ) → all_ascii_digits ds ≡ true → list_all is_field_byte ds ≡ true
 digits_inner [] h = refl
 digits_inner (c ∷ cs) h =
-    let here : is_inner c ≡ true = digit_is_inner c (both_left (is_ascii_digit c) (all_ascii_digits cs) h) in
-    let later : list_all is_inner cs ≡ true = digits_inner cs (both_right (is_ascii_digit c) (all_ascii_digits cs) h) in
+    let here : is_field_byte c ≡ true = digit_is_inner c (both_left (is_ascii_digit c) (all_ascii_digits cs) h) in
+    let later : list_all is_field_byte cs ≡ true = digits_inner cs (both_right (is_ascii_digit c) (all_ascii_digits cs) h) in
     rw (here, later) refl
 
-pub number_inner : (n : ℕ) → n < 2 ^ 64 → list_all is_inner (decimal n) ≡ true
+pub number_inner : (n : ℕ) → n < 2 ^ 64 → list_all is_field_byte (decimal n) ≡ true
 number_inner n small = digits_inner (decimal n) (digits_decimal own n small)
 
 -- the number before a space or a line feed, and what follows
-pub same_number : (m n a b : ℕ) (r s : List ℕ) → m < 2 ^ 64 → n < 2 ^ 64 → is_inner a ≡ false → is_inner b ≡ false
+pub same_number : (m n a b : ℕ) (r s : List ℕ) → m < 2 ^ 64 → n < 2 ^ 64 → is_field_byte a ≡ false → is_field_byte b ≡ false
     → decimal m ++ a ∷ r ≡ decimal n ++ b ∷ s → (m ≡ n) × (a ≡ b) × (r ≡ s)
 same_number m n a b r s hm hn na nb e =
-    let both = same_run is_inner (decimal m) (decimal n) a b r s (number_inner m hm) (number_inner n hn) na nb e in
+    let both = same_run is_field_byte (decimal m) (decimal n) a b r s (number_inner m hm) (number_inner n hn) na nb e in
     (decimal_injective m n hm hn both.0, both.1, both.2)

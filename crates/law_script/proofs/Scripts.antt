@@ -6,11 +6,11 @@ use Rattle.std.specs.List.{All, flat_map}
 use Rattle.std.proofs.lemmas.List.{append-nil}
 use Rattle.std.proofs.lemmas.List.Concat.{flat_map-cons}
 use Rattle.ct_entry.specs.Listed.{DeviceRow}
-use Rattle.def_script.specs.Script.{Row, IsScriptRow, IsScript, BeginsWithRow, BreaksScript, IsScriptFault, ReadsAsScript, Due, due, device_named, last_step, spelled}
+use Rattle.def_script.specs.Script.{Row, IsScriptRow, IsScript, BeginsWithRow, BreaksScript, IsScriptFault, ReadsAsScript, Due, due, input_device_named, last_step, spelled_row}
 use Rattle.law_script.proofs.Lines.{same_line, line_long}
 
 abbrev pub lines_of : List Row → List ℕ
-lines_of rows = flat_map spelled rows
+lines_of rows = flat_map spelled_row rows
 
 -- the first account goes as far as the second, or less far by these lines
 record Ahead (rs qs : List Row) (left gone : List ℕ) : Type 0 where
@@ -18,8 +18,8 @@ record Ahead (rs qs : List Row) (left gone : List ℕ) : Type 0 where
   rows : qs ≡ rs ++ more
   text : left ≡ lines_of more ++ gone
 
-first_and_rest : (r : Row) (rs : List Row) (left : List ℕ) → lines_of (r ∷ rs) ++ left ≡ spelled r ++ (lines_of rs ++ left)
-first_and_rest r rs left = ap (λ t. t ++ left) (flat_map-cons spelled r rs) ∙ append_assoc (spelled r) (lines_of rs) left
+first_and_rest : (r : Row) (rs : List Row) (left : List ℕ) → lines_of (r ∷ rs) ++ left ≡ spelled_row r ++ (lines_of rs ++ left)
+first_and_rest r rs left = ap (λ t. t ++ left) (flat_map-cons spelled_row r rs) ∙ append_assoc (spelled_row r) (lines_of rs) left
 
 tail_rows : (r : Row) (rs : List Row) → All IsScriptRow (r ∷ rs) → All IsScriptRow rs
 tail_rows r rs h = λ k d inside. h (suc k) d (omega (arith, inside))
@@ -55,11 +55,11 @@ after_last devices (r ∷ rs) m ms is =
     let there : get_or ((r ∷ rs) ++ m ∷ ms) (length (r ∷ rs)) no_row ≡ m = get_or-append_seam (r ∷ rs) m ms no_row in
     subst (λ (x : Row). (get_or (r ∷ rs) last no_row).step ≤ x.step) there (subst (λ (x : Row). x.step ≤ (get_or ((r ∷ rs) ++ m ∷ ms) (length (r ∷ rs)) no_row).step) here order)
 
-is_named : (devices : List DeviceRow) (rs : List Row) (m : Row) (ms : List Row) → IsScript devices (rs ++ m ∷ ms) → IsSome (device_named devices m.name)
+is_named : (devices : List DeviceRow) (rs : List Row) (m : Row) (ms : List Row) → IsScript devices (rs ++ m ∷ ms) → IsSome (input_device_named devices m.name)
 is_named devices rs m ms is =
-    subst (λ (x : Row). IsSome (device_named devices x.name)) (get_or-append_seam rs m ms no_row) (is.named (length rs) no_row (omega (arith, length-append rs (m ∷ ms))))
+    subst (λ (x : Row). IsSome (input_device_named devices x.name)) (get_or-append_seam rs m ms no_row) (is.named (length rs) no_row (omega (arith, length-append rs (m ∷ ms))))
 
-unnamed : (devices : List DeviceRow) (m : Row) → IsSome (device_named devices m.name) → device_named devices m.name ≡ None → ⊥
+unnamed : (devices : List DeviceRow) (m : Row) → IsSome (input_device_named devices m.name) → input_device_named devices m.name ≡ None → ⊥
 unnamed devices m known none = let bad : false ≡ true = rw none at known in absurd (cc)
 
 no_next : (devices : List DeviceRow) (rs : List Row) (m : Row) (ms : List Row) (left rest : List ℕ) (number : ℕ) → IsScript devices (rs ++ m ∷ ms) → BeginsWithRow left m rest → BreaksScript devices rs left number → ⊥
@@ -69,7 +69,7 @@ no_next devices rs m ms left rest number is begins (inr (inl late)) =
     omega (arith, late.1.falls, ap (λ (x : Row). x.step) same.0, after_last devices rs m ms is)
 no_next devices rs m ms left rest number is begins (inr (inr lost)) =
     let same = same_line left lost.1.next m lost.1.rest rest lost.1.begins begins in
-    unnamed devices m (is_named devices rs m ms is) (subst (λ (x : Row). device_named devices x.name ≡ None) same.0 lost.1.unknown)
+    unnamed devices m (is_named devices rs m ms is) (subst (λ (x : Row). input_device_named devices x.name ≡ None) same.0 lost.1.unknown)
 
 -- nothing breaks a rule where nothing is left
 not_empty : (devices : List DeviceRow) (rs : List Row) (left : List ℕ) (number : ℕ) → BreaksScript devices rs left number → left ≡ [] → ⊥

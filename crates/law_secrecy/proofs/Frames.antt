@@ -17,7 +17,7 @@ use Rattle.def_confined.specs.Places.{WithinRun}
 use Rattle.def_step.specs.declared.TheConstants.{TRAP_RECORD}
 use Rattle.def_step.specs.Handlers.{is_handled, is_handled_by, handed, handled, handler_entered, handler_registers, handler_stack, handler_value, record_by, record_end, return_taken, trap_taken, words_written}
 use Rattle.def_secrecy.specs.View.{Sees, InView, SeesDevice}
-use Rattle.def_secrecy.specs.Agreeing.{SameMemory, SameThread, Shape, shape_of, Agree}
+use Rattle.def_secrecy.specs.Agreeing.{SameMemory, AgreeingThread, Shape, frame_shape, Agree}
 use Rattle.def_secrecy.specs.Secrecy.{StaysIn}
 use Rattle.law_events.proofs.Cleans.{framed_there}
 use Rattle.law_secrecy.proofs.Puts.{put_agree, public_with, same_status}
@@ -57,7 +57,7 @@ abbrev first_marked : List Shape → List Shape
 first_marked [] = []
 first_marked (x ∷ xs) = record x { handling = true } ∷ xs
 
-no_shapes : (f : Frame) (fs : List Frame) → map shape_of [] ≡ map shape_of (f ∷ fs) → ⊥
+no_shapes : (f : Frame) (fs : List Frame) → map frame_shape [] ≡ map frame_shape (f ∷ fs) → ⊥
 no_shapes f fs e = omega (arith, ap (λ (xs : List Shape). length xs) e)
 
 -- ---- what leaves a frame
@@ -101,11 +101,11 @@ module _ (b : Platform) (s z : State) (t : ℕ) (runs : s.running ≡ Some t) (a
   recorded gs rs pcc = words_written gs (place_of_record rs) (record_by rs (cap_address pcc) why)
 
   module _ (f g : Frame) (fs gs : List Frame) (one : (thread s t).frames ≡ f ∷ fs) (two : (thread z t).frames ≡ g ∷ gs) where
-    shaped : map shape_of (f ∷ fs) ≡ map shape_of (g ∷ gs)
-    shaped = sym (ap (λ hs. map shape_of hs) one) ∙ agree.self.frames ∙ ap (λ hs. map shape_of hs) two
+    shaped : map frame_shape (f ∷ fs) ≡ map frame_shape (g ∷ gs)
+    shaped = sym (ap (λ hs. map frame_shape hs) one) ∙ agree.self.frames ∙ ap (λ hs. map frame_shape hs) two
 
-    same_head : shape_of f ≡ shape_of g
-    same_head = ap (head_of (shape_of f)) shaped
+    same_head : frame_shape f ≡ frame_shape g
+    same_head = ap (head_of (frame_shape f)) shaped
 
     same_registers : (thread s t).registers ≡ (thread z t).registers
     same_registers = agree.self.registers
@@ -113,7 +113,7 @@ module _ (b : Platform) (s z : State) (t : ℕ) (runs : s.running ≡ Some t) (a
     pub same_handled : is_handled b.image (stack_base b.image t) (thread s t) f ≡ is_handled b.image (stack_base b.image t) (thread z t) g
     same_handled =
         let by : Shape → List Cap → Bool = λ h rs. is_handled_by (handler_entry b.image h.actor) (stack_base b.image t) (record (thread s t) { registers = rs }) (record f { actor = h.actor; export = h.export; top = h.top; handling = h.handling }) in
-        ap (λ h. by h (thread s t).registers) same_head ∙ ap (λ rs. by (shape_of g) rs) same_registers
+        ap (λ h. by h (thread s t).registers) same_head ∙ ap (λ rs. by (frame_shape g) rs) same_registers
 
     memory_same : SameMemory b.image (Sees b.image s.objects t (marked f ∷ fs)) (recorded s.granules (thread s t).registers (thread s t).pcc) (recorded z.granules (thread z t).registers (thread z t).pcc)
     memory_same =
@@ -123,7 +123,7 @@ module _ (b : Platform) (s z : State) (t : ℕ) (runs : s.running ≡ Some t) (a
         (subst (λ c. SameMemory b.image (InView b.image s t) (recorded s.granules (thread s t).registers (thread s t).pcc) (recorded z.granules (thread s t).registers c)) agree.self.pcc
         (same_written b.image (InView b.image s t) (map plain (record_by (thread s t).registers (cap_address (thread s t).pcc) why)) (place_of_record (thread s t).registers) s.granules z.granules agree.memory)))
 
-    self_same : SameThread (handled b.image (thread s t) why f fs) (handled b.image (thread z t) why g gs)
+    self_same : AgreeingThread (handled b.image (thread s t) why f fs) (handled b.image (thread z t) why g gs)
     self_same = record {
       pcc = ap (λ h. (handed b.image (Shape.actor h)).pcc) same_head;
       registers = ap (λ h. handler_registers (handed b.image (Shape.actor h)).back (handler_stack (register (thread s t) 2)) (handed b.image (Shape.actor h)).globals why) same_head
@@ -144,8 +144,8 @@ module _ (b : Platform) (s z : State) (t : ℕ) (runs : s.running ≡ Some t) (a
 
   pub trap_left : (fs gs : List Frame) → (thread s t).frames ≡ fs → (thread z t).frames ≡ gs → StaysIn s (trap_taken b.image s t why fs) t → Agree b t (trap_taken b.image s t why fs) (trap_taken b.image z t why gs)
   trap_left [] [] e u = λ stays. agree
-  trap_left [] (g ∷ gs) e u = absurd (no_shapes g gs (sym (ap (λ xs. map shape_of xs) e) ∙ agree.self.frames ∙ ap (λ xs. map shape_of xs) u))
-  trap_left (f ∷ fs) [] e u = absurd (no_shapes f fs (sym (ap (λ xs. map shape_of xs) u) ∙ sym agree.self.frames ∙ ap (λ xs. map shape_of xs) e))
+  trap_left [] (g ∷ gs) e u = absurd (no_shapes g gs (sym (ap (λ xs. map frame_shape xs) e) ∙ agree.self.frames ∙ ap (λ xs. map frame_shape xs) u))
+  trap_left (f ∷ fs) [] e u = absurd (no_shapes f fs (sym (ap (λ xs. map frame_shape xs) u) ∙ sym agree.self.frames ∙ ap (λ xs. map frame_shape xs) e))
   trap_left (f ∷ fs) (g ∷ gs) e u =
       two_choices (λ (a c : State). StaysIn s a t → Agree b t a c) (is_handled b.image (stack_base b.image t) (thread s t) f) (is_handled b.image (stack_base b.image t) (thread z t) g)
       (handler_entered b.image s t why f fs) (unwound b.image s t (f ∷ fs)) (handler_entered b.image z t why g gs) (unwound b.image z t (g ∷ gs))
@@ -155,5 +155,5 @@ module _ (b : Platform) (s z : State) (t : ℕ) (runs : s.running ≡ Some t) (a
 
 pub return_left : (b : Platform) (s z : State) (t : ℕ) → Agree b t s z → (fs gs : List Frame) → (thread s t).frames ≡ fs → (thread z t).frames ≡ gs → StaysIn s (return_taken b.image s t fs) t → Agree b t (return_taken b.image s t fs) (return_taken b.image z t gs)
 return_left b s z t agree [] [] e u stays = agree
-return_left b s z t agree [] (g ∷ gs) e u stays = absurd (no_shapes g gs (sym (ap (λ xs. map shape_of xs) e) ∙ agree.self.frames ∙ ap (λ xs. map shape_of xs) u))
+return_left b s z t agree [] (g ∷ gs) e u stays = absurd (no_shapes g gs (sym (ap (λ xs. map frame_shape xs) e) ∙ agree.self.frames ∙ ap (λ xs. map frame_shape xs) u))
 return_left b s z t agree (f ∷ fs) gs e u stays = absurd (return_leaves b.image s t f fs e stays)

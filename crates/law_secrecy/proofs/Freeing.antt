@@ -24,10 +24,10 @@ use Rattle.def_confined.specs.Partitioned.{Partitioned}
 use Rattle.def_step.specs.Instructions.{actor_of}
 use Rattle.def_step.specs.Quotas.{free, freed_as, gives_back, let_go, quota_in, whole_of, without_row}
 use Rattle.def_step.specs.Routines.{code}
-use Rattle.def_step.specs.Tokens.{frees_token, token_free, token_of}
+use Rattle.def_step.specs.Tokens.{frees_token, token_free, token_object}
 use Rattle.def_safety.specs.Wired.{Wired}
 use Rattle.def_secrecy.specs.View.{ReadsObject, Sees, InView}
-use Rattle.def_secrecy.specs.Agreeing.{SameMemory, SameThread, Agree}
+use Rattle.def_secrecy.specs.Agreeing.{SameMemory, AgreeingThread, Agree}
 use Rattle.law_secrecy.proofs.Frames.{less_seen}
 use Rattle.law_secrecy.proofs.Puts.{put_agree, same_status}
 use Rattle.law_secrecy.proofs.Replies.{SameRan, answers_agree, by_key_two, by_quota_two, inside, inside_too, same_key, same_register, same_token, tells_two}
@@ -90,7 +90,7 @@ module _ (b : Platform) (s z : State) (t : ℕ) (parts : Partitioned b.image) (w
     abbrev emptied : State → State
     emptied a = record (quarantined b.image a r) { tokens = without_row r.number a.tokens }
 
-    strained_same : SameThread (strained s) (strained z)
+    strained_same : AgreeingThread (strained s) (strained z)
     strained_same = record { pcc = agree.self.pcc; registers = same_map _ _ (thread s t).registers (thread z t).registers agree.self.registers freed_filter; posture = agree.self.posture; frames = agree.self.frames }
 
     less : (x : ℕ) → Sees b.image (quarantine r.number s.objects) t (thread s t).frames x → InView b.image s t x
@@ -135,6 +135,6 @@ module _ (b : Platform) (s z : State) (t : ℕ) (parts : Partitioned b.image) (w
   pub token_free_two : SameRan b s t (token_free b.image s t) (token_free b.image z t)
   token_free_two = by_quota_two b s z t parts wired one two runs agree tagged _ _
       (by_key_two b s z t parts wired one two runs agree tagged _ _ _ _ (same_key b s z t parts wired one two runs agree tagged _ _ (same_register b s z t parts wired one two runs agree tagged 11))
-      (λ key. subst (λ q. SameRan b s t (frees_token b.image s t (quota_in s t) (token_of s key (register (thread s t) 12))) (frees_token b.image z t q (token_of z key (register (thread z t) 12)))) charged
-      (subst (λ o. SameRan b s t (frees_token b.image s t (quota_in s t) (token_of s key (register (thread s t) 12))) (frees_token b.image z t (quota_in s t) o)) (same_token b s z t parts wired one two runs agree tagged key _ _ (same_register b s z t parts wired one two runs agree tagged 12))
-      (frees_two (quota_in s t) (token_of s key (register (thread s t) 12))))))
+      (λ key. subst (λ q. SameRan b s t (frees_token b.image s t (quota_in s t) (token_object s key (register (thread s t) 12))) (frees_token b.image z t q (token_object z key (register (thread z t) 12)))) charged
+      (subst (λ o. SameRan b s t (frees_token b.image s t (quota_in s t) (token_object s key (register (thread s t) 12))) (frees_token b.image z t (quota_in s t) o)) (same_token b s z t parts wired one two runs agree tagged key _ _ (same_register b s z t parts wired one two runs agree tagged 12))
+      (frees_two (quota_in s t) (token_object s key (register (thread s t) 12))))))

@@ -41,13 +41,13 @@ use Rattle.def_step.specs.Instructions.{Effect, accesses, around, bank_of, carri
 use Rattle.def_step.specs.Jumps.{Flowed}
 use Rattle.def_step.specs.Operands.{class_of, operands_of}
 use Rattle.def_step.specs.Quotas.{by_quota, free, is_quota_cap, let_go, quota_in}
-use Rattle.def_step.specs.Routines.{Ran, answers, code, switch, switched_to, tells, wakes}
+use Rattle.def_step.specs.Routines.{Ran, answers, code, switch, switched_to, tells, threads_woken}
 use Rattle.def_step.specs.Switch.{Switched, TooDeep, NoStack, Enters, called, frame_top, past_checks, return_checks, room_exponent, room_of, switch_checks, with_room}
 use Rattle.def_step.specs.Tokens.{opened_token, sealed_token, token_free, with_row}
 use Rattle.def_safety.specs.Clean.{high_of}
 use Rattle.def_safety.specs.Wired.{Wired}
 use Rattle.def_secrecy.specs.View.{InView, SeesDevice}
-use Rattle.def_secrecy.specs.Agreeing.{SameMemory, SameThread, shapes}
+use Rattle.def_secrecy.specs.Agreeing.{SameMemory, AgreeingThread, shapes}
 use Rattle.def_secrecy.specs.Others.{MayAccess, OutOfReach, ViewStays}
 use Rattle.law_moves.proofs.Authorities.{headed}
 use Rattle.law_moves.proofs.Checks.{AllPass, all_pass}
@@ -82,8 +82,8 @@ module _ (b : Platform) (s : State) (t u : ℕ) (parts : Partitioned b.image) (w
   other : (x : Thread) → thread s t ≡ thread (record s { threads = slice_set s.threads u x }) t
   other x = sym (get_or-set_other s.threads u t x nobody apart)
 
-  same_self : (x : Thread) → thread s t ≡ x → SameThread (thread s t) x
-  same_self x e = subst (λ y. SameThread (thread s t) y) e (record { pcc = refl; registers = refl; posture = refl; frames = refl })
+  same_self : (x : Thread) → thread s t ≡ x → AgreeingThread (thread s t) x
+  same_self x e = subst (λ y. AgreeingThread (thread s t) y) e (record { pcc = refl; registers = refl; posture = refl; frames = refl })
 
   -- RAM and devices, as they are seen
   record Kept (gs : List Granule) (ds : List DeviceState) : Type 0 where
@@ -94,7 +94,7 @@ module _ (b : Platform) (s : State) (t u : ℕ) (parts : Partitioned b.image) (w
   kept : (gs : List Granule) → SameMemory b.image (InView b.image s t) s.granules gs → Kept gs s.devices
   kept gs memory = record { memory = memory; devices = λ m seen. refl; banks = refl }
 
-  stays : (after : State) → SameThread (thread s t) (thread after t) → Kept after.granules after.devices → Stays after
+  stays : (after : State) → AgreeingThread (thread s t) (thread after t) → Kept after.granules after.devices → Stays after
   stays after self k = record { self = self; memory = k.memory; devices = k.devices; banks = k.banks }
 
   -- the thread changes, and RAM as far as it isn't seen
@@ -290,13 +290,13 @@ module _ (b : Platform) (s : State) (t u : ℕ) (parts : Partitioned b.image) (w
   stops_stay v = stays_put s.granules _ (stopped s u v) refl still
 
   -- a thread that is woken keeps all but its status
-  wakes_stay : (at most : ℕ) → Stays (wakes s u at most)
+  wakes_stay : (at most : ℕ) → Stays (threads_woken s u at most)
   wakes_stay at most =
       let before : Thread = thread (answers s u (integer (woken_count at most (statuses_of s.threads)))) t in
       let ts : List Thread = (answers s u (integer (woken_count at most (statuses_of s.threads)))).threads in
       let vs : List Status = woken at most (statuses_of s.threads) in
       let same : thread s t ≡ before = other _ in
-      stays (wakes s u at most)
+      stays (threads_woken s u at most)
       (record {
         pcc = ap (λ (x : Thread). x.pcc) same ∙ sym (kept_by_statuses (λ x. x.pcc) (λ x v. refl) ts vs t);
         registers = ap (λ (x : Thread). x.registers) same ∙ sym (kept_by_statuses (λ x. x.registers) (λ x v. refl) ts vs t);

@@ -19,7 +19,7 @@ use Rattle.def_step.specs.Instructions.{executed}
 use Rattle.def_safety.specs.Each.{EachEvent, ready}
 use Rattle.def_safety.specs.Wired.{Wired}
 use Rattle.def_secrecy.specs.View.{InView, Sees, SeesDevice}
-use Rattle.def_secrecy.specs.Agreeing.{SameMemory, SameThread, SamePublic, shapes, Agree}
+use Rattle.def_secrecy.specs.Agreeing.{SameMemory, AgreeingThread, SamePublic, shapes, Agree}
 use Rattle.def_secrecy.specs.Others.{ByOthers, OutOfReach, SeesAlike, ViewStays}
 use Rattle.law_events.proofs.Events.{event_keeps, ready_kept}
 use Rattle.law_secrecy.proofs.OtherSteps.{executed_stays}
@@ -78,7 +78,7 @@ module _ (b : Platform) (s : State) (t u : ℕ) (parts : Partitioned b.image) (w
       let after : State = (executed b (ready b s) u).0 in
       let h = step_stays in
       record {
-        self = subst (λ (y : Thread). SameThread y (thread after t)) turned.thread_is h.self;
+        self = subst (λ (y : Thread). AgreeingThread y (thread after t)) turned.thread_is h.self;
         memory = subst (λ gs. SameMemory b.image (InView b.image s t) gs after.granules) turned.granules (record {
           size = h.memory.size;
           bytes = λ x above seen. h.memory.bytes x above (sees_then x seen);
@@ -106,7 +106,7 @@ tick_stays b s t = by s.running
     frames_are : (thread (later s) t).frames ≡ (thread s t).frames
     frames_are = kept_by_tick (λ x. x.frames) (λ x. refl) s.threads t
 
-    self : SameThread (thread s t) (thread (later s) t)
+    self : AgreeingThread (thread s t) (thread (later s) t)
     self = record {
       pcc = sym (kept_by_tick (λ x. x.pcc) (λ x. refl) s.threads t);
       registers = sym (kept_by_tick (λ x. x.registers) (λ x. refl) s.threads t);

@@ -13,7 +13,7 @@ use Rattle.def_step.specs.Devices.{device}
 use Rattle.def_step.specs.Events.{holder, holder_by}
 use Rattle.def_step.specs.Instructions.{actor_of}
 use Rattle.def_secrecy.specs.View.{Sees, SeesDevice}
-use Rattle.def_secrecy.specs.Agreeing.{SameMemory, SameThread, SamePublic, Shape, shape_of, Agree}
+use Rattle.def_secrecy.specs.Agreeing.{SameMemory, AgreeingThread, SamePublic, Shape, frame_shape, Agree}
 
 -- ---- statuses
 
@@ -36,11 +36,11 @@ abbrev head_actor : List Shape → ℕ
 head_actor [] = 0
 head_actor (x ∷ xs) = x.actor
 
-actor_by : (fs : List Frame) → actor_of fs ≡ head_actor (map shape_of fs)
+actor_by : (fs : List Frame) → actor_of fs ≡ head_actor (map frame_shape fs)
 actor_by [] = refl
 actor_by (f ∷ fs) = refl
 
-pub shaped_actor : (fs gs : List Frame) → map shape_of fs ≡ map shape_of gs → actor_of fs ≡ actor_of gs
+pub shaped_actor : (fs gs : List Frame) → map frame_shape fs ≡ map frame_shape gs → actor_of fs ≡ actor_of gs
 shaped_actor fs gs same = actor_by fs ∙ ap head_actor same ∙ sym (actor_by gs)
 
 pub same_actor_of : (b : Platform) (s z : State) (t : ℕ) → Agree b t s z → actor_of (thread s t).frames ≡ actor_of (thread z t).frames
@@ -62,7 +62,7 @@ public_with s z gs hs ds es p = record { running = p.running; holder = p.holder;
 
 module _ (b : Platform) (t : ℕ) (a c : State) (x y : Thread) (put_is : thread (with_thread a t x) t ≡ x) (put_is_too : thread (with_thread c t y) t ≡ y) where
   -- the thread runs, and it is given the same self in both
-  pub self_agree : SamePublic a c → a.running ≡ Some t → x.status ≡ y.status → SameThread x y → SameMemory b.image (Sees b.image a.objects t x.frames) a.granules c.granules
+  pub self_agree : SamePublic a c → a.running ≡ Some t → x.status ≡ y.status → AgreeingThread x y → SameMemory b.image (Sees b.image a.objects t x.frames) a.granules c.granules
       → ((m : ℕ) → SeesDevice b x.frames m → device a.devices m ≡ device c.devices m) → length a.devices ≡ length c.devices → Agree b t (with_thread a t x) (with_thread c t y)
   self_agree p runs status self memory devices banks = record {
     public = record {
@@ -77,13 +77,13 @@ module _ (b : Platform) (t : ℕ) (a c : State) (x y : Thread) (put_is : thread 
       tokens = p.tokens;
       front = p.front;
     };
-    self = subst (λ z. SameThread z (thread (with_thread c t y) t)) (sym put_is) (subst (λ z. SameThread x z) (sym put_is_too) self);
+    self = subst (λ z. AgreeingThread z (thread (with_thread c t y) t)) (sym put_is) (subst (λ z. AgreeingThread x z) (sym put_is_too) self);
     memory = subst (λ (z : Thread). SameMemory b.image (Sees b.image a.objects t z.frames) a.granules c.granules) (sym put_is) memory;
     devices = λ m seen. devices m (subst (λ (z : Thread). SeesDevice b z.frames m) put_is seen);
     banks = banks;
   }
 
-pub put_agree : (b : Platform) (t : ℕ) (a c : State) (x y : Thread) → t < length a.threads → t < length c.threads → SamePublic a c → a.running ≡ Some t → x.status ≡ y.status → SameThread x y
+pub put_agree : (b : Platform) (t : ℕ) (a c : State) (x y : Thread) → t < length a.threads → t < length c.threads → SamePublic a c → a.running ≡ Some t → x.status ≡ y.status → AgreeingThread x y
     → SameMemory b.image (Sees b.image a.objects t x.frames) a.granules c.granules → ((m : ℕ) → SeesDevice b x.frames m → device a.devices m ≡ device c.devices m) → length a.devices ≡ length c.devices
     → Agree b t (with_thread a t x) (with_thread c t y)
 put_agree b t a c x y there there_too = self_agree b t a c x y (get_or-set_same a.threads t x nobody there) (get_or-set_same c.threads t y nobody there_too)

@@ -33,12 +33,12 @@ use Rattle.def_step.specs.Accesses.{is_ram}
 use Rattle.def_step.specs.Checks.{Check, first_failed}
 use Rattle.def_step.specs.Instructions.{space_of}
 use Rattle.def_step.specs.Quotas.{by_quota, is_quota_cap, quota_in, remaining}
-use Rattle.def_step.specs.Routines.{Ran, Traps, Leaves, answers, answered, checked, code, sleep, stops, switch, switched_to, tells, wait, waits, wake, wakes, word_checks, yield}
+use Rattle.def_step.specs.Routines.{Ran, Traps, Leaves, answers, answered, checked, code, sleep, stops, switch, switched_to, tells, wait, waits, wake, threads_woken, word_checks, yield}
 use Rattle.def_step.specs.Switch.{Switched, Trapped, TooDeep, NoStack, Enters, frame_top, gate_checks, new_top, past_checks, return_checks, stack_checks, switch_of, with_room}
-use Rattle.def_step.specs.Tokens.{by_key, key_of, as_key, as_token, opened_token, opens, sealed_object, token_of, token_open}
+use Rattle.def_step.specs.Tokens.{by_key, key_of, as_key, as_token, opened_token, opens, sealed_object, token_object, token_open}
 use Rattle.def_safety.specs.Wired.{Wired}
 use Rattle.def_secrecy.specs.View.{Sees, SeesDevice}
-use Rattle.def_secrecy.specs.Agreeing.{SameMemory, SameThread, Shape, shape_of, shapes, Agree}
+use Rattle.def_secrecy.specs.Agreeing.{SameMemory, AgreeingThread, Shape, frame_shape, shapes, Agree}
 use Rattle.def_secrecy.specs.Secrecy.{StaysIn}
 use Rattle.law_moves.proofs.Authorities.{headed}
 use Rattle.law_moves.proofs.Checks.{all_pass}
@@ -74,7 +74,7 @@ statuses_given (x ∷ xs) (v ∷ vs) = ap (λ zs. v ∷ zs) (statuses_given xs v
 
 -- ---- an answer
 
-answered_same : (x y : Thread) (v w : Cap) → SameThread x y → v ≡ w → SameThread (answered x v) (answered y w)
+answered_same : (x y : Thread) (v w : Cap) → AgreeingThread x y → v ≡ w → AgreeingThread (answered x v) (answered y w)
 answered_same x y v w same value = record {
   pcc = ap (λ rs. opened (slice_index_or rs 1 (plain 0))) same.registers;
   registers = ap (λ rs. written (written rs 10 v) 11 (plain 0)) same.registers ∙ ap (λ u. written (written y.registers 10 u) 11 (plain 0)) value;
@@ -151,11 +151,11 @@ abbrev top_of : List Shape → ℕ
 top_of [] = 0
 top_of (x ∷ xs) = x.top
 
-top_by : (fs : List Frame) → frame_top fs ≡ top_of (map shape_of fs)
+top_by : (fs : List Frame) → frame_top fs ≡ top_of (map frame_shape fs)
 top_by [] = refl
 top_by (f ∷ fs) = refl
 
-depth_by : (fs : List Frame) → length fs ≡ length (map shape_of fs)
+depth_by : (fs : List Frame) → length fs ≡ length (map frame_shape fs)
 depth_by [] = refl
 depth_by (f ∷ fs) = ap (λ n. suc n) (depth_by fs)
 
@@ -250,10 +250,10 @@ module _ (b : Platform) (s z : State) (t : ℕ) (parts : Partitioned b.image) (w
       (λ passes. waits_two _ _ _ _ _ _ (ap cap_address (same_register 10)) (same_word passes) (ap cap_address (same_register 11))))
 
   -- the same threads are woken, and as many
-  wakes_two : (at most other number : ℕ) → at ≡ other → most ≡ number → Agree b t (wakes s t at most) (wakes z t other number)
+  wakes_two : (at most other number : ℕ) → at ≡ other → most ≡ number → Agree b t (threads_woken s t at most) (threads_woken z t other number)
   wakes_two at most other number place many =
-      subst (λ n. Agree b t (wakes s t at most) (wakes z t n number)) place
-      (subst (λ n. Agree b t (wakes s t at most) (wakes z t at n)) many
+      subst (λ n. Agree b t (threads_woken s t at most) (threads_woken z t n number)) place
+      (subst (λ n. Agree b t (threads_woken s t at most) (threads_woken z t at n)) many
       (given_agree b t (answers s t (integer (woken_count at most (statuses_of s.threads)))) (answers z t (integer (woken_count at most (statuses_of z.threads)))) (woken at most (statuses_of s.threads)) (woken at most (statuses_of z.threads)) runs
       (answers_agree b t s z _ _ inside inside_too runs agree (ap (λ vs. integer (woken_count at most vs)) agree.public.statuses))
       (ap (λ vs. woken at most vs) agree.public.statuses)))
@@ -268,8 +268,8 @@ module _ (b : Platform) (s z : State) (t : ℕ) (parts : Partitioned b.image) (w
   pub same_key : (c d : Cap) → c ≡ d → key_of s c ≡ key_of z d
   same_key c d e = ap (λ u. key_of s u) e ∙ ap (λ os. as_key s.tokens (sealed_object os d)) agree.public.objects ∙ ap (λ ts. as_key ts (sealed_object z.objects d)) agree.public.tokens
 
-  pub same_token : (key : ℕ) (c d : Cap) → c ≡ d → token_of s key c ≡ token_of z key d
-  same_token key c d e = ap (λ u. token_of s key u) e ∙ ap (λ os. as_token s.tokens key (sealed_object os d)) agree.public.objects ∙ ap (λ ts. as_token ts key (sealed_object z.objects d)) agree.public.tokens
+  pub same_token : (key : ℕ) (c d : Cap) → c ≡ d → token_object s key c ≡ token_object z key d
+  same_token key c d e = ap (λ u. token_object s key u) e ∙ ap (λ os. as_token s.tokens key (sealed_object os d)) agree.public.objects ∙ ap (λ ts. as_token ts key (sealed_object z.objects d)) agree.public.tokens
 
   pub by_key_two : (o p : Option Object) (ran run : ℕ → Ran) → o ≡ p → ((n : ℕ) → SameRan b s t (ran n) (run n)) → SameRan b s t (by_key s t o ran) (by_key z t p run)
   by_key_two o p ran run e so = two_options (λ x y. SameRan b s t (by_key s t x ran) (by_key z t y run)) o p e (tells_two (code NO_KEY) (code NO_KEY) refl) (λ key is. so key.number)
@@ -285,12 +285,12 @@ module _ (b : Platform) (s z : State) (t : ℕ) (parts : Partitioned b.image) (w
 
   same_top : frame_top (thread s t).frames ≡ frame_top (thread z t).frames
   same_top =
-      let shaped : map shape_of (thread s t).frames ≡ map shape_of (thread z t).frames = agree.self.frames in
+      let shaped : map frame_shape (thread s t).frames ≡ map frame_shape (thread z t).frames = agree.self.frames in
       top_by (thread s t).frames ∙ ap top_of shaped ∙ sym (top_by (thread z t).frames)
 
   same_depth : length (thread s t).frames ≡ length (thread z t).frames
   same_depth =
-      let shaped : map shape_of (thread s t).frames ≡ map shape_of (thread z t).frames = agree.self.frames in
+      let shaped : map frame_shape (thread s t).frames ≡ map frame_shape (thread z t).frames = agree.self.frames in
       depth_by (thread s t).frames ∙ ap (λ (xs : List Shape). length xs) shaped ∙ sym (depth_by (thread z t).frames)
 
   -- what the switch comes to, by what it reads

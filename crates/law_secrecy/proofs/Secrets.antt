@@ -27,7 +27,7 @@ use Rattle.def_step.specs.Checks.{first_failed}
 use Rattle.def_step.specs.Jumps.{Flowed}
 use Rattle.def_step.specs.Operands.{operands_of, class_of}
 use Rattle.def_step.specs.Accesses.{MemoryAndDevices, Accessed, access_of, access_checks, access_result, unless, accessed, in_ram, on_device, is_ram, ram_stored, ram_value, device_value, stored_value, deed_at}
-use Rattle.def_step.specs.Devices.{device, found, base_of, bank_value, bank_read, bank_read_at, bank_written, bank_written_at, left_by_read, left_by_write}
+use Rattle.def_step.specs.Devices.{device, found, registers_base, bank_value, bank_read, bank_read_at, bank_written, bank_written_at, left_by_read, left_by_write}
 use Rattle.def_step.specs.Instructions.{Effect, Context, accesses, around, bank_of, carried_out, deed, flows, gives, instruction_end, named_by, operand, put_done, space_of}
 use Rattle.def_confined.specs.Confined.{Confined}
 use Rattle.def_confined.specs.Partitioned.{Partitioned}
@@ -182,13 +182,13 @@ module _ (b : Platform) (s z : State) (t : ℕ) (parts : Partitioned b.image) (w
   read_same : (at width : ℕ) (o : Option ℕ) → (k : ℕ) → SeesDevice b (thread s t).frames k → device (bank_read_at (bank_of b s) o at width).states k ≡ device (bank_read_at (bank_of b z) o at width).states k
   read_same at width None k seen = agree.devices k seen
   read_same at width (Some m) k seen = set_devices s.devices z.devices m k _ _ agree.banks
-      (λ here. ap (λ d. left_by_read d (at - base_of b.bases m) width) (agree.devices m (subst (λ n. SeesDevice b (thread s t).frames n) (sym here) seen)))
+      (λ here. ap (λ d. left_by_read d (at - registers_base b.bases m) width) (agree.devices m (subst (λ n. SeesDevice b (thread s t).frames n) (sym here) seen)))
       (agree.devices k seen)
 
   written_same : (at width value : ℕ) (o : Option ℕ) → (k : ℕ) → SeesDevice b (thread s t).frames k → device (bank_written_at (bank_of b s) o at width value).states k ≡ device (bank_written_at (bank_of b z) o at width value).states k
   written_same at width value None k seen = agree.devices k seen
   written_same at width value (Some m) k seen = set_devices s.devices z.devices m k _ _ agree.banks
-      (λ here. ap (λ d. left_by_write d (at - base_of b.bases m) width value) (agree.devices m (subst (λ n. SeesDevice b (thread s t).frames n) (sym here) seen)))
+      (λ here. ap (λ d. left_by_write d (at - registers_base b.bases m) width value) (agree.devices m (subst (λ n. SeesDevice b (thread s t).frames n) (sym here) seen)))
       (agree.devices k seen)
 
   read_length : (at width : ℕ) (o : Option ℕ) → length (bank_read_at (bank_of b s) o at width).states ≡ length (bank_read_at (bank_of b z) o at width).states

@@ -14,7 +14,7 @@ use Rattle.def_machine.specs.Memory.{filtered_in}
 use Rattle.def_machine.specs.Slices.{filtered_between, is_number, kept_frames, kept_granules, kept_registers, kept_thread, kept_threads}
 use Rattle.def_machine.specs.State.{Thread, Frame, nobody}
 use Rattle.def_machine.specs.Threads.{statuses_of}
-use Rattle.def_secrecy.specs.Agreeing.{SameMemory, SameThread, shape_of}
+use Rattle.def_secrecy.specs.Agreeing.{SameMemory, AgreeingThread, frame_shape}
 use Rattle.law_secrecy.proofs.Two.{two_choices}
 
 -- ---- what passes a filter keeps its word
@@ -53,12 +53,12 @@ module _ (f g : ℕ → Cap → Cap) (same : (n : ℕ) (c : Cap) → f n c ≡ g
   registers_two at [] = refl
   registers_two at (c ∷ cs) = ap (λ d. d ∷ kept_registers f (at + GRANULE) cs) (same at c) ∙ ap (λ ds. g at c ∷ ds) (registers_two (at + GRANULE) cs)
 
-  pub kept_shapes : (h : ℕ → Cap → Cap) (area : ℕ) (fs : List Frame) → map shape_of (kept_frames h area fs) ≡ map shape_of fs
+  pub kept_shapes : (h : ℕ → Cap → Cap) (area : ℕ) (fs : List Frame) → map frame_shape (kept_frames h area fs) ≡ map frame_shape fs
   kept_shapes h area [] = refl
-  kept_shapes h area (x ∷ xs) = ap (λ zs. shape_of x ∷ zs) (kept_shapes h area xs)
+  kept_shapes h area (x ∷ xs) = ap (λ zs. frame_shape x ∷ zs) (kept_shapes h area xs)
 
   -- a thread, in its area
-  thread_two : (area : ℕ) (runs : Bool) (x y : Thread) → SameThread x y → SameThread (kept_thread f area runs x) (kept_thread g area runs y)
+  thread_two : (area : ℕ) (runs : Bool) (x y : Thread) → AgreeingThread x y → AgreeingThread (kept_thread f area runs x) (kept_thread g area runs y)
   thread_two area runs x y h = record {
     pcc = two_choices (λ (a b : Cap). a ≡ b) runs runs x.pcc (f area x.pcc) y.pcc (g area y.pcc) refl (λ is. h.pcc) (λ not. same area x.pcc ∙ ap (λ c. g area c) h.pcc);
     registers = two_choices (λ (a b : List Cap). a ≡ b) runs runs x.registers (kept_registers f area x.registers) y.registers (kept_registers g area y.registers) refl (λ is. h.registers) (λ not. registers_two area x.registers ∙ ap (λ cs. kept_registers g area cs) h.registers);
@@ -66,7 +66,7 @@ module _ (f g : ℕ → Cap → Cap) (same : (n : ℕ) (c : Cap) → f n c ≡ g
     frames = kept_shapes f area x.frames ∙ h.frames ∙ sym (kept_shapes g area y.frames);
   }
 
-  pub threads_two : (area : ℕ → ℕ) (running : Option ℕ) (n : ℕ) (xs ys : List Thread) (t : ℕ) → length xs ≡ length ys → SameThread (get_or xs t nobody) (get_or ys t nobody) → SameThread (get_or (kept_threads f area running n xs) t nobody) (get_or (kept_threads g area running n ys) t nobody)
+  pub threads_two : (area : ℕ → ℕ) (running : Option ℕ) (n : ℕ) (xs ys : List Thread) (t : ℕ) → length xs ≡ length ys → AgreeingThread (get_or xs t nobody) (get_or ys t nobody) → AgreeingThread (get_or (kept_threads f area running n xs) t nobody) (get_or (kept_threads g area running n ys) t nobody)
   threads_two area running n [] [] t e h = h
   threads_two area running n [] (y ∷ ys) t e h = absurd (omega (arith, e))
   threads_two area running n (x ∷ xs) [] t e h = absurd (omega (arith, e))

@@ -16,7 +16,7 @@ use Rattle.def_machine.specs.State.{State, Status, Object, nobody, thread, granu
 use Rattle.def_step.specs.Events.{holder, holder_by, swept_on}
 use Rattle.def_step.specs.Instructions.{actor_of}
 use Rattle.def_secrecy.specs.View.{ReadsObject, Sees, InView}
-use Rattle.def_secrecy.specs.Agreeing.{SameMemory, SameThread, shapes, Agree}
+use Rattle.def_secrecy.specs.Agreeing.{SameMemory, AgreeingThread, shapes, Agree}
 use Rattle.law_moves.proofs.Ends.{unmarked_cap}
 use Rattle.law_secrecy.proofs.Frames.{less_seen}
 use Rattle.law_secrecy.proofs.Puts.{held_by}
@@ -136,7 +136,7 @@ module _ (b : Platform) (t : ℕ) (s z : State) (marks : (k : ℕ) → (granule 
           tokens = p.tokens;
           front = refl;
         };
-        self = subst (λ o. SameThread (thread (with_slice b.image s low high) t) (get_or (kept_threads (sliced b.image z low high) (area_offset b.image) o 0 z.threads) t nobody)) p.running
+        self = subst (λ o. AgreeingThread (thread (with_slice b.image s low high) t) (get_or (kept_threads (sliced b.image z low high) (area_offset b.image) o 0 z.threads) t nobody)) p.running
             (threads_two (sliced b.image s low high) (sliced b.image z low high) same_slice words (area_offset b.image) s.running 0 s.threads z.threads t many agree.self);
         memory = less_seen b.image (InView b.image s t) (InView b.image (with_slice b.image s low high) t) _ _ (λ x. sees_shaped b.image s.objects t (thread (with_slice b.image s low high) t).frames (thread s t).frames x still)
             (kept_memory (sliced b.image s low high) (sliced b.image z low high) same_slice words b.image (InView b.image s t) 0 s.granules z.granules agree.memory);

@@ -31,7 +31,7 @@ use Rattle.def_profile.specs.declared.native.TheConstants.{RETURN_ENTRY}
 use Rattle.def_step.specs.declared.Next.TheVariants.{Returning}
 use Rattle.def_step.specs.Accesses.{MemoryAndDevices, Accessed, access_of, access_checks, load_checks, store_checks, access_address, accessed, in_ram, on_device, is_ram, ram_value, device_value, widened}
 use Rattle.def_step.specs.Checks.{Check, first_failed}
-use Rattle.def_step.specs.Devices.{device, found, bank_value, bank_value_at, value_read, base_of}
+use Rattle.def_step.specs.Devices.{device, found, bank_value, bank_value_at, value_read, registers_base}
 use Rattle.def_step.specs.Instructions.{actor_of, bank_of, fetch_checks, fetched, is_native_entry, native_number, next_native, next_word, next_at, space_of}
 use Rattle.def_step.specs.Operands.{operands_of}
 use Rattle.def_safety.specs.Accesses.{IsUse}
@@ -257,7 +257,7 @@ module _ (b : Platform) (s z : State) (t : ℕ) (parts : Partitioned b.image) (w
   pub same_bank : (at width : ℕ) (o : Option ℕ) → found b.bases at ≡ o → ((m : ℕ) → o ≡ Some m → SeesDevice b (thread s t).frames m) → bank_value_at (bank_of b s) o at width s.time ≡ bank_value_at (bank_of b z) o at width z.time
   same_bank at width None e sees = refl
   same_bank at width (Some m) e sees =
-      ap (λ d. value_read d (at - base_of b.bases m) width s.time) (agree.devices m (sees m refl)) ∙ ap (λ time. value_read (device z.devices m) (at - base_of b.bases m) width time) agree.public.time
+      ap (λ d. value_read d (at - registers_base b.bases m) width s.time) (agree.devices m (sees m refl)) ∙ ap (λ time. value_read (device z.devices m) (at - registers_base b.bases m) width time) agree.public.time
 
   -- a device that a capability of the thread reaches
   pub of_device : (c : Cap) (at m : ℕ) (f : Frame) (fs : List Frame) → (thread s t).frames ≡ f ∷ fs → IsUse b.image s.objects t f.actor c → has c load_data ≡ true → found b.bases at ≡ Some m → cap_base c ≤ at → at < cap_top c → SeesDevice b (thread s t).frames m

@@ -28,7 +28,7 @@ use Rattle.def_step.specs.Native.{native, native_return}
 use Rattle.def_step.specs.Quotas.{allocate, by_quota, free, freed_as, quota_in, remaining, whole_of}
 use Rattle.def_step.specs.Routines.{Ran, Traps, Leaves, sleep, switch, switched_to, wait, wake, yield}
 use Rattle.def_step.specs.Switch.{Switched, Trapped, TooDeep, NoStack, Enters, frame_top, switch_of}
-use Rattle.def_step.specs.Tokens.{by_key, frees_token, key_of, token_free, token_key, token_new, token_of, token_open}
+use Rattle.def_step.specs.Tokens.{by_key, frees_token, key_of, token_free, token_key, token_new, token_object, token_open}
 use Rattle.def_safety.specs.Each.{ready}
 
 -- the image and the platform, with other granules as those that it booted
@@ -64,10 +64,10 @@ module _ (gs : List Granule) (i : Image) (s : State) (t : ℕ) where
   frees_same quota (Some r) = refl
 
   key_same : (o : Option Object)
-      → by_key s t o (λ key. frees_token (booting gs i) s t (quota_in s t) (token_of s key (register (thread s t) 12)))
-      ≡ by_key s t o (λ key. frees_token i s t (quota_in s t) (token_of s key (register (thread s t) 12)))
+      → by_key s t o (λ key. frees_token (booting gs i) s t (quota_in s t) (token_object s key (register (thread s t) 12)))
+      ≡ by_key s t o (λ key. frees_token i s t (quota_in s t) (token_object s key (register (thread s t) 12)))
   key_same None = refl
-  key_same (Some key) = frees_same (quota_in s t) (token_of s key.number (register (thread s t) 12))
+  key_same (Some key) = frees_same (quota_in s t) (token_object s key.number (register (thread s t) 12))
 
   -- a routine by its number, where four are given
   abbrev native_by : ℕ → Ran → Ran → Ran → Ran → Option Ran

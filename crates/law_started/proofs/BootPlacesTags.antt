@@ -23,7 +23,7 @@ use Rattle.def_image.specs.Regions.{Holder, CodeOf, TableOf, GlobalsOf, SharedOf
 use Rattle.def_image.specs.Sound.{Sound}
 use Rattle.def_boot.specs.Contents.{boot_cap, code_content, content, content_at, gate_word, granules_in, region_at, table_content, word_from_bytes}
 use Rattle.def_boot.specs.Made.{boot_cap_of, return_sentry}
-use Rattle.def_boot.specs.Boot.{image_of, boot_state, entered, entry_address, entry_number, first_pcc, first_registers, offset_of}
+use Rattle.def_boot.specs.Boot.{image_of, boot_state, entered_export, thread_entry_address, entry_number, first_pcc, first_registers, offset_of}
 use Rattle.def_boot.specs.Entries.{export_row}
 use Rattle.def_boot.specs.Gates.{entries_of, gate}
 use Rattle.def_boot.specs.Places.{IsSlot, IsTableHead, HoldsTag}
@@ -195,13 +195,13 @@ module _ (p : PartsRow) (s : Sound p) where
     unfolding image_of
     owner_is = ap (λ (z : Root). z.owner) row_has.root_is
 
-    code_is : gate_code (image_of p) (entry_number p x) ≡ entry_address p x
+    code_is : gate_code (image_of p) (entry_number p x) ≡ thread_entry_address p x
     unfolding image_of entries_of
     code_is =
         let enters = (s.thread t x there).enters in
         let own : compartment p x.compartment ≡ enters.0 = compartment_is p x.compartment enters.0 enters.2 in
         let base : text_base (compartment p x.compartment).code ≡ text_base enters.0.code = ap (λ (c : CompartmentRow). text_base c.code) own in
-        let offset : offset_of (entered p x) ≡ enters.1.row.offset = ap offset_of (ap (λ (c : CompartmentRow). slice_get c.code.exports x.export) own ∙ enters.3) in
+        let offset : offset_of (entered_export p x) ≡ enters.1.row.offset = ap offset_of (ap (λ (c : CompartmentRow). slice_get c.code.exports x.export) own ∙ enters.3) in
         let code = ap (λ (g : Gate). g.code) row_has.gate_is in
         omega (arith, base, offset, code)
 

@@ -19,7 +19,7 @@ use Rattle.def_image.specs.Sound.{Sound}
 use Rattle.def_boot.specs.Entries.{entry_rows}
 use Rattle.def_boot.specs.Gates.{gates_of}
 use Rattle.def_boot.specs.Made.{from_entry, entry_cap_as, entry_cap, caps_at_boot, code_cap, boot_cap_of, entry_caps, return_sentry, sentry_type}
-use Rattle.def_boot.specs.Boot.{image_of, boot_state, entry_address, first_pcc}
+use Rattle.def_boot.specs.Boot.{image_of, boot_state, thread_entry_address, first_pcc}
 use Rattle.def_boot.specs.Places.{Place, cap_at}
 use Rattle.def_boot.specs.Listed.{IsRootWord, IsDerivedFromRoot, ComesFromRoot}
 use Rattle.law_boot.proofs.Standing.{made_there, made_past}
@@ -69,7 +69,7 @@ module _ (p : PartsRow) (s : Sound p) where
   made_comes n tagged = inl (for_derived p n tagged)
 
   counter_comes : (t : ℕ) (x : ThreadRow) → slice_get p.threads t ≡ Some x → (first_pcc p x).tag ≡ true → ComesFromRoot (first_pcc p x)
-  counter_comes t x there tagged = inr (boot_cap_of p (code_number p x.compartment), entry_address p x, for_derived p (code_number p x.compartment) (counter_addressed p s t x there tagged).tagged, refl)
+  counter_comes t x there tagged = inr (boot_cap_of p (code_number p x.compartment), thread_entry_address p x, for_derived p (code_number p x.compartment) (counter_addressed p s t x there tagged).tagged, refl)
 
   pub places_derived : (x : Place) → (cap_at (boot_state p) x).tag ≡ true → ComesFromRoot (cap_at (boot_state p) x)
   places_derived = everywhere p s ComesFromRoot (record { made = made_comes; counter = counter_comes })

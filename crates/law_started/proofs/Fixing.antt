@@ -23,7 +23,7 @@ use Rattle.def_image.specs.Parts.{CodeRow, CompartmentRow, PartsRow}
 use Rattle.def_image.specs.Members.{compartment, library, no_compartment, no_code, code_number, globals_number, library_number}
 use Rattle.def_image.specs.Regions.{Holder, CodeOf, TableOf, GlobalsOf, SharedOf, SealedOf, StackOf, TrustedPart, RegionRow}
 use Rattle.def_image.specs.Sound.{Sound}
-use Rattle.def_boot.specs.Entries.{slot_row, code_row, globals_row}
+use Rattle.def_boot.specs.Entries.{slot_entry, code_row, globals_row}
 use Rattle.def_boot.specs.Gates.{entries_of}
 use Rattle.def_boot.specs.Made.{caps_at_boot, boot_cap_of, return_sentry}
 use Rattle.def_boot.specs.Contents.{boot_cap, code_content, content, content_at, gate_word, granules_in, region_at, table_content, word_from_bytes}
@@ -40,7 +40,7 @@ use Rattle.law_boot.proofs.Rooting.{faithful, boot_made, no_object}
 use Rattle.law_started.proofs.Granules.{past_none}
 
 -- no slot is a stack
-slot_no_stack : (p : PartsRow) (o : Owner) (at : ℕ) (r : ImportRow) (k : SlotKind) → is_stack (Listing (slot_row p o at r k).kind) ≡ false
+slot_no_stack : (p : PartsRow) (o : Owner) (at : ℕ) (r : ImportRow) (k : SlotKind) → is_stack (Listing (slot_entry p o at r k).kind) ≡ false
 slot_no_stack p o at r slot.Service = refl
 slot_no_stack p o at r slot.Device = refl
 slot_no_stack p o at r slot.Shared = refl
@@ -77,8 +77,8 @@ own : (p : PartsRow) (b d : ℕ) → d ≡ b → Reaches (image_of p).entries (C
 own p b d same = reaches_own (image_of p).entries b d (joined_is (image_of p).entries b d (sym same))
 
 -- the owner of a slot reaches what the owner of the code does
-slot_stands : (p : PartsRow) (domain : ℕ → Type 0) (o : Owner) (n at : ℕ) (r : ImportRow) (k : SlotKind) → root (image_of p) n ≡ listed_root (Some (slot_row p o at r k)) no_gate → ((d : ℕ) → domain d → Reaches (image_of p).entries o d) → MayStand p domain n
-slot_stands p domain o n at r k same reaches = may_stand p domain n (listed_root (Some (slot_row p o at r k)) no_gate) same (slot_no_stack p o at r k)
+slot_stands : (p : PartsRow) (domain : ℕ → Type 0) (o : Owner) (n at : ℕ) (r : ImportRow) (k : SlotKind) → root (image_of p) n ≡ listed_root (Some (slot_entry p o at r k)) no_gate → ((d : ℕ) → domain d → Reaches (image_of p).entries o d) → MayStand p domain n
+slot_stands p domain o n at r k same reaches = may_stand p domain n (listed_root (Some (slot_entry p o at r k)) no_gate) same (slot_no_stack p o at r k)
     (λ d there. subst (λ w. Reaches (image_of p).entries w d) (sym (slot_owner p o at r k)) (reaches d there))
 
 module _ (p : PartsRow) where

@@ -18,10 +18,10 @@ use Rattle.def_image.specs.declared.ImportRow.{ImportRow}
 use Rattle.def_image.specs.declared.SlotKind.{SlotKind}
 use Rattle.def_image.specs.declared.SlotKind.TheVariants as slot
 use Rattle.def_image.specs.Parts.{PartsRow}
-use Rattle.def_image.specs.Rights.{carrying_rights, device_rights, fits_kind, is_one_of, rights_of}
+use Rattle.def_image.specs.Rights.{carrying_rights, device_right_sets, fits_kind, is_one_of, rights_of}
 use Rattle.def_image.specs.Sound.{Sound}
 use Rattle.def_boot.specs.Boot.{boot_state, image_of}
-use Rattle.def_boot.specs.Entries.{slot_row}
+use Rattle.def_boot.specs.Entries.{slot_entry}
 use Rattle.def_boot.specs.Gates.{entries_of}
 use Rattle.def_boot.specs.Listed.{IsListed}
 use Rattle.def_boot.specs.Made.{return_sentry}
@@ -40,7 +40,7 @@ use Rattle.law_started.proofs.Whole.{confined}
 abbrev IsGlobal : ℕ → Type 0
 IsGlobal s = bit s global ≡ true
 
-devices_global : Each (λ s. bit s global ≡ true) device_rights
+devices_global : Each (λ s. bit s global ≡ true) device_right_sets
 unfolding bit
 devices_global = (refl, (refl, (refl, tt)))
 
@@ -51,9 +51,9 @@ carrying_global = (refl, (refl, (refl, tt)))
 slot_global : (r : ImportRow) (k : SlotKind) → fits_kind k (rights_of r) ≡ true → bit (rights_of r) global ≡ true
 unfolding bit
 slot_global r slot.Service fits = subst IsGlobal (sym (eqb-true (rights_of r) SERVICE_RIGHTS fits)) refl
-slot_global r slot.Device fits = one_of (λ s. bit s global ≡ true) (rights_of r) device_rights fits devices_global
-slot_global r slot.Shared fits = elim (bool_tells (is_one_of (rights_of r) device_rights)) [
-  | inl plain ↦ one_of (λ s. bit s global ≡ true) (rights_of r) device_rights plain devices_global
+slot_global r slot.Device fits = one_of (λ s. bit s global ≡ true) (rights_of r) device_right_sets fits devices_global
+slot_global r slot.Shared fits = elim (bool_tells (is_one_of (rights_of r) device_right_sets)) [
+  | inl plain ↦ one_of (λ s. bit s global ≡ true) (rights_of r) device_right_sets plain devices_global
   | inr other ↦ one_of (λ s. bit s global ≡ true) (rights_of r) carrying_rights (let P : Bool → Type 0 = λ x. (x || is_one_of (rights_of r) carrying_rights) ≡ true in subst P other fits) carrying_global
 ]
 slot_global r slot.Sealed fits = subst IsGlobal (sym (eqb-true (rights_of r) SEALED_RIGHTS fits)) refl
@@ -62,7 +62,7 @@ slot_global r slot.Library fits = subst IsGlobal (sym (eqb-true (rights_of r) CO
 slot_global r slot.Quota fits = subst IsGlobal (sym (eqb-true (rights_of r) QUOTA_RIGHTS fits)) refl
 slot_global r slot.Key fits = subst IsGlobal (sym (eqb-true (rights_of r) KEY_RIGHTS fits)) refl
 
-slot_rights : (p : PartsRow) (o : Owner) (at : ℕ) (r : ImportRow) (k : SlotKind) → (listed_root (Some (slot_row p o at r k)) no_gate).rights ≡ rights_of r
+slot_rights : (p : PartsRow) (o : Owner) (at : ℕ) (r : ImportRow) (k : SlotKind) → (listed_root (Some (slot_entry p o at r k)) no_gate).rights ≡ rights_of r
 slot_rights p o at r slot.Service = refl
 slot_rights p o at r slot.Device = refl
 slot_rights p o at r slot.Shared = refl

@@ -14,7 +14,7 @@ use Rattle.def_image.specs.Members.{compartment, library, sealed, code_number, g
 use Rattle.def_image.specs.Regions.{Holder, CodeOf, TableOf, GlobalsOf, SharedOf, SealedOf, StackOf, TrustedPart, RegionRow}
 use Rattle.def_boot.specs.Made.{boot_cap_of, return_sentry}
 use Rattle.def_boot.specs.Contents.{word_from_bytes, gate_word, code_content, owned_content, table_content, content, content_at, region_at, boot_cap, granules_from, granules_in, boot_granules}
-use Rattle.def_boot.specs.Boot.{first_thread, first_threads, entry_address, boot_state}
+use Rattle.def_boot.specs.Boot.{first_thread, first_threads, thread_entry_address, boot_state}
 use Rattle.law_words.proofs.Away.{address_settles}
 use Rattle.law_boot.proofs.Settling.{made_settled, sentry_settled}
 use Rattle.law_routines.proofs.Events.{nobody_settled, sixteen}
@@ -69,7 +69,7 @@ first_settled : (p : PartsRow) (n : ℕ) (t : ThreadRow) → ThreadSettled (firs
 first_settled p n t =
     let none : IsSettled (plain 0) = plain_settled 0 in
     record {
-      pcc = address_settles (boot_cap_of p (code_number p t.compartment)) (entry_address p t);
+      pcc = address_settles (boot_cap_of p (code_number p t.compartment)) (thread_entry_address p t);
       registers = sixteen IsSettled _ _ _ _ _ _ _ _ _ _ _ _ _ _ _ _ none sentry_settled (made_settled p (stack_number p n)) (made_settled p (globals_number p t.compartment)) none none none none none none none none none none none none none;
       frames = (record { c1 = none; c2 = none; c3 = none; c8 = none; c9 = none }, tt);
     }

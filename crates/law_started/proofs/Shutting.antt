@@ -13,11 +13,11 @@ use Rattle.def_image.specs.declared.SlotKind.{SlotKind}
 use Rattle.def_image.specs.declared.SlotKind.TheVariants as slot
 use Rattle.def_image.specs.Parts.{SharedRow, SealedRow, CodeRow, CompartmentRow, ThreadRow, PartsRow}
 use Rattle.def_image.specs.Members.{no_code, no_compartment, no_shared, no_sealed, compartment, library, shared, sealed}
-use Rattle.def_image.specs.Regions.{Holder, CodeOf, TableOf, GlobalsOf, SharedOf, SealedOf, StackOf, RegionRow, region, trusted_region, trusted_size, table_size, regions_of}
+use Rattle.def_image.specs.Regions.{Holder, CodeOf, TableOf, GlobalsOf, SharedOf, SealedOf, StackOf, RegionRow, region_row, trusted_region, trusted_size, table_size, regions_of}
 use Rattle.def_image.specs.Regions as regions
 use Rattle.def_image.specs.Laid.{IsRegion}
 use Rattle.def_image.specs.Sound.{Sound, Names}
-use Rattle.def_boot.specs.Entries.{slot_row}
+use Rattle.def_boot.specs.Entries.{slot_entry}
 use Rattle.def_boot.specs.Gates.{entries_of}
 use Rattle.def_boot.specs.Boot.{image_of}
 use Rattle.def_boot.specs.Rows.{EntryIs, is_nothing, is_trusted, is_code, is_globals, is_slot, is_export, is_library, is_library_slot, is_library_export, is_stack}
@@ -54,12 +54,12 @@ module _ (p : PartsRow) (s : Sound p) where
   pub ends_in : Ends p ≤ p.trusted + regions.trusted_length p
   ends_in = let long = size_fits (trusted_size p.threads) in let same = areas_are p.threads in omega (arith, long, same)
 
-  not_both : (h : Holder) (place base size x : ℕ) → (i : ℕ) → IsRegion p i (region h place base size) → is_trusted_holder h ≡ false → base ≤ x → x < base + size → p.trusted ≤ x → x < Ends p → ⊥
+  not_both : (h : Holder) (place base size x : ℕ) → (i : ℕ) → IsRegion p i (region_row h place base size) → is_trusted_holder h ≡ false → base ≤ x → x < base + size → p.trusted ≤ x → x < Ends p → ⊥
   not_both h place base size x i is other low high from to =
       let long = ends_in in
-      let index : i ≡ 0 = s.laid.one i 0 x (region h place base size) (trusted_region p) is first_region (low, high) (from, omega (arith, to, long)) in
-      let both : Some (region h place base size) ≡ Some (trusted_region p) = sym is ∙ ap (λ k. slice_get (regions_of p) k) index ∙ first_region in
-      let same : region h place base size ≡ trusted_region p = cc in
+      let index : i ≡ 0 = s.laid.one i 0 x (region_row h place base size) (trusted_region p) is first_region (low, high) (from, omega (arith, to, long)) in
+      let both : Some (region_row h place base size) ≡ Some (trusted_region p) = sym is ∙ ap (λ k. slice_get (regions_of p) k) index ∙ first_region in
+      let same : region_row h place base size ≡ trusted_region p = cc in
       no_way (sym other ∙ ap (λ (r : RegionRow). is_trusted_holder r.holder) same)
 
   in_region : (z : Root) (h : Holder) (base size : ℕ) → Among (regions_of p) h base size → is_trusted_holder h ≡ false → base ≤ z.base → z.top ≤ base + size → Clear p z
@@ -83,7 +83,7 @@ module _ (p : PartsRow) (s : Sound p) where
   }
 
   slot_clear : (o : Owner) (at : ℕ) (r : ImportRow) (k : SlotKind) (h : Holder) (base size : ℕ) → Among (regions_of p) h base size → is_trusted_holder h ≡ false → base ≤ at → at + SLOT_SIZE ≤ base + size → Names p r k
-      → Clear p (listed_root (Some (slot_row p o at r k)) no_gate)
+      → Clear p (listed_root (Some (slot_entry p o at r k)) no_gate)
   slot_clear o at r slot.Service h base size a other low high names = out_of_ram _ (elim s.ram.native [ inl b ↦ inr (omega (arith, b)) | inr b ↦ inl (omega (arith, b, names)) ])
   slot_clear o at r slot.Device h base size a other low high names =
       let same = device_base_is p s r.first names.0 names.1 in

@@ -12,7 +12,7 @@ use Rattle.def_image.specs.Parts.{CompartmentRow, ThreadRow, PartsRow}
 use Rattle.def_image.specs.Members.{compartment, no_compartment, text_base, code_number, globals_number, stack_number}
 use Rattle.def_image.specs.Sound.{Sound}
 use Rattle.def_boot.specs.Made.{boot_cap_of, return_sentry}
-use Rattle.def_boot.specs.Boot.{image_of, boot_state, entered, entry_address, offset_of, first_pcc, first_registers, first_thread, first_threads}
+use Rattle.def_boot.specs.Boot.{image_of, boot_state, entered_export, thread_entry_address, offset_of, first_pcc, first_registers, first_thread, first_threads}
 use Rattle.def_boot.specs.Places.{Place, InRam, InCounter, InRegister, cap_at, IsBareFrame}
 use Rattle.def_boot.specs.Listed.{IsListed}
 use Rattle.law_words.proofs.Narrowing.{Addressed, addressed}
@@ -92,12 +92,12 @@ module _ (p : PartsRow) (s : Sound p) where
   -- ---- the program counter
 
   module _ (t : ℕ) (x : ThreadRow) (there : slice_get p.threads t ≡ Some x) where
-    address_small : entry_address p x < 2 ^ 32
+    address_small : thread_entry_address p x < 2 ^ 32
     address_small =
         let enters = (s.thread t x there).enters in
         let own : compartment p x.compartment ≡ enters.0 = ap (λ o. unwrap_or o no_compartment) enters.2 in
         let base : text_base (compartment p x.compartment).code ≡ text_base enters.0.code = ap (λ (c : CompartmentRow). text_base c.code) own in
-        let offset : offset_of (entered p x) ≡ enters.1.row.offset = ap offset_of (ap (λ (c : CompartmentRow). slice_get c.code.exports x.export) own ∙ enters.3) in
+        let offset : offset_of (entered_export p x) ≡ enters.1.row.offset = ap offset_of (ap (λ (c : CompartmentRow). slice_get c.code.exports x.export) own ∙ enters.3) in
         let fits = s.compartment x.compartment enters.0 enters.2 in
         let text = fits.code.fits in
         let inside = (fits.export x.export enters.1 enters.3).offset.inside in
@@ -109,8 +109,8 @@ module _ (p : PartsRow) (s : Sound p) where
     counted : 1 ≤ code_number p x.compartment
     counted = let enters = (s.thread t x there).enters in (compartment_of p x.compartment enters.0 enters.2).code.counted
 
-    pub counter_addressed : (first_pcc p x).tag ≡ true → Addressed (boot_cap_of p (code_number p x.compartment)) (entry_address p x)
-    counter_addressed tagged = addressed (boot_cap_of p (code_number p x.compartment)) (entry_address p x) address_small tagged
+    pub counter_addressed : (first_pcc p x).tag ≡ true → Addressed (boot_cap_of p (code_number p x.compartment)) (thread_entry_address p x)
+    counter_addressed tagged = addressed (boot_cap_of p (code_number p x.compartment)) (thread_entry_address p x) address_small tagged
 
     pub counter_listed : (first_pcc p x).tag ≡ true → IsListed (image_of p) (first_pcc p x)
     unfolding image_of

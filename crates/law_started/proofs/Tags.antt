@@ -16,10 +16,10 @@ use Rattle.def_image.specs.Parts.{PartsRow}
 use Rattle.def_image.specs.Regions.{Holder, CodeOf, TableOf, GlobalsOf, SharedOf, SealedOf, StackOf, RegionRow}
 use Rattle.def_image.specs.Regions as regions
 use Rattle.def_image.specs.Sound.{Sound}
-use Rattle.def_boot.specs.Entries.{slot_row}
+use Rattle.def_boot.specs.Entries.{slot_entry}
 use Rattle.def_boot.specs.Gates.{entries_of}
 use Rattle.def_boot.specs.Made.{boot_cap_of, return_sentry}
-use Rattle.def_boot.specs.Contents.{content, content_at, boot_cap, part, part_at, part_of, region_at}
+use Rattle.def_boot.specs.Contents.{content, content_at, boot_cap, part, part_at, region_part, region_at}
 use Rattle.def_boot.specs.Boot.{image_of}
 use Rattle.def_boot.specs.Rows.{EntryIs, is_nothing, is_trusted, is_code, is_globals, is_slot, is_export, is_library, is_library_slot, is_library_export, is_stack}
 use Rattle.law_boot.proofs.Listing.{entry_of}
@@ -31,7 +31,7 @@ use Rattle.law_boot.proofs.Rooting.{boot_made}
 
 -- ---- where
 
-fixed_in : (p : PartsRow) (h : Holder) (k : ℕ) → (content p h k).tag ≡ true → part_of h k ≡ Fixed
+fixed_in : (p : PartsRow) (h : Holder) (k : ℕ) → (content p h k).tag ≡ true → region_part h k ≡ Fixed
 fixed_in p (CodeOf o) k tagged = refl
 fixed_in p (TableOf b) k tagged = refl
 fixed_in p (GlobalsOf b) k tagged = no_way tagged
@@ -67,7 +67,7 @@ is_reserved _ = false
 free : (o : Origin) (d : Cap) → is_reserved o ≡ false → Sealed o d
 free o d none = (λ service. no_way (sym none ∙ ap is_reserved service), λ trusted. no_way (sym none ∙ ap is_reserved trusted))
 
-by_slot : (p : PartsRow) (o : Owner) (at : ℕ) (r : ImportRow) (k : SlotKind) (d : Cap) → cap_seal d ≡ type_for p (slot_row p o at r k) (slot_row p o at r k).kind → Sealed (Listing (slot_row p o at r k).kind) d
+by_slot : (p : PartsRow) (o : Owner) (at : ℕ) (r : ImportRow) (k : SlotKind) (d : Cap) → cap_seal d ≡ type_for p (slot_entry p o at r k) (slot_entry p o at r k).kind → Sealed (Listing (slot_entry p o at r k).kind) d
 by_slot p o at r slot.Service d is = (λ service. is, λ trusted. no_way (ap is_service trusted))
   where
     is_service : Origin → Bool

@@ -21,7 +21,7 @@ use Rattle.def_image.specs.Members.{compartment, no_compartment, text_base, code
 use Rattle.def_image.specs.Sound.{Sound, ThreadFits}
 use Rattle.def_boot.specs.Gates.{gates_of, entries_of}
 use Rattle.def_boot.specs.Made.{caps_at_boot, return_sentry}
-use Rattle.def_boot.specs.Boot.{image_of, boot_state, entered, entry_number, entry_address, offset_of, gate_is_disabled, first_frame, first_pcc, first_registers, first_thread, first_threads}
+use Rattle.def_boot.specs.Boot.{image_of, boot_state, entered_export, entry_number, thread_entry_address, offset_of, gate_is_disabled, first_frame, first_pcc, first_registers, first_thread, first_threads}
 use Rattle.law_moves.proofs.Puts.{plain_kept}
 use Rattle.law_moves.proofs.Places.{all_of}
 use Rattle.law_reach.proofs.Joins.{reaches_own, joined_is}
@@ -73,7 +73,7 @@ module _ (p : PartsRow) (s : Sound p) where
     own_is : compartment p x.compartment ≡ fits.enters.0
     own_is = ap (λ o. unwrap_or o no_compartment) fits.enters.2
 
-    entered_is : entered p x ≡ Some fits.enters.1
+    entered_is : entered_export p x ≡ Some fits.enters.1
     entered_is = ap (λ (c : CompartmentRow). slice_get c.code.exports x.export) own_is ∙ fits.enters.3
 
     abbrev pub frames : List Frame
@@ -148,17 +148,17 @@ module _ (p : PartsRow) (s : Sound p) where
 
     -- ---- the program counter
 
-    address_is : entry_address p x ≡ text_base fits.enters.0.code + fits.enters.1.row.offset
+    address_is : thread_entry_address p x ≡ text_base fits.enters.0.code + fits.enters.1.row.offset
     address_is =
         let base : text_base (compartment p x.compartment).code ≡ text_base fits.enters.0.code = ap (λ (c : CompartmentRow). text_base c.code) own_is in
-        let offset : offset_of (entered p x) ≡ fits.enters.1.row.offset = ap offset_of entered_is in
+        let offset : offset_of (entered_export p x) ≡ fits.enters.1.row.offset = ap offset_of entered_is in
         omega (arith, base, offset)
 
     gate_small : (gate_for (gates_of p) (entry_number p x)).code < 2 ^ 32
     unfolding image_of entries_of
     gate_small = gates_small p s (entry_number p x)
 
-    address_small : entry_address p x < 2 ^ 32
+    address_small : thread_entry_address p x < 2 ^ 32
     address_small =
         let small = gate_small in
         let code = ap (λ (g : Gate). g.code) (own_has.export x.export fits.enters.1 fits.enters.3).gate_is in
@@ -169,7 +169,7 @@ module _ (p : PartsRow) (s : Sound p) where
     unfolding image_of
     pcc_in = derived_in (image_of p) [] t frames (made_cap (image_of p) (code_number p x.compartment)) (first_pcc p x)
         (λ tagged. kept_bound (image_of p) (made_cap (image_of p) (code_number p x.compartment)) tagged (kept_made p s (code_number p x.compartment)))
-        (address_derived (made_cap (image_of p) (code_number p x.compartment)) (entry_address p x) address_small) code_in
+        (address_derived (made_cap (image_of p) (code_number p x.compartment)) (thread_entry_address p x) address_small) code_in
 
     code_runs : has (made_cap (image_of p) (code_number p x.compartment)) execute ≡ true
     unfolding image_of
@@ -178,8 +178,8 @@ module _ (p : PartsRow) (s : Sound p) where
     pub pcc_runs : (first_pcc p x).tag ≡ true → IsPcc (image_of p) (first_pcc p x)
     unfolding image_of
     pcc_runs tagged =
-        let derived = address_derived (made_cap (image_of p) (code_number p x.compartment)) (entry_address p x) address_small tagged in
-        let runs = address_runs (made_cap (image_of p) (code_number p x.compartment)) (entry_address p x) address_small code_runs tagged in
+        let derived = address_derived (made_cap (image_of p) (code_number p x.compartment)) (thread_entry_address p x) address_small tagged in
+        let runs = address_runs (made_cap (image_of p) (code_number p x.compartment)) (thread_entry_address p x) address_small code_runs tagged in
         let made = boot_made p s (code_number p x.compartment) derived.narrows.tagged in
         let number : (first_pcc p x).shadow.root ≡ code_number p x.compartment = ap (λ z. z.root) derived.narrows.shadows ∙ made.from in
         record {
@@ -238,7 +238,7 @@ module _ (p : PartsRow) (s : Sound p) where
     abbrev Fits : Posture → Type 0
     Fits q = q.off ≡ true → ((root (image_of p) q.source).disabled ≡ true) × Reaches (image_of p).entries (root (image_of p) q.source).owner x.compartment
 
-    entry_off : gate_is_disabled (entered p x) ≡ true → (root (image_of p) (entry_number p x)).disabled ≡ true
+    entry_off : gate_is_disabled (entered_export p x) ≡ true → (root (image_of p) (entry_number p x)).disabled ≡ true
     unfolding image_of
     entry_off e = ap (λ (z : Root). z.disabled) (own_has.export x.export fits.enters.1 fits.enters.3).root_is ∙ sym (ap gate_is_disabled entered_is) ∙ e
 
@@ -247,9 +247,9 @@ module _ (p : PartsRow) (s : Sound p) where
     entry_owner = ap (λ (z : Root). z.owner) (own_has.export x.export fits.enters.1 fits.enters.3).root_is
 
     pub posture_fits : PostureFits (image_of p) (first_thread p t x) frames
-    posture_fits = by (gate_is_disabled (entered p x)) refl
+    posture_fits = by (gate_is_disabled (entered_export p x)) refl
       where
-        by : (b : Bool) → gate_is_disabled (entered p x) ≡ b → Fits (cond b (record { off = true; source = entry_number p x }) interrupts_on)
+        by : (b : Bool) → gate_is_disabled (entered_export p x) ≡ b → Fits (cond b (record { off = true; source = entry_number p x }) interrupts_on)
         by true e = λ off. (entry_off e, subst (λ o. Reaches (image_of p).entries o x.compartment) (sym entry_owner) (reaches_own (image_of p).entries x.compartment x.compartment (joined_is (image_of p).entries x.compartment x.compartment refl)))
         by false e = λ off. no_way off
 

@@ -8,14 +8,14 @@ ghost use Rattle.ct_entry.specs.DeviceKinds.{kind_text};
 ghost use Rattle.ct_entry.specs.declared.rows.Mode.TheVariants.{Inherit, Disabled, Enabled};
 ghost use Rattle.def_desc.specs.declared.tables.Passes.TheVariants.{Capabilities, Data};
 ghost use Rattle.def_desc.specs.declared.tables.TheConstants.{POSTURES, LIBRARY_POSTURES, PASSES, SERVICES, QUANTUM};
-ghost use Rattle.def_desc.specs.Tables.{kind_of, posture_of, library_posture_of, passes_of, service_of, form_names, righted_names, code_names, device_rights, shared_rights};
+ghost use Rattle.def_desc.specs.Tables.{device_kind_named, posture_of, library_posture_of, passes_of, service_of, form_names, righted_names, code_names, device_rights, shared_rights};
 
 /// Kinds of devices, postures, what exports pass, the members of which an import and a code have one,
 /// rights by letters, the quantum where none is given, and the services that an import may name, by the
 /// numbers of their routines.
-#[tactic(auto, unfolding(def_desc::specs::Tables::kind_of, def_desc::specs::Tables::posture_of, def_desc::specs::Tables::library_posture_of, def_desc::specs::Tables::passes_of, def_desc::specs::Tables::form_names, def_desc::specs::Tables::righted_names, def_desc::specs::Tables::code_names, def_desc::specs::Tables::device_rights, def_desc::specs::Tables::shared_rights, def_desc::specs::Tables::service_of))]
+#[tactic(auto, unfolding(def_desc::specs::Tables::device_kind_named, def_desc::specs::Tables::posture_of, def_desc::specs::Tables::library_posture_of, def_desc::specs::Tables::passes_of, def_desc::specs::Tables::form_names, def_desc::specs::Tables::righted_names, def_desc::specs::Tables::code_names, def_desc::specs::Tables::device_rights, def_desc::specs::Tables::shared_rights, def_desc::specs::Tables::service_of))]
 pub fn choices_of_descriptions()
-    ensures kinds { map kind_of (codes "uart" ∷ codes "timer" ∷ codes "gpio" ∷ [])
+    ensures kinds { map device_kind_named (codes "uart" ∷ codes "timer" ∷ codes "gpio" ∷ [])
         ≡ Some Uart ∷ Some Timer ∷ Some Gpio ∷ [] }
     ensures kind_names { map kind_text (Uart ∷ Timer ∷ Gpio ∷ [])
         ≡ codes "uart" ∷ codes "timer" ∷ codes "gpio" ∷ [] }

@@ -2,7 +2,7 @@
 
 ghost use Rattle.std.specs.Prelude.{◌≡◌, [], ◌∷◌, map, codes};
 ghost use Rattle.def_profile.specs.declared.rights.TheConstants as right;
-ghost use Rattle.def_image.specs.Rights.{device_rights, carrying_rights};
+ghost use Rattle.def_image.specs.Rights.{device_right_sets, carrying_rights};
 ghost use Rattle.def_report.specs.Rights.{rights_text};
 
 /// The twelve permissions in bit order, and what boot makes: code, globals and stacks; services, sealed
@@ -26,7 +26,7 @@ pub fn rights_of_kinds()
     ensures export { rights_text right.EXPORT_RIGHTS ≡ codes "GL LD" }
     ensures quota { rights_text right.QUOTA_RIGHTS ≡ codes "GL LD" }
     ensures key { rights_text right.KEY_RIGHTS ≡ codes "GL US SE" }
-    ensures device_letters { map rights_text device_rights
+    ensures device_letters { map rights_text device_right_sets
         ≡ codes "GL LD" ∷ codes "GL SD" ∷ codes "GL SD LD" ∷ [] }
     ensures shared_letters { map rights_text carrying_rights
         ≡ codes "GL LG LM LD MC" ∷ codes "GL SD MC" ∷ codes "GL LG SD LM LD MC" ∷ [] }

@@ -19,15 +19,15 @@ ghost use Rattle.def_source.specs.declared.reaches.TheConstants.{BRANCH_REACH, J
 ghost use Rattle.def_source.specs.declared.words.Directive.TheVariants as directive;
 ghost use Rattle.def_source.specs.declared.words.Head.TheVariants as head;
 ghost use Rattle.def_source.specs.declared.words.TheConstants.{DIRECTIVES, HEADS, REGISTERS};
-ghost use Rattle.def_source.specs.Source.{directive_of, head_of, register_of};
+ghost use Rattle.def_source.specs.Source.{directive_of, statement_head, register_of};
 
 /// Integer instructions, and branches; 96 words begin a statement in all. Loads and stores, with and without a leading
 /// `c`; the three instructions with an upper immediate. Capability instructions: of two registers, of an immediate, and
 /// of one source. Jumps, words without operands, pseudo instructions, and directives. And how far back a branch and a
 /// jump reach, and the greatest alignment, in bytes.
-#[tactic(auto, unfolding(def_source::specs::Source::head_of, def_source::specs::Source::directive_of))]
+#[tactic(auto, unfolding(def_source::specs::Source::statement_head, def_source::specs::Source::directive_of))]
 pub fn words_of_statements()
-    ensures integer_registers { map head_of
+    ensures integer_registers { map statement_head
         (codes "add" ∷ codes "sub" ∷ codes "sll" ∷ codes "slt" ∷ codes "sltu" ∷ codes "xor"
         ∷ codes "srl" ∷ codes "sra" ∷ codes "or" ∷ codes "and" ∷ codes "mul" ∷ codes "mulh"
         ∷ codes "mulhsu" ∷ codes "mulhu" ∷ codes "div" ∷ codes "divu" ∷ codes "rem"
@@ -37,34 +37,34 @@ pub fn words_of_statements()
         ∷ integer.Srl ∷ integer.Sra ∷ integer.Or ∷ integer.And ∷ integer.Mul ∷ integer.Mulh
         ∷ integer.Mulhsu ∷ integer.Mulhu ∷ integer.Div ∷ integer.Divu ∷ integer.Rem
         ∷ integer.Remu ∷ []) }
-    ensures integer_immediates { map head_of
+    ensures integer_immediates { map statement_head
         (codes "addi" ∷ codes "slti" ∷ codes "sltiu" ∷ codes "xori" ∷ codes "ori"
         ∷ codes "andi" ∷ [])
         ≡ map (λ o. Some (head.Immediate (immediate.Signed o)))
         (signed.Addi ∷ signed.Slti ∷ signed.Sltiu ∷ signed.Xori ∷ signed.Ori ∷ signed.Andi ∷ []) }
-    ensures shifts { map head_of (codes "slli" ∷ codes "srli" ∷ codes "srai" ∷ [])
+    ensures shifts { map statement_head (codes "slli" ∷ codes "srli" ∷ codes "srai" ∷ [])
         ≡ map (λ o. Some (head.Immediate (immediate.Shift o)))
         (shift.Slli ∷ shift.Srli ∷ shift.Srai ∷ []) }
-    ensures branches { map head_of
+    ensures branches { map statement_head
         (codes "beq" ∷ codes "bne" ∷ codes "blt" ∷ codes "bge" ∷ codes "bltu" ∷ codes "bgeu" ∷ [])
         ≡ map (λ o. Some (head.Branch o))
         (branch.Beq ∷ branch.Bne ∷ branch.Blt ∷ branch.Bge ∷ branch.Bltu ∷ branch.Bgeu ∷ []) }
     ensures words { length HEADS ≡ 96 }
-    ensures loads { map head_of
+    ensures loads { map statement_head
         (codes "lb" ∷ codes "lh" ∷ codes "lw" ∷ codes "clc" ∷ codes "lbu" ∷ codes "lhu" ∷ [])
         ≡ map (λ o. Some (head.Load o))
         (load.Lb ∷ load.Lh ∷ load.Lw ∷ load.Clc ∷ load.Lbu ∷ load.Lhu ∷ []) }
-    ensures led_loads { map head_of
+    ensures led_loads { map statement_head
         (codes "clb" ∷ codes "clh" ∷ codes "clw" ∷ codes "clbu" ∷ codes "clhu" ∷ [])
         ≡ map (λ o. Some (head.Load o))
         (load.Lb ∷ load.Lh ∷ load.Lw ∷ load.Lbu ∷ load.Lhu ∷ []) }
-    ensures stores { map head_of (codes "sb" ∷ codes "sh" ∷ codes "sw" ∷ codes "csc" ∷ [])
+    ensures stores { map statement_head (codes "sb" ∷ codes "sh" ∷ codes "sw" ∷ codes "csc" ∷ [])
         ≡ map (λ o. Some (head.Store o)) (store.Sb ∷ store.Sh ∷ store.Sw ∷ store.Csc ∷ []) }
-    ensures led_stores { map head_of (codes "csb" ∷ codes "csh" ∷ codes "csw" ∷ [])
+    ensures led_stores { map statement_head (codes "csb" ∷ codes "csh" ∷ codes "csw" ∷ [])
         ≡ map (λ o. Some (head.Store o)) (store.Sb ∷ store.Sh ∷ store.Sw ∷ []) }
-    ensures upper { map head_of (codes "lui" ∷ codes "auipcc" ∷ codes "auicgp" ∷ [])
+    ensures upper { map statement_head (codes "lui" ∷ codes "auipcc" ∷ codes "auicgp" ∷ [])
         ≡ map (λ o. Some (head.Upper o)) (upper.Lui ∷ upper.AuiPcc ∷ upper.AuiCgp ∷ []) }
-    ensures capability_registers { map head_of
+    ensures capability_registers { map statement_head
         (codes "csetbounds" ∷ codes "csetboundsexact" ∷ codes "cseal" ∷ codes "cunseal"
         ∷ codes "candperm" ∷ codes "csetaddr" ∷ codes "cincaddr" ∷ codes "csub"
         ∷ codes "csethigh" ∷ codes "ctestsubset" ∷ codes "csetequalexact" ∷ [])
@@ -73,10 +73,10 @@ pub fn words_of_statements()
         ∷ capability.CUnseal ∷ capability.CAndPerm ∷ capability.CSetAddr ∷ capability.CIncAddr
         ∷ capability.CSub ∷ capability.CSetHigh ∷ capability.CTestSubset
         ∷ capability.CSetEqualExact ∷ []) }
-    ensures capability_immediates { map head_of (codes "cincaddrimm" ∷ codes "csetboundsimm" ∷ [])
+    ensures capability_immediates { map statement_head (codes "cincaddrimm" ∷ codes "csetboundsimm" ∷ [])
         ≡ map (λ o. Some (head.Immediate o))
         (immediate.CIncAddrImm ∷ immediate.CSetBoundsImm ∷ []) }
-    ensures capability_sources { map head_of
+    ensures capability_sources { map statement_head
         (codes "cgetperm" ∷ codes "cgettype" ∷ codes "cgetbase" ∷ codes "cgetlen"
         ∷ codes "cgettag" ∷ codes "crrl" ∷ codes "cram" ∷ codes "cmove" ∷ codes "ccleartag"
         ∷ codes "cgetaddr" ∷ codes "cgethigh" ∷ codes "cgettop" ∷ [])
@@ -84,11 +84,11 @@ pub fn words_of_statements()
         (source.CGetPerm ∷ source.CGetType ∷ source.CGetBase ∷ source.CGetLen ∷ source.CGetTag
         ∷ source.Crrl ∷ source.Cram ∷ source.CMove ∷ source.CClearTag ∷ source.CGetAddr
         ∷ source.CGetHigh ∷ source.CGetTop ∷ []) }
-    ensures jumps { map head_of (codes "jal" ∷ codes "cjalr" ∷ [])
+    ensures jumps { map statement_head (codes "jal" ∷ codes "cjalr" ∷ [])
         ≡ Some head.Jal ∷ Some head.RegisterJump ∷ [] }
-    ensures bare { map head_of (codes "fence" ∷ codes "ecall" ∷ codes "ebreak" ∷ [])
+    ensures bare { map statement_head (codes "fence" ∷ codes "ecall" ∷ codes "ebreak" ∷ [])
         ≡ map (λ o. Some (head.Bare o)) (bare.Fence ∷ bare.Ecall ∷ bare.Ebreak ∷ []) }
-    ensures pseudo { map head_of
+    ensures pseudo { map statement_head
         (codes "nop" ∷ codes "mv" ∷ codes "j" ∷ codes "cjal" ∷ codes "cret" ∷ codes "cjr"
         ∷ codes "beqz" ∷ codes "bnez" ∷ codes "li" ∷ codes "cimport" ∷ codes "cla"
         ∷ codes "clg" ∷ [])

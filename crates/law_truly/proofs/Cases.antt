@@ -31,7 +31,7 @@ use Rattle.def_step.specs.Instructions.{Effect, space_of, put_done, instruction_
 use Rattle.def_step.specs.Native.{native}
 use Rattle.def_step.specs.Operands.{operands_of}
 use Rattle.def_step.specs.Quotas.{Allocation, Made, Refused, allocate, allocated, allocation, by_quota, is_quota_cap, quota_in, let_go}
-use Rattle.def_step.specs.Routines.{Ran, Traps, Leaves, answers, checked, code, switched_to, switch, tells as refuses, wakes}
+use Rattle.def_step.specs.Routines.{Ran, Traps, Leaves, answers, checked, code, switched_to, switch, tells as refuses, threads_woken}
 use Rattle.def_step.specs.Switch.{Switched, TooDeep, NoStack, Enters, return_checks, switch_checks, called, with_room, past_checks, frame_top}
 use Rattle.def_step.specs.Tokens.{by_key, key_of, made_token, token_key, token_new, with_row, sealed_token, opened_token}
 use Rattle.def_events.specs.Leaving.{Left, IfRan}
@@ -63,7 +63,7 @@ pub record Answers (At : ℕ → Type 0) (Q : State → Option (ℕ × Act) → 
   pub enters : At SWITCH → first_failed (switch_checks (stack_base i t) (frame_top (thread s t).frames) (thread s t)) ≡ None
       → Q (entering i s t (called i.entries (thread s t)) (high_of i s t)) (Some (call_told s t (called i.entries (thread s t))))
   pub stops : (status : Status) → Q (stopped s t status) None
-  pub wakes : (address most : ℕ) → Q (wakes s t address most) None
+  pub wakes : (address most : ℕ) → Q (threads_woken s t address most) None
   pub hands : At ALLOCATE → MayReturn s t → is_quota_cap (register (thread s t) 10) ≡ true → (r : Object) → allocation i s (quota_in s t) (length_in s t) ≡ Made r → Q (answers (with_object s r) t (object_cap r)) (Some (allocate_told s r))
   pub gives : At FREE ⊎ At TOKEN_FREE → MayReturn s t → is_quota_cap (register (thread s t) 10) ≡ true → (r : Object) (c : Cap) → Found (quota_in s t) c s.objects r → Q (answers (let_go i s t r) t (integer 0)) (Some (free_told i s t r))
   pub seals : (size : ℕ) → Sealing At s t size → MayReturn s t → is_quota_cap (register (thread s t) 10) ≡ true → (key : Option ℕ) (r : Object) → allocation i s (quota_in s t) size ≡ Made r

@@ -21,7 +21,7 @@ use Rattle.def_step.specs.Accesses.{access_result, unless}
 use Rattle.def_step.specs.Checks.{Check, first_failed}
 use Rattle.def_step.specs.Events.{continued, noted}
 use Rattle.def_step.specs.Instructions.{Effect, after_fetch, around, accesses, carried_out, executed, fetch_checks, flows, goes_on, instruction_end, named_by, next_at, served, space_of, trapped}
-use Rattle.def_step.specs.Jumps.{branched, flow_result, is_taken, target_at}
+use Rattle.def_step.specs.Jumps.{branched, flow_result, is_taken, jump_target}
 use Rattle.def_step.specs.Native.{native}
 use Rattle.def_step.specs.Operands.{class_of, operands_of}
 use Rattle.def_step.specs.Routines.{Ran, Traps, checked, switch, word_checks}
@@ -100,7 +100,7 @@ module _ (i : Image) (s : State) (t : ℕ) where
 unless_fails : {A : Type 0} (o : Option Trap) (a : A) (why : Trap) → o ≡ Some why → unless o a ≡ Err why
 unless_fails o a why e = rw e refl
 
-branch_fails : (taken : Bool) (pcc : Cap) (posture : Posture) (offset : ℕ) (why : Trap) → first_failed (branch_checks taken (target_at pcc offset)) ≡ Some why → branched taken pcc posture offset ≡ Err why
+branch_fails : (taken : Bool) (pcc : Cap) (posture : Posture) (offset : ℕ) (why : Trap) → first_failed (branch_checks taken (jump_target pcc offset)) ≡ Some why → branched taken pcc posture offset ≡ Err why
 branch_fails true pcc posture offset why e = unless_fails _ _ why e
 branch_fails false pcc posture offset why e = absurd (let clash : None ≡ Some why = e in cc)
 

@@ -7,7 +7,7 @@ use Rattle.def_words.specs.declared.Shadow.{Shadow}
 use Rattle.def_words.specs.Authority.{cap_address}
 use Rattle.def_words.specs.Capability.{word_sealed, IsSettled, integer, masked, raised, sealed_by, unsealed_by, untagged, with_address, with_bounds, with_exact_bounds}
 use Rattle.def_words.specs.Derive.{derive, root_cap, sealed_as}
-use Rattle.def_words.specs.Jumped.{linked, opened}
+use Rattle.def_words.specs.Jumped.{return_link, opened}
 use Rattle.def_words.specs.Loaded.{attenuated}
 use Rattle.law_words.proofs.Narrowing.{bounds_narrows, exact_narrows, masked_narrows}
 use Rattle.law_words.proofs.Sealed.{sealed_narrows, unsealed_narrows}
@@ -78,7 +78,7 @@ clears_settles c off = refl
 pub opens_settles : (c : Cap) → IsSettled (opened c)
 opens_settles c = settled (opened c).tag (opened c).word (record { root = c.shadow.root; source = 0 })
 
-pub links_settles : (pcc : Cap) (before : Posture) → IsSettled (linked pcc before)
+pub links_settles : (pcc : Cap) (before : Posture) → IsSettled (return_link pcc before)
 links_settles pcc before off = rw off refl
 
 pub integers_settles : (n : ℕ) → IsSettled (integer n)

@@ -5,11 +5,11 @@ use Rattle.law_lists.proofs.Tests.{le_tells}
 use Rattle.def_words.specs.declared.Cap.{Cap}
 use Rattle.def_words.specs.declared.Posture.{Posture}
 use Rattle.def_words.specs.Authority.{cap_address, cap_high, seal_field, permission_bits}
-use Rattle.def_words.specs.Permissions.{cap_perms, has, unpacked, normal_set, form_of, removed, set_where, among, bit, execute, global, load_global, memory_capability, Within}
+use Rattle.def_words.specs.Permissions.{cap_perms, has, unpacked, normal_set, form_of, removed, set_where, is_among, bit, execute, global, load_global, memory_capability, Within}
 use Rattle.def_words.specs.Seals.{cap_seal, seal_type}
 use Rattle.def_words.specs.Capability.{raised, with_address, word_with_set}
 use Rattle.def_words.specs.Loaded.{attenuated, lost_through}
-use Rattle.def_words.specs.Jumped.{opened, linked}
+use Rattle.def_words.specs.Jumped.{opened, return_link}
 use Rattle.def_words.specs.Narrows.{Narrows, IsOpened, IsLink}
 use Rattle.def_words.specs.Facts.{IsLoaded}
 use Rattle.law_words.proofs.Bits.{bit_where, bit_past, where_small, apart}
@@ -21,13 +21,13 @@ use Rattle.law_words.proofs.Sealed.{WithField, with_field, perms_through}
 
 removed_small : (set : ℕ) (ps : List ℕ) → removed set ps < 2 ^ 12
 unfolding removed
-removed_small set ps = where_small (λ p. bit set p && not (among p ps))
+removed_small set ps = where_small (λ p. bit set p && not (is_among p ps))
 
 removed_within : (set : ℕ) (ps : List ℕ) → Within (removed set ps) set
 unfolding removed
 removed_within set ps p there = elim (le_tells 12 p) [
-  | inl t ↦ absurd (let none : bit (set_where (λ q. bit set q && not (among q ps))) p ≡ false = bit_past (set_where (λ q. bit set q && not (among q ps))) p (where_small (λ q. bit set q && not (among q ps))) t.1 in cc)
-  | inr t ↦ (and_parts (bit set p) (not (among p ps)) (sym (bit_where (λ q. bit set q && not (among q ps)) p t.1) ∙ there)).0
+  | inl t ↦ absurd (let none : bit (set_where (λ q. bit set q && not (is_among q ps))) p ≡ false = bit_past (set_where (λ q. bit set q && not (is_among q ps))) p (where_small (λ q. bit set q && not (is_among q ps))) t.1 in cc)
+  | inr t ↦ (and_parts (bit set p) (not (is_among p ps)) (sym (bit_where (λ q. bit set q && not (is_among q ps)) p t.1) ∙ there)).0
 ]
 
 pub same_bool : Bool → Bool → Bool
@@ -150,10 +150,10 @@ opened_at c a small t =
       unsealed = h.after;
     }
 
-pub linked_is : (pcc : Cap) (before : Posture) → has pcc execute ≡ true → (linked pcc before).tag ≡ true → IsLink pcc before (linked pcc before)
+pub linked_is : (pcc : Cap) (before : Posture) → has pcc execute ≡ true → (return_link pcc before).tag ≡ true → IsLink pcc before (return_link pcc before)
 linked_is pcc before executes t =
     let h : Addressed pcc ((cap_address pcc + 4) % 2 ^ 32) = addressed pcc ((cap_address pcc + 4) % 2 ^ 32) (omega arith) t in
-    let w : WithField (raised pcc 4) (linked pcc before) (if before.off then 4 else 5) = with_field (raised pcc 4) (linked pcc before) (if before.off then 4 else 5) (small before.off) refl in
+    let w : WithField (raised pcc 4) (return_link pcc before) (if before.off then 4 else 5) = with_field (raised pcc 4) (return_link pcc before) (if before.off then 4 else 5) (small before.off) refl in
     let ex : has (raised pcc 4) execute ≡ true = ap (λ s. bit s execute) h.rights ∙ executes in
     record {
       tagged = h.tagged;

@@ -3,7 +3,7 @@ use Rattle.std.proofs.Common.{ℕ, ◌≡◌, ◌+◌, refl, false}
 use Rattle.def_profile.specs.declared.rights.TheConstants.{CODE_RIGHTS, GLOBALS_RIGHTS, HEAP_RIGHTS, STACK_RIGHTS, SERVICE_RIGHTS, SEALED_RIGHTS, EXPORT_RIGHTS, QUOTA_RIGHTS, KEY_RIGHTS, GL, LD, LG, LM, MC, SD}
 use Rattle.def_words.specs.Derive.{memory_root, executable_root, sealing_root}
 use Rattle.def_words.specs.Permissions.{IsLegal, bit, form_of, global, normal_set, set_where, store_local, unpacked}
-use Rattle.def_words.specs.Facts.{IsRoot, Spells}
+use Rattle.def_words.specs.Facts.{IsRoot, SpellsPermissions}
 
 pub memory_is_root : IsRoot memory_root
 unfolding memory_root
@@ -19,7 +19,7 @@ sealing_is_root = record { low = refl; unsealed = refl }
 
 -- legal, and spelled by the root
 abbrev pub Taken : ℕ → ℕ → Type 0
-Taken root set = IsLegal set × Spells root set
+Taken root set = IsLegal set × SpellsPermissions root set
 
 -- the rights of each kind of entry, and those that a row of a device or a shared object may have
 pub record KindsTaken : Type 0 where

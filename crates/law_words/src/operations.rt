@@ -7,7 +7,7 @@ ghost use Rattle.def_words.specs.declared.Shadow.{Shadow};
 ghost use Rattle.def_words.specs.Authority.{cap_bounds, permission_bits};
 ghost use Rattle.def_words.specs.Capability.{IsSettled, integer, masked, raised, sealed_by, unsealed_by, untagged, with_address, with_bounds, with_exact_bounds};
 ghost use Rattle.def_words.specs.Derive.{derive};
-ghost use Rattle.def_words.specs.Jumped.{linked, opened};
+ghost use Rattle.def_words.specs.Jumped.{return_link, opened};
 ghost use Rattle.def_words.specs.Loaded.{attenuated};
 ghost use Rattle.def_words.specs.Narrows.{IsLink, IsMade, IsOpened, Narrows, Unsealed};
 ghost use Rattle.def_words.specs.Permissions.{execute, has, memory_capability, normal_set, unpacked};
@@ -54,7 +54,7 @@ pub fn results_settle()
     ensures loads { (by c : Cap) → IsSettled (attenuated by c) }
     ensures clears { (c : Cap) → IsSettled (untagged c) }
     ensures opens { (c : Cap) → IsSettled (opened c) }
-    ensures links { (pcc : Cap) (before : Posture) → IsSettled (linked pcc before) }
+    ensures links { (pcc : Cap) (before : Posture) → IsSettled (return_link pcc before) }
     ensures integers { (n : ℕ) → IsSettled (integer n) }
     ensures derives { (high base length set address kind : ℕ) (from : Shadow)
         → IsSettled (derive high base length set address kind from) }
@@ -89,7 +89,7 @@ pub fn jumps_open_and_link()
     ensures opens_at { (c : Cap) (a : ℕ) → a < 2 ^ 32 → (with_address (opened c) a).tag ≡ true
         → IsOpened c (with_address (opened c) a) }
     ensures links { (pcc : Cap) (before : Posture) → has pcc execute ≡ true
-        → (linked pcc before).tag ≡ true → IsLink pcc before (linked pcc before) }
+        → (return_link pcc before).tag ≡ true → IsLink pcc before (return_link pcc before) }
 {}
 
 /// Derivation from a root makes exactly the capability that it is asked for, with the shadow given.

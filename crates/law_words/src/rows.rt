@@ -9,7 +9,7 @@ ghost use Rattle.def_words.specs.Derive.{derive, executable_root, memory_root, r
 ghost use Rattle.def_words.specs.LeastBounds.{align_mask_of, rounded_of, round_length_of};
 ghost use Rattle.def_words.specs.Permissions.{IsLegal, cap_perms, execute, global, load_data, load_global, load_mutable, memory_capability, normal_set, sealing, store_data, store_local, system_registers, unsealing, user};
 ghost use Rattle.def_words.specs.Seals.{cap_seal};
-ghost use Rattle.def_words.specs.Facts.{IsRoot, Spells};
+ghost use Rattle.def_words.specs.Facts.{IsRoot, SpellsPermissions};
 
 /// The three roots: all addresses at every address, and all permissions of their forms.
 pub fn roots_hold_all()
@@ -62,15 +62,15 @@ pub fn bits_are_permissions()
 
 /// The rights of each kind of entry are legal, and the root that boot takes them from spells them.
 pub fn rights_are_spelled()
-    ensures code { IsLegal CODE_RIGHTS × Spells executable_root CODE_RIGHTS }
-    ensures service { IsLegal SERVICE_RIGHTS × Spells executable_root SERVICE_RIGHTS }
-    ensures globals { IsLegal GLOBALS_RIGHTS × Spells memory_root GLOBALS_RIGHTS }
-    ensures heap { IsLegal HEAP_RIGHTS × Spells memory_root HEAP_RIGHTS }
-    ensures stack { IsLegal STACK_RIGHTS × Spells memory_root STACK_RIGHTS }
-    ensures sealed { IsLegal SEALED_RIGHTS × Spells memory_root SEALED_RIGHTS }
-    ensures export { IsLegal EXPORT_RIGHTS × Spells memory_root EXPORT_RIGHTS }
-    ensures quota { IsLegal QUOTA_RIGHTS × Spells memory_root QUOTA_RIGHTS }
-    ensures key { IsLegal KEY_RIGHTS × Spells sealing_root KEY_RIGHTS }
+    ensures code { IsLegal CODE_RIGHTS × SpellsPermissions executable_root CODE_RIGHTS }
+    ensures service { IsLegal SERVICE_RIGHTS × SpellsPermissions executable_root SERVICE_RIGHTS }
+    ensures globals { IsLegal GLOBALS_RIGHTS × SpellsPermissions memory_root GLOBALS_RIGHTS }
+    ensures heap { IsLegal HEAP_RIGHTS × SpellsPermissions memory_root HEAP_RIGHTS }
+    ensures stack { IsLegal STACK_RIGHTS × SpellsPermissions memory_root STACK_RIGHTS }
+    ensures sealed { IsLegal SEALED_RIGHTS × SpellsPermissions memory_root SEALED_RIGHTS }
+    ensures export { IsLegal EXPORT_RIGHTS × SpellsPermissions memory_root EXPORT_RIGHTS }
+    ensures quota { IsLegal QUOTA_RIGHTS × SpellsPermissions memory_root QUOTA_RIGHTS }
+    ensures key { IsLegal KEY_RIGHTS × SpellsPermissions sealing_root KEY_RIGHTS }
 {}
 
 /// Removing LD from GL LG LM LD MC EX leaves GL.

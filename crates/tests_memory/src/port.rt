@@ -280,7 +280,7 @@ fn interrupted_reads(rt: HostRuntime) -> Result<(), Fail> {
         inner: Cursor::new(b"abcdef".as_slice()),
         calls: 0,
     };
-    let read = read_front(rt.alloc(), reader, 4)?;
+    let read = read_front(rt.alloc(), reader, 3)?;
     same_bytes(&rt, read.as_slice(), b"abcd".as_slice());
     Ok(())
 }

@@ -1,7 +1,7 @@
 use Rattle.def_boot.specs.Booting.{Stage}
-use Rattle.def_boot.specs.Written.{InCompartment, OfFirst}
+use Rattle.def_boot.specs.Written.{InCompartment, InFirst}
 use Rattle.ct_boot.proofs.filling.put_compartments.Given as goal
 
 -- those so far are booted
 abbrev pub invariant-loop-of : goal.invariant-loop-of
-invariant-loop-of g l = Stage l.parts (g.M.Memory.granules l.fn.mem) (g.M.Memory.granules l.mem) (OfFirst InCompartment l.parts.compartments l.of)
+invariant-loop-of g l = Stage l.parts (g.M.Memory.granules l.fn.mem) (g.M.Memory.granules l.mem) (InFirst InCompartment l.parts.compartments l.of)

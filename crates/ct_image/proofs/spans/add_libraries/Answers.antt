@@ -1,6 +1,6 @@
 use Rattle.std.proofs.Common.{◌+◌, [], ◌∷◌, ◌++◌, refl, ap, ◌∙◌, arith}
 use Rattle.def_image.specs.Parts.{CodeRow}
-use Rattle.def_image.specs.Regions.{TrustedPart, region}
+use Rattle.def_image.specs.Regions.{TrustedPart, region_row}
 use Rattle.ct_image_parts.specs.Places.{library_bytes}
 use Rattle.ct_image_limits.proofs.At.{left_at}
 use Rattle.ct_image.specs.Spans.{rows_of, library_rows}
@@ -15,7 +15,7 @@ loop-library-preserved c =
     let at = c.loop-library.place in
     record {
       place = omega (arith, c.loop-library.invariant.place, left_at library_bytes i all x (omega arith) c.library-item.is, c.library_bytes-place.ensures);
-      rows = rw c.library_bytes-place.ensures (adds library_rows (λ n (s : CodeRow). region TrustedPart (n + 32) s.base s.length ∷ []) library_bytes (λ n y ys. refl) at i all x (rows_of c.loop-library.spans.items) _ _ (omega arith) c.library-item.is (pushed _ _ _ c.in_ok-push.ensures.items ∙ ap (λ (s : CodeRow). rows_of c.loop-library.spans.items ++ region TrustedPart (at + 32) s.base s.length ∷ []) c.library.view_is) c.loop-library.invariant.rows);
+      rows = rw c.library_bytes-place.ensures (adds library_rows (λ n (s : CodeRow). region_row TrustedPart (n + 32) s.base s.length ∷ []) library_bytes (λ n y ys. refl) at i all x (rows_of c.loop-library.spans.items) _ _ (omega arith) c.library-item.is (pushed _ _ _ c.in_ok-push.ensures.items ∙ ap (λ (s : CodeRow). rows_of c.loop-library.spans.items ++ region_row TrustedPart (at + 32) s.base s.length ∷ []) c.library.view_is) c.loop-library.invariant.rows);
     }
 
 pub returns : goal.returns

@@ -1,6 +1,6 @@
 use Rattle.std.proofs.Common.{sym, ap, ◌∙◌, take, map, arith}
 use Rattle.def_image.specs.Checks.{first}
-use Rattle.def_image.specs.Limits.{compartment_limits, compartment_limits_by, compartment_name, compartment_entries}
+use Rattle.def_image.specs.Limits.{compartment_limits, compartment_limits_by, compartment_name, raw_compartment_entries}
 use Rattle.def_image.specs.Sizes.{compartment_size}
 use Rattle.law_image.proofs.Walks.{ends}
 use Rattle.ct_image_limits.proofs.At.{goes_at, stops_at, left_at, more_at}
@@ -21,7 +21,7 @@ loop-index-preserved c =
     let i = c.loop-index.index in
     let numbered = ap (λ n. first (compartment_limits_by n c.loop-index.place (map compartment_name (take i all)) x)) c.loop-index.invariant.entry in
     let left = left_at compartment_size i all x c.loop-index-test.true c.index-compartments-index.is in
-    let more = more_at compartment_entries i all x c.loop-index-test.true c.index-compartments-index.is in
+    let more = more_at raw_compartment_entries i all x c.loop-index-test.true c.index-compartments-index.is in
     record {
       place = omega (arith, c.loop-index.invariant.place, left, c.compartment_size-place.ensures);
       entry = omega (arith, c.loop-index.invariant.entry, more, c.compartment_entries-entry.ensures.value);

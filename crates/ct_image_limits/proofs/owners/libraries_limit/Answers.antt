@@ -1,6 +1,6 @@
 use Rattle.std.proofs.Common.{sym, ap, ◌∙◌, ◌++◌, take, map, arith}
 use Rattle.def_image.specs.Checks.{first as first_of}
-use Rattle.def_image.specs.Limits.{library_limits_by, compartment_name, library_name, library_entries}
+use Rattle.def_image.specs.Limits.{library_limits_by, compartment_name, library_name, raw_library_entries}
 use Rattle.def_image.specs.Sizes.{library_size}
 use Rattle.law_image.proofs.Walks.{ends}
 use Rattle.ct_image_limits.specs.Owners.{library_asked}
@@ -24,7 +24,7 @@ loop-index-preserved c =
     let owners = c.args.compartments.now in
     let numbered = ap (λ n. first_of (library_limits_by n c.loop-index.place (map compartment_name owners ++ map library_name (take i all)) x)) c.loop-index.invariant.entry in
     let left = left_at library_size i all x c.loop-index-test.true c.index-libraries-index.is in
-    let more = more_at library_entries i all x c.loop-index-test.true c.index-libraries-index.is in
+    let more = more_at raw_library_entries i all x c.loop-index-test.true c.index-libraries-index.is in
     record {
       place = omega (arith, c.loop-index.invariant.place, left, c.library_size-place.ensures);
       entry = omega (arith, c.loop-index.invariant.entry, more, c.library_entries-entry.ensures.value);

@@ -1,6 +1,6 @@
 use Rattle.std.proofs.Common.{ℕ, ◌+◌, ◌≡◌, ◌<◌, ◌≤◌, List, [], ◌∷◌, ◌++◌, get_or, length, drop, refl, arith, sym, ap, ◌∙◌, subst}
 use Rattle.def_layout.specs.declared.Region.{Region}
-use Rattle.def_layout.specs.Placement.{region_base, region_length, region, last_end, placed}
+use Rattle.def_layout.specs.Placement.{region_base, region_length, region_from, last_end, placed}
 use Rattle.law_layout.proofs.Placing.{next_end, grows}
 use Rattle.ct_layout.proofs.Walking.{last_after, small_after, ends_under, placed_after, none_placed}
 use Rattle.ct_layout.proofs.ends.placed.Goals as goal
@@ -45,8 +45,8 @@ pub loop-size-preserved : goal.loop-size-preserved
 loop-size-preserved c =
     let lt : c.loop-size.size-index < length c.args.sizes.now = omega arith in
     let ended : next_end c.loop-size.end (get_or c.args.sizes.now c.loop-size.size-index 0) ≡ c.region_base-base.result + c.region_length-length.result = cc in
-    let one : region (region_base c.loop-size.end (get_or c.args.sizes.now c.loop-size.size-index 0)) (region_length (get_or c.args.sizes.now c.loop-size.size-index 0)) ≡ region c.region_base-base.result c.region_length-length.result = cc in
-    let pushed : c.push.new.self.items ≡ c.loop-size.regions.items ++ region (region_base c.loop-size.end (get_or c.args.sizes.now c.loop-size.size-index 0)) (region_length (get_or c.args.sizes.now c.loop-size.size-index 0)) ∷ [] =
+    let one : region_from (region_base c.loop-size.end (get_or c.args.sizes.now c.loop-size.size-index 0)) (region_length (get_or c.args.sizes.now c.loop-size.size-index 0)) ≡ region_from c.region_base-base.result c.region_length-length.result = cc in
+    let pushed : c.push.new.self.items ≡ c.loop-size.regions.items ++ region_from (region_base c.loop-size.end (get_or c.args.sizes.now c.loop-size.size-index 0)) (region_length (get_or c.args.sizes.now c.loop-size.size-index 0)) ∷ [] =
     c.in_ok-push.ensures.items ∙ ap (λ (r : Region). c.loop-size.regions.items ++ r ∷ []) (sym one) in
     record {
       told =

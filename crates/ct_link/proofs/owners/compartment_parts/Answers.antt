@@ -1,5 +1,5 @@
 use Rattle.std.proofs.Common.{◌+◌, ◌<◌, List, length, refl, sym, ap, ◌∙◌, subst, arith}
-use Rattle.def_desc.specs.Rows.{CompartmentRow, DescRow}
+use Rattle.def_desc.specs.Rows.{DescCompartment, DescRow}
 use Rattle.def_link.specs.Linked.{compartment_parts}
 use Rattle.ct_link.specs.Rows.{IsSized, IsSmallOwner, row_entries}
 use Rattle.ct_link.proofs.Parts.{own_part_pushed}
@@ -24,7 +24,7 @@ compartment_part-requires-clause-object c =
     let l = c.loop-compartment in
     let all = c.as_slice-compartment-items.ensures.value ∙ ap (λ (d : DescRow). d.compartments) c.desc.view_is in
     let low : l.index < length c.args.objects.now =
-    subst (λ n. l.index < n) (ap (λ (r : List CompartmentRow). length r) all ∙ c.requires.own.each) (subst (λ n. n < length c.as_slice-compartment-items.result.now) (sym l.invariant.0) c.loop-compartment-test.true) in
+    subst (λ n. l.index < n) (ap (λ (r : List DescCompartment). length r) all ∙ c.requires.own.each) (subst (λ n. n < length c.as_slice-compartment-items.result.now) (sym l.invariant.0) c.loop-compartment-test.true) in
     here IsSized c.args.objects.now l.index _ c.index-objects-index.result c.requires.own.objects low c.index-objects-index.is
 
 pub entry_count-entry-requires : goal.entry_count-entry-requires

@@ -2,7 +2,7 @@ use Rattle.std.proofs.Common.{◌≡◌, ap, ◌∙◌, None}
 use Rattle.std.proofs.Math.ListN.{get_or}
 use Rattle.std.specs.Prelude.{string_bytes}
 use Rattle.std.proofs.lemmas.Slice.Eq.{bytes_eq-Decides}
-use Rattle.def_port.specs.Forms.{FileRow, IsFirstOf, file_of}
+use Rattle.def_port.specs.Forms.{FileRow, IsFirstOf, file_named}
 use Rattle.ct_port.proofs.Files.{put_at, put_last}
 use Rattle.ct_port.proofs.lists.put.Goals as goal
 
@@ -17,5 +17,5 @@ returns-in-Some-clause-ok c =
 
 pub returns-in_ok-push-in-None-clause-ok : goal.returns-in_ok-push-in-None-clause-ok
 returns-in_ok-push-in-None-clause-ok c =
-    let none : file_of c.args.files.now.items c.args.name.now ≡ None = rw c.as_slice.ensures.value at c.in-None.ensures in
+    let none : file_named c.args.files.now.items c.args.name.now ≡ None = rw c.as_slice.ensures.value at c.in-None.ensures in
     λ n. rw (c.in_ok-push-in-None.ensures.items, c.in_ok-bytes.ensures.items, c.in_ok-name-in-None.ensures.ok) (put_last c.args.files.now.items c.args.name.now c.args.bytes.now n none)

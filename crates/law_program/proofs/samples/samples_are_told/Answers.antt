@@ -1,7 +1,7 @@
 use Rattle.std.proofs.Common.{inr, [], ◌∷◌, None, Ok, Err, codes, drop, length, refl, sym, subst, take}
 use Rattle.std.specs.Fmt.{digits}
 use Rattle.ct_entry.specs.declared.rows.Owner.TheVariants.{Compartment}
-use Rattle.def_desc.specs.Tables.{kind_of, posture_of, library_posture_of, passes_of, service_of}
+use Rattle.def_desc.specs.Tables.{device_kind_named, posture_of, library_posture_of, passes_of, service_of}
 use Rattle.def_link.specs.declared.LinkFault.TheVariants as fault
 use Rattle.def_program.specs.Commands.{Audit, Image, Run, file_of}
 use Rattle.def_program.specs.Turns.{Asks, FollowsBy, OfSources, source_names}
@@ -36,7 +36,7 @@ returns-clause-by_source c = λ name bytes limit w.
     inr (filed, (w, of_rows (Run name limit None) filed (tiny_source ∷ []) _ (Ok tiny) no_other one c.samples_are_linked.ensures.source refl))
 
 pub returns-clause-mnemonic : goal.returns-clause-mnemonic
-unfolding digits kind_of posture_of library_posture_of passes_of service_of
+unfolding digits device_kind_named posture_of library_posture_of passes_of service_of
 returns-clause-mnemonic c = λ name bytes w.
     inr (filed, (w, of_rows (Audit name) filed (unknown_mnemonic ∷ []) _ (Err (fault.Asm (Compartment 0) 2 2)) no_other one c.samples_are_linked.ensures.mnemonic refl))
 
