@@ -61,7 +61,7 @@ MARKED = {
         "inner": "filter load_number load_capability store_quietly access",
     },
     "ct_decode": {
-        "inner": "Decoded::new Decoded::keep Decoded::holds Decoded::reading operands_of class_of",
+        "inner": "Decoded::instruction operands_of class_of",
     },
     "ct_layout": {
         "inner": "region_length",
@@ -158,8 +158,11 @@ MARKED = {
     },
     "ct_threads": {
         "inner":
-            "access call_row return_row end_row next fetch_trap fetch_word handle_row value_of read read_ref jump_row "
-            "put_row branch_row filter_row begin stop_row pick_row Window::empty Window::holds window_of",
+            "access call_row return_row end_row next fetch_trap handle_row value_of read read_ref jump_row "
+            "branch_row filter_row begin stop_row pick_row Window::empty Window::holds window_of",
+    },
+    "ct_burst": {
+        "inner": "burst once",
     },
     "ct_engine": {
         "inner":
@@ -167,15 +170,13 @@ MARKED = {
             "Engine::register Engine::pcc Engine::posture Engine::actor Engine::jump_to Engine::stop "
             "Engine::pick Engine::call Engine::return_to_caller Engine::unwind Engine::handle "
             "Engine::is_handling Engine::end_handler Engine::next Engine::loadstore Engine::allocate "
-            "Engine::free Engine::made Engine::remaining Engine::quarantined Engine::address "
-            "Engine::address_in Engine::register_ref Engine::pcc_ref Engine::window Engine::fetch "
-            "Engine::put_number Engine::put Engine::branch_to Engine::load_number Engine::load_capability "
-            "Engine::store_register Engine::find Engine::is_key Engine::opens Engine::allocate_sealed "
-            "Engine::has_sweep Engine::sweep calls_written ends_written handlers_written grants_written "
-            "sweeps_written",
+            "Engine::free Engine::made Engine::remaining Engine::quarantined Engine::window Engine::burst "
+            "Engine::once "
+            "Engine::find Engine::is_key Engine::opens Engine::allocate_sealed Engine::has_sweep Engine::sweep "
+            "calls_written ends_written handlers_written grants_written sweeps_written",
     },
     "ct_execute": {
-        "inner": "execute executed_decided running_opened execute_quietly",
+        "inner": "execute executed_decided running_opened",
     },
     "ct_services": {
         "inner": "answer switch allocate remaining rest wait wake token_key token_new",

@@ -2,17 +2,16 @@
 use Rattle.std.proofs.Common.{ℕ, zero, suc, ◌≡◌, ◌∙◌, List, length, replicate, ◌<◌, slice_set, slice_index_or, subst, sym, ap, nat_eq, true}
 use Rattle.std.proofs.lemmas.Bool.{eqb-true}
 use Rattle.std.proofs.lemmas.List.{get_or_read_under, length-set, length-replicate}
-use Rattle.ct_loadstore.specs.Shapes.{IsShape}
+use Rattle.def_step.specs.Operands.{operands_of}
 use Rattle.ct_decode.specs.declared.reading.Reading.{Reading}
 use Rattle.ct_decode.specs.declared.decoded.TheConstants.{SLOTS}
 use Rattle.ct_decode.specs.Reading.{reading_of, AreRegisters, IsRead, AreRead}
 use Rattle.law_lists.proofs.Sets.{after_set}
 
-pub one_read : (r : Reading) (word : ℕ) → r ≡ reading_of word → r.word ≡ word → AreRegisters r.operands → IsShape r.access → IsRead r
-one_read r word is same registers shape = record {
+pub one_read : (r : Reading) (word : ℕ) → r ≡ reading_of word → r.word ≡ word → AreRegisters (operands_of r.instruction) → IsRead r
+one_read r word is same registers = record {
   is = is ∙ ap reading_of (sym same);
   registers = registers;
-  shape = shape;
 }
 
 pub kept_read : (rows : List Reading) (i : ℕ) (r : Reading) → AreRead rows → IsRead r → AreRead (slice_set rows i r)

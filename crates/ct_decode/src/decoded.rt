@@ -1,11 +1,12 @@
 //! The words that were met last.
 
-ghost use Rattle.std.specs.Prelude.{ℕ, ◌≡◌, ◌==◌, ◌<◌, IfOk, true};
-ghost use Rattle.ct_loadstore.specs.Shapes.{IsShape};
+ghost use Rattle.std.specs.Prelude.{◌≡◌, ◌<◌, slice_index_or, true};
+ghost use Rattle.def_step.specs.Operands.{operands_of};
 ghost use Rattle.ct_decode.specs.declared.decoded.TheConstants.{SLOTS};
-ghost use Rattle.ct_decode.specs.Reading.{slot_for, reading_of, slot_of, AreRegisters, IsRead};
+ghost use Rattle.ct_decode.specs.Reading.{read_as, reading_of, AreRegisters, IsRead};
 
 use crate::reading::{Reading, read};
+use def_instr::Instr;
 use def_refusals::NoMemory;
 use std::alloc::Global;
 use std::marker::Model;
@@ -39,8 +40,7 @@ impl Model for Decoded {
 /// The slot of an address.
 #[inline(always)]
 fn slot_of(at: u32) -> usize
-    ensures is { result ≡ slot_of at }
-    ensures fits { result < SLOTS }
+    ensures { result < SLOTS }
 {
     (at / 4) as usize % SLOTS
 }
@@ -55,58 +55,67 @@ fn reading_beside(kept: &Reading, word: u32) -> Reading
 }
 
 impl Decoded {
-    /// No word has been met: each slot holds what word 0 says.
+    /// No word has been met.
     ///
     /// `NoMemory` where the allocator has no room for the slots.
-    pub fn new(alloc: Global) -> Result<Decoded, NoMemory>
-        ensures { IfOk result (λ d. (at : ℕ) → slot_for d at ≡ reading_of 0) }
-    {
+    pub fn new(alloc: Global) -> Result<Decoded, NoMemory> {
         let rows = vec![in alloc; read(0); SLOTS]?;
         let beside = vec![in alloc; read(0); SLOTS]?;
         Ok(Decoded { rows, beside })
     }
 
-    /// What a word at an address says comes into the address's slot, and what stood there beside it.
+    /// What a word says comes into a slot, and what stood there beside it.
     ///
     /// Each is written once, and no other slot: for speed alone, since a slot that holds another word is filled anew.
     #[inline(never)]
-    fn fill(&mut self, at: u32, word: u32)
-        ensures { slot_for self.new at ≡ reading_of word }
+    fn fill(&mut self, slot: usize, word: u32)
+        requires { slot < SLOTS }
+        ensures { slice_index_or self.new slot (reading_of 0) ≡ reading_of word }
     {
-        let slot = slot_of(at);
         let reading = reading_beside(&self.beside[slot], word);
         self.beside[slot] = self.rows[slot];
         self.rows[slot] = reading;
     }
 
-    /// The word at an address is met: after it the address's slot holds what it says. Where the slot holds the same
-    /// word already, or what is kept beside it is that word, nothing is decoded.
+    /// Whether a slot holds what this word says.
     #[inline(always)]
-    pub fn keep(&mut self, at: u32, word: u32)
-        ensures { slot_for self.new at ≡ reading_of word }
+    fn holds(&self, slot: usize, word: u32) -> bool
+        requires { slot < SLOTS }
+        ensures { result ≡ true → slice_index_or self.now slot (reading_of 0) ≡ reading_of word }
     {
-        if !self.holds(at, word) {
-            self.fill(at, word);
+        self.rows[slot].word == word
+    }
+
+    /// After it a slot holds what a word says.
+    #[inline(always)]
+    fn keep(&mut self, slot: usize, word: u32)
+        requires { slot < SLOTS }
+        ensures { slice_index_or self.new slot (reading_of 0) ≡ reading_of word }
+    {
+        if !self.holds(slot, word) {
+            self.fill(slot, word);
         }
     }
 
-    /// Whether an address's slot holds what this word says.
+    /// The instruction that a slot holds.
     #[inline(always)]
-    pub fn holds(&self, at: u32, word: u32) -> bool
-        ensures when { result ≡ ((slot_for self.now at).word == word) }
-        ensures is { result ≡ true → slot_for self.now at ≡ reading_of word }
+    fn held(&self, slot: usize) -> &Instr
+        requires { slot < SLOTS }
+        ensures is { result.now ≡ (slice_index_or self.now slot (reading_of 0)).instruction }
+        ensures registers { AreRegisters (operands_of result.now) }
     {
-        self.rows[slot_of(at)].word == word
+        &self.rows[slot].instruction
     }
 
-    /// What an address's slot holds: what the word says that was met last at any address of the slot, or word 0 where
-    /// none was.
+    /// What the word at an address says; a word that is no instruction's reads as the breakpoint. Where the address's
+    /// slot holds the same word already, or what is kept beside it is that word, nothing is decoded.
     #[inline(always)]
-    pub fn reading(&self, at: u32) -> &Reading
-        ensures is { result.now ≡ slot_for self.now at }
-        ensures registers { AreRegisters result.now.operands }
-        ensures shape { IsShape result.now.access }
+    pub fn instruction(&mut self, at: u32, word: u32) -> &Instr
+        ensures is { result.now ≡ read_as word }
+        ensures registers { AreRegisters (operands_of result.now) }
     {
-        &self.rows[slot_of(at)]
+        let slot = slot_of(at);
+        self.keep(slot, word);
+        self.held(slot)
     }
 }

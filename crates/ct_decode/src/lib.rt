@@ -1,5 +1,5 @@
 //! Words of code, decoded once: what an instruction's word says is kept, and given again where the same word is met at
-//! the same place.
+//! the same place; and of an instruction the registers and the class.
 #![tactic(auto)]
 
 mod decoded;
@@ -8,4 +8,3 @@ mod reading;
 
 pub use decoded::Decoded;
 pub use operands::{class_of, operands_of};
-pub use reading::Reading;

@@ -26,10 +26,10 @@ stays_on run t = λ u no_. refl
 
 pub call_areas : (gs hs : List Granule) (rows : Rows) (t : ℕ) (r q : row.Thread) → IsEngine gs rows → rows.running ≡ Some t → r ≡ get_or rows.list.items t r
     → Touches (area_begin r.area) (area_end r.area) gs hs → q.area ≡ r.area → IsKept hs true q
-    → AreasFrom rows.region.ram hs rows.running 0 rows.region.trusted rows.region.end (set rows.list.items t q)
+    → AreasFrom rows.region.ram hs rows.standing 0 rows.region.trusted rows.region.end (set rows.list.items t q)
 call_areas gs hs rows t r q holds runs is touches place kept =
-    areas_turn rows.region gs hs rows.list.items rows.running rows.running t r q holds.areas (holds.runs t runs) is touches (stays_on rows.running t) place
-    (subst (λ b. IsKept hs b q) (sym (runs_it rows t runs)) kept)
+    areas_turn rows.region gs hs rows.list.items rows.standing rows.standing t r q holds.areas (holds.stands t (holds.runs t runs)) is touches (stays_on rows.standing t) place
+    (subst (λ b. IsKept hs b q) (sym (runs_it rows t (holds.runs t runs))) kept)
 
 -- ---- the running thread goes on or ends
 

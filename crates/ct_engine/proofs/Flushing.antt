@@ -153,8 +153,8 @@ none_stale objects gs rows v is holds left k =
     elim (bool_tells (hidden gs rows k)) [
       | inl e ↦ elim (hidden_cases gs rows k holds e) [
         | inl region ↦ (let place = hidden_place rows.region k region in
-            areas_clean objects rows.region.ram gs rows.running 0 rows.region.trusted rows.region.end rows.list.items holds.areas mine.frames
-            (λ t off. mine.stopped t (λ runs. off (let same : 0 + t ≡ t = omega arith in rw same runs))) k place.0 place.1)
+            areas_clean objects rows.region.ram gs rows.standing 0 rows.region.trusted rows.region.end rows.list.items holds.areas mine.frames
+            (λ t off. mine.stopped t (λ runs. off (let same : 0 + t ≡ t = omega arith in rw same (holds.runs t runs)))) k place.0 place.1)
         | inr heap ↦ (λ tagged some. absurd (let clash : true ≡ false = sym tagged ∙ holds.heap.clear k heap in cc))
       ]
       | inr e ↦ same_clean objects (cap_in gs k) (cap_in (engine_view gs rows).granules k) (ap (λ (g : Granule). g.cap) (sym (seen_at (hidden gs rows) gs k e))) (mine.granules k)

@@ -1,8 +1,6 @@
 -- The running thread goes on.
 use Rattle.std.proofs.Common.{ℕ, suc, ◌≡◌, ◌<◌, true, List, ◌∷◌, length, Some, refl, sym, ap, ◌∙◌, subst, arith}
 use Rattle.std.proofs.Math.ListN.{get_or, set}
-use Rattle.std.proofs.lemmas.List.{length-set}
-use Rattle.std.specs.Vec.{with_item}
 use Rattle.def_words.specs.declared.Cap.{Cap}
 use Rattle.def_words.specs.declared.Posture.{Posture}
 use Rattle.def_memory.specs.declared.Granule.{Granule}
@@ -21,14 +19,13 @@ use Rattle.ct_engine.specs.Seen.{engine_view, thread, after_jump, seen_of}
 use Rattle.ct_engine.specs.Kept.{AreasFrom, IsEngine}
 use Rattle.ct_engine.proofs.Whole.{runs_it, thread_is, seen_turn, running_kept}
 use Rattle.ct_engine.proofs.Ends.{call_areas, stays_on}
-use Rattle.ct_engine.proofs.Stacks.{stacks_turn}
 use Rattle.law_areas.proofs.Changes.{unchanged}
 
 -- what is seen of the running thread is its row
 pub running_is : (gs : List Granule) (rows : Rows) (t : ℕ) (r : row.Thread) → IsEngine gs rows → rows.running ≡ Some t → r ≡ get_or rows.list.items t r
     → thread (engine_view gs rows) t ≡ living gs true r
 running_is gs rows t r holds runs is =
-    thread_is gs rows.list.items rows.running t r true (holds.runs t runs) is (runs_it rows t runs)
+    thread_is gs rows.list.items rows.standing t r true (holds.stands t (holds.runs t runs)) is (runs_it rows t (holds.runs t runs))
     ∙ alive_is gs true r ((running_kept gs rows t r holds runs is).kept.alive refl)
 
 -- it has an innermost frame, of its row's compartment
@@ -36,7 +33,7 @@ pub running_frames : (gs : List Granule) (rows : Rows) (t : ℕ) (r : row.Thread
     → (thread (engine_view gs rows) t).frames ≡ inner_frame gs r ∷ outer_frames gs r
 running_frames gs rows t r holds runs is =
     let alive : 0 < r.depth = (running_kept gs rows t r holds runs is).kept.alive refl in
-    let row_is : thread (engine_view gs rows) t ≡ thread_of gs true r = thread_is gs rows.list.items rows.running t r true (holds.runs t runs) is (runs_it rows t runs) in
+    let row_is : thread (engine_view gs rows) t ≡ thread_of gs true r = thread_is gs rows.list.items rows.standing t r true (holds.stands t (holds.runs t runs)) is (runs_it rows t (holds.runs t runs)) in
     ap (λ (u : Thread). u.frames) row_is ∙ frames_are gs true r alive
 
 pub running_actor : (gs : List Granule) (rows : Rows) (t : ℕ) (r : row.Thread) → IsEngine gs rows → rows.running ≡ Some t → r ≡ get_or rows.list.items t r
@@ -51,44 +48,21 @@ running_some gs rows t r holds runs is =
 
 pub jump_areas : (gs : List Granule) (rows : Rows) (t : ℕ) (r q : row.Thread) (pcc : Cap) (posture : Posture) (to : ℕ) (value : Cap) → IsEngine gs rows → rows.running ≡ Some t
     → r ≡ get_or rows.list.items t r → q ≡ row_gone r pcc posture to value
-    → AreasFrom rows.region.ram gs rows.running 0 rows.region.trusted rows.region.end (set rows.list.items t q)
+    → AreasFrom rows.region.ram gs rows.standing 0 rows.region.trusted rows.region.end (set rows.list.items t q)
 jump_areas gs rows t r q pcc posture to value holds runs is gone =
-    subst (λ (u : row.Thread). AreasFrom rows.region.ram gs rows.running 0 rows.region.trusted rows.region.end (set rows.list.items t u)) (sym gone)
+    subst (λ (u : row.Thread). AreasFrom rows.region.ram gs rows.standing 0 rows.region.trusted rows.region.end (set rows.list.items t u)) (sym gone)
     (call_areas gs gs rows t r (row_gone r pcc posture to value) holds runs is (unchanged gs (area_begin r.area) (area_end r.area)) refl
     (gone_kept gs r pcc posture to value (running_kept gs rows t r holds runs is).kept))
 
 pub jump_seen : (gs : List Granule) (rows : Rows) (t : ℕ) (r q : row.Thread) (pcc : Cap) (posture : Posture) (to : ℕ) (value : Cap) → IsEngine gs rows → rows.running ≡ Some t
     → r ≡ get_or rows.list.items t r → q ≡ row_gone r pcc posture to value
-    → seen_of gs rows (set rows.list.items t q) rows.running ≡ after_jump (engine_view gs rows) t pcc posture to value
+    → seen_of gs rows (set rows.list.items t q) rows.standing rows.running ≡ after_jump (engine_view gs rows) t pcc posture to value
 jump_seen gs rows t r q pcc posture to value holds runs is gone =
     let alive : 0 < r.depth = (running_kept gs rows t r holds runs is).kept.alive refl in
     let new : thread_of gs true (row_gone r pcc posture to value) ≡ jumped (thread (engine_view gs rows) t) pcc posture to value =
     alive_is gs true (row_gone r pcc posture to value) alive
     ∙ ap (λ (u : Thread). jumped u pcc posture to value) (sym (running_is gs rows t r holds runs is)) in
-    subst (λ (u : row.Thread). seen_of gs rows (set rows.list.items t u) rows.running ≡ after_jump (engine_view gs rows) t pcc posture to value) (sym gone)
-    (seen_turn rows gs gs rows.list.items rows.running rows.running t r (row_gone r pcc posture to value) (jumped (thread (engine_view gs rows) t) pcc posture to value)
-    holds.areas holds.heap (holds.runs t runs) is (unchanged gs (area_begin r.area) (area_end r.area)) (stays_on rows.running t) refl
-    (subst (λ b. thread_of gs b (row_gone r pcc posture to value) ≡ jumped (thread (engine_view gs rows) t) pcc posture to value) (sym (runs_it rows t runs)) new))
-
--- ---- it goes on from its own program counter, with its own posture
-
--- these rows, of which one is another
-abbrev pub put_row : Rows → ℕ → row.Thread → Rows
-put_row rows t q = record rows { list = with_item rows.list t q }
-
-pub own_holds : (gs : List Granule) (rows : Rows) (t : ℕ) (r q : row.Thread) (f : Cap → Cap) (to : ℕ) (value : Cap) → IsEngine gs rows → rows.running ≡ Some t
-    → r ≡ get_or rows.list.items t r → q ≡ row_gone r (f r.pcc) r.posture to value → IsEngine gs (put_row rows t q)
-own_holds gs rows t r q f to value holds runs is gone = record {
-  areas = jump_areas gs rows t r q (f r.pcc) r.posture to value holds runs is gone;
-  runs = λ u e. (let lt = holds.runs u e in let size = length-set rows.list.items t q in omega (arith, lt, size));
-  stacks = stacks_turn gs gs rows t r q holds (holds.runs t runs) is refl (ap (λ (u : row.Thread). u.area) gone);
-  heap = holds.heap;
-  room = holds.room;
-}
-
-pub own_seen : (gs : List Granule) (rows : Rows) (t : ℕ) (r q : row.Thread) (f : Cap → Cap) (to : ℕ) (value : Cap) → IsEngine gs rows → rows.running ≡ Some t
-    → r ≡ get_or rows.list.items t r → q ≡ row_gone r (f r.pcc) r.posture to value
-    → seen_of gs rows (set rows.list.items t q) rows.running ≡ after_jump (engine_view gs rows) t (f (thread (engine_view gs rows) t).pcc) (thread (engine_view gs rows) t).posture to value
-own_seen gs rows t r q f to value holds runs is gone =
-    jump_seen gs rows t r q (f r.pcc) r.posture to value holds runs is gone
-    ∙ ap (λ (u : Thread). after_jump (engine_view gs rows) t (f u.pcc) u.posture to value) (sym (running_is gs rows t r holds runs is))
+    subst (λ (u : row.Thread). seen_of gs rows (set rows.list.items t u) rows.standing rows.running ≡ after_jump (engine_view gs rows) t pcc posture to value) (sym gone)
+    (seen_turn rows gs gs rows.list.items rows.standing rows.standing rows.running t r (row_gone r pcc posture to value) (jumped (thread (engine_view gs rows) t) pcc posture to value)
+    holds.areas holds.heap (holds.stands t (holds.runs t runs)) is (unchanged gs (area_begin r.area) (area_end r.area)) (stays_on rows.standing t) refl
+    (subst (λ b. thread_of gs b (row_gone r pcc posture to value) ≡ jumped (thread (engine_view gs rows) t) pcc posture to value) (sym (runs_it rows t (holds.runs t runs))) new))

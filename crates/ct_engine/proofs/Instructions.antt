@@ -1,8 +1,9 @@
 -- An instruction's fetch, load or store that meets nothing hidden is the one of what is seen.
-use Rattle.std.proofs.Common.{ℕ, ◌≡◌, ◌+◌, ◌-◌, ◌*◌, ◌/◌, ◌%◌, ◌≤◌, Bool, true, false, List, length, Option, Some, None, IfSome, Result, Ok, Err, nat_le, refl, sym, ap, ◌∙◌, subst}
-use Rattle.std.proofs.lemmas.Bool.{leb-true, and_parts}
+use Rattle.std.proofs.Common.{ℕ, ◌≡◌, ◌-◌, ◌/◌, ◌%◌, ◌≤◌, Bool, true, false, List, length, Option, Some, None, Result, Ok, Err, refl, sym, ap, ◌∙◌, subst}
+use Rattle.std.proofs.lemmas.List.{length-set}
 use Rattle.law_lists.proofs.Tests.{chosen}
 use Rattle.law_granules.proofs.Lists.{store_rest, cap_rest}
+use Rattle.law_routines.proofs.Accesses.{by_access, ram_begins}
 use Rattle.def_words.specs.declared.Cap.{Cap}
 use Rattle.def_words.specs.declared.Trap.{Trap}
 use Rattle.def_words.specs.Authority.{cap_address}
@@ -10,12 +11,11 @@ use Rattle.def_words.specs.Loaded.{stored_through}
 use Rattle.def_memory.specs.declared.Granule.{Granule}
 use Rattle.def_memory.specs.Granules.{cap_in}
 use Rattle.def_instr.specs.declared.Instr.{Instr}
-use Rattle.def_instr.specs.Reading.{instruction_in}
 use Rattle.def_step.specs.declared.Access.{Access}
 use Rattle.def_step.specs.Checks.{first_failed}
 use Rattle.def_step.specs.Devices.{DeviceStates}
-use Rattle.def_step.specs.Accesses.{MemoryAndDevices, Accessed, access_of, access_address, access_checks, access_result, accessed, in_ram, on_device, is_ram, ram_stored, unless}
-use Rattle.def_step.specs.Instructions.{next_at, next_word}
+use Rattle.def_step.specs.Accesses.{MemoryAndDevices, Accessed, access_of, access_address, access_checks, access_result, accessed, ram_stored, unless}
+use Rattle.def_step.specs.Instructions.{next_at}
 use Rattle.def_hidden.specs.Hiding.{with_hidden}
 use Rattle.def_safety.specs.HiddenSteps.{hide_space, hide_result, IsSeen, SeesAccess}
 use Rattle.law_hidden.proofs.Granules.{with_hidden_length}
@@ -39,12 +39,6 @@ next_is gs rows v at is open_ =
     let here : IsSeen (hidden gs rows) rows.region.ram at = rw (← is) at open_ in
     sym (next_same (hidden gs rows) (space_of rows.region.ram gs no_bank 0) at here) ∙ ap (λ (s : Seen). next_in s at) is
 
--- of a word
-pub word_is : (gs : List Granule) (rows : Rows) (v : Seen) (at : ℕ) (r : Option ℕ) → engine_view gs rows ≡ v → IsSeen (hides v) v.region.ram at
-    → IfSome r (λ w. next_at (space_of rows.region.ram gs no_bank 0) at ≡ next_word (instruction_in w)) → IfSome r (λ w. next_in v at ≡ next_word (instruction_in w))
-word_is gs rows v at None is open_ e = e
-word_is gs rows v at (Some w) is open_ e = sym (next_is gs rows v at is open_) ∙ e
-
 -- ---- what a load or a store leaves of what is hidden
 
 stored_stays : (h : ℕ → Bool) (a : Access) (x y : Cap) (at ram : ℕ) (gs : List Granule) (k : ℕ) → h ((at - ram) / 8) ≡ false → h k ≡ true
@@ -55,25 +49,48 @@ stored_stays h a x y at ram gs k open_ hidden = chosen (λ (hs : List Granule). 
 
 accessed_stays : (h : ℕ → Bool) (a : Access) (x y : Cap) (at : ℕ) (p : MemoryAndDevices) (k : ℕ) → (p.ram ≤ at → h ((at - p.ram) / 8) ≡ false) → h k ≡ true
     → cap_in (accessed a x y at p).granules k ≡ cap_in p.granules k
-accessed_stays h a x y at p k open_ hidden =
-    let P : Accessed → Type 0 = λ m. cap_in m.granules k ≡ cap_in p.granules k in
-    chosen P (is_ram p at a.width) (in_ram a x y at p) (on_device a x y at p)
-    (λ ram. chosen P a.loads _ _
-    (λ loads. refl)
-    (λ stores. stored_stays h a x y at p.ram p.granules k (open_ (leb-true p.ram at (and_parts (nat_le p.ram at) (nat_le (at + a.width) (p.ram + 8 * length p.granules)) ram).0)) hidden))
-    (λ out. chosen P a.loads _ _ (λ loads. refl) (λ stores. refl))
+accessed_stays h a x y at p k open_ hidden = by_access (λ (m : Accessed). cap_in m.granules k ≡ cap_in p.granules k) a x y at p (record {
+  loads = λ ram is. refl;
+  stores = λ ram is. stored_stays h a x y at p.ram p.granules k (open_ (ram_begins p at a.width ram)) hidden;
+  reads = λ is. refl;
+  writes = λ is. refl;
+})
 
-result_stays : (h : ℕ → Bool) (i : Instr) (x y : Cap) (p : MemoryAndDevices) (m : Accessed) (k : ℕ) → SeesAccess h p.ram i x y → access_result i x y p ≡ Ok m → h k ≡ true
-    → cap_in m.granules k ≡ cap_in p.granules k
+-- what an access comes to whose checks pass
+result_is : (P : Accessed → Type 0) (i : Instr) (x y : Cap) (p : MemoryAndDevices) (m : Accessed)
+    → (first_failed (access_checks (access_of i) x y (access_address (access_of i) x)) ≡ None → P (accessed (access_of i) x y (access_address (access_of i) x) p))
+    → access_result i x y p ≡ Ok m → P m
 unfolding access_result
-result_stays h i x y p m k open_ is hidden = by_checks (first_failed (access_checks (access_of i) x y (access_address (access_of i) x))) open_ is
+result_is P i x y p m done is = by_checks (first_failed (access_checks (access_of i) x y (access_address (access_of i) x))) done is
   where
-    by_checks : (o : Option Trap) → (o ≡ None → p.ram ≤ access_address (access_of i) x → h ((access_address (access_of i) x - p.ram) / 8) ≡ false)
-        → unless o (accessed (access_of i) x y (access_address (access_of i) x) p) ≡ Ok m → cap_in m.granules k ≡ cap_in p.granules k
-    by_checks None see e =
-        let same : accessed (access_of i) x y (access_address (access_of i) x) p ≡ m = cc in
-        subst (λ (n : Accessed). cap_in n.granules k ≡ cap_in p.granules k) same (accessed_stays h (access_of i) x y (access_address (access_of i) x) p k (see refl) hidden)
-    by_checks (Some w) see e = absurd (let clash : Err w ≡ Ok m = e in cc)
+    by_checks : (o : Option Trap) → (o ≡ None → P (accessed (access_of i) x y (access_address (access_of i) x) p))
+        → unless o (accessed (access_of i) x y (access_address (access_of i) x) p) ≡ Ok m → P m
+    by_checks None here e = let same : accessed (access_of i) x y (access_address (access_of i) x) p ≡ m = cc in subst P same (here refl)
+    by_checks (Some w) here e = absurd (let clash : Err w ≡ Ok m = e in cc)
+
+pub result_stays : (h : ℕ → Bool) (i : Instr) (x y : Cap) (p : MemoryAndDevices) (m : Accessed) (k : ℕ) → SeesAccess h p.ram i x y → access_result i x y p ≡ Ok m → h k ≡ true
+    → cap_in m.granules k ≡ cap_in p.granules k
+result_stays h i x y p m k open_ is hidden =
+    result_is (λ (n : Accessed). cap_in n.granules k ≡ cap_in p.granules k) i x y p m
+    (λ passes. accessed_stays h (access_of i) x y (access_address (access_of i) x) p k (open_ passes) hidden) is
+
+-- ---- how many granules there are
+
+stored_size : (a : Access) (x y : Cap) (at ram : ℕ) (gs : List Granule) → length (ram_stored a x y at ram gs) ≡ length gs
+stored_size a x y at ram gs = chosen (λ (hs : List Granule). length hs ≡ length gs) a.whole _ _
+    (λ whole. length-set gs ((at - ram) / 8) _) (λ part. length-set gs ((at - ram) / 8) _)
+
+accessed_size : (a : Access) (x y : Cap) (at : ℕ) (p : MemoryAndDevices) → length (accessed a x y at p).granules ≡ length p.granules
+accessed_size a x y at p = by_access (λ (m : Accessed). length m.granules ≡ length p.granules) a x y at p (record {
+  loads = λ ram is. refl;
+  stores = λ ram is. stored_size a x y at p.ram p.granules;
+  reads = λ is. refl;
+  writes = λ is. refl;
+})
+
+pub result_size : (i : Instr) (x y : Cap) (p : MemoryAndDevices) (m : Accessed) → access_result i x y p ≡ Ok m → length m.granules ≡ length p.granules
+result_size i x y p m is =
+    result_is (λ (n : Accessed). length n.granules ≡ length p.granules) i x y p m (λ passes. accessed_size (access_of i) x y (access_address (access_of i) x) p) is
 
 -- ---- a load or a store, whole
 

@@ -33,6 +33,7 @@ pub record Lays (was gs hs : List Granule) (rows : Rows) (fs : List Fresh) (h : 
   pub may : MayStart was rows.region fs h
   pub begun : HaveBegun rows.region was gs rows.list.items fs
   pub none : rows.running ≡ None
+  pub empty : rows.standing ≡ None
   pub idle : rows.front ≡ None
   pub laid : Laid rows.heap hs
   pub objects : objects_of rows.heap hs ≡ []
@@ -136,7 +137,7 @@ pub laid_seen : (was gs hs : List Granule) (rows : Rows) (fs : List Fresh) (h : 
 laid_seen was gs hs rows fs h l =
     seen_as (started was rows.region fs h) _ _ _ _ _ _ _ _ _ _ _ _ _ _ _ _ _ _ _ _ _ _
     (memory_is was gs hs rows fs h l)
-    (ap (λ o. threads_of hs o 0 rows.list.items) l.none
+    (ap (λ o. threads_of hs o 0 rows.list.items) l.empty
     ∙ threads_same rows.region.ram gs hs None None 0 rows.region.trusted rows.region.end rows.list.items l.begun.areas (region_same was gs hs rows fs h l) (λ u lo. refl) ∙ l.begun.threads)
     l.begun.places
     l.objects
@@ -172,9 +173,10 @@ laid_holds was gs hs rows fs h l =
     let past = l.may.heap.past in
     let size : length hs ≡ length was = l.stays.size ∙ l.begun.size in
     record {
-      areas = subst (λ o. AreasFrom rows.region.ram hs o 0 rows.region.trusted rows.region.end rows.list.items) (sym l.none)
+      areas = subst (λ o. AreasFrom rows.region.ram hs o 0 rows.region.trusted rows.region.end rows.list.items) (sym l.empty)
           (areas_same rows.region.ram gs hs None None 0 rows.region.trusted rows.region.end rows.list.items l.begun.areas l.stays.size (region_same was gs hs rows fs h l) (λ u lo. refl));
       runs = λ u e. none_is u (sym l.none ∙ e);
+      stands = λ u e. none_is u (sym l.empty ∙ e);
       stacks = subst (λ (as_ : List Area). Each (StackLies rows.region rows.heap.range.base (8 * length hs)) as_) (sym l.begun.places)
           (subst (λ b. Each (StackLies rows.region b (8 * length hs)) (map (λ (f : Fresh). f.area) fs)) (sym base)
           (subst (λ m. Each (StackLies rows.region h.range.base (8 * m)) (map (λ (f : Fresh). f.area) fs)) (sym size) l.may.stacks));

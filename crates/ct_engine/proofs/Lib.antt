@@ -17,7 +17,6 @@ pub mod Leaving
 pub mod Handlers
 pub mod AsWritten
 pub mod Sifting
-pub mod Quietly
 pub mod Clear
 pub mod Granted
 pub mod Tables
@@ -29,3 +28,6 @@ pub mod Flushing
 pub mod Revoker
 pub mod Shown
 pub mod Windows
+pub mod Reaching
+pub mod Outcomes
+pub mod Bursts

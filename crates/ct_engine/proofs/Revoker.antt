@@ -272,17 +272,17 @@ pub record Mid (hs : List Granule) (rows : Rows) (v : Seen) (low high : ℕ) : T
   pub holds : IsEngine hs rows
   pub is : engine_view hs rows ≡ with_slice v low high
 
-pub slice_mid : (gs hs : List Granule) (rows : Rows) (v : Seen) (rate : ℕ) (front : Option ℕ) → engine_view gs rows ≡ v → IsEngine gs rows
+pub slice_mid : (gs hs : List Granule) (rows : Rows) (v : Seen) (rate : ℕ) (front : Option ℕ) → engine_view gs rows ≡ v → IsEngine gs rows → rows.standing ≡ rows.running
     → front ≡ Some (min (unwrap_or rows.front 0 + 8 * rate) (8 * length gs)) → IsSliced rows.region.ram (unwrap_or rows.front 0) (unwrap_or front 0) gs hs
     → Mid hs (with_front rows front) v (unwrap_or rows.front 0) (slice_end v rate (unwrap_or rows.front 0))
-slice_mid gs hs rows v rate front is holds ends passed =
+slice_mid gs hs rows v rate front is holds settled ends passed =
     let low : ℕ = unwrap_or rows.front 0 in
     let high : ℕ = min (low + 8 * rate) (8 * length gs) in
     let inside : high ≤ 8 * length gs = omega arith in
     let here : IsSliced rows.region.ram low high gs hs = subst (λ f. IsSliced rows.region.ram low (unwrap_or f 0) gs hs) ends passed in
     record {
       holds = subst (λ f. IsEngine hs (with_front rows f)) (sym ends) (slice_holds gs hs rows low high here holds inside);
-      is = ap (λ f. engine_view hs (with_front rows f)) ends ∙ slice_seen gs hs rows low high here holds
+      is = ap (λ f. engine_view hs (with_front rows f)) ends ∙ slice_seen gs hs rows low high here holds settled
           ∙ ap (λ n. with_slice (engine_view gs rows) low n) (high_is gs rows rate low) ∙ ap (λ s. with_slice s low (slice_end s rate low)) is;
     }
 

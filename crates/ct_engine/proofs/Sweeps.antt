@@ -193,8 +193,9 @@ slice_holds gs hs rows low high is holds inside =
     let f : ℕ → Cap → Cap = λ n c. filtered_between rows.region.ram gs low high n c in
     let kept : IsEngine (kept_granules f 0 gs) (with_front rows (Some high)) = record {
       areas = areas_kept f (passed_keeps rows.region.ram gs low high) (λ n w. plain_passes rows.region.ram gs low high n w)
-          rows.region.ram gs rows.running 0 rows.region.trusted rows.region.end rows.list.items holds.areas;
+          rows.region.ram gs rows.standing 0 rows.region.trusted rows.region.end rows.list.items holds.areas;
       runs = holds.runs;
+      stands = holds.stands;
       stacks = subst (λ n. Each (StackLies rows.region rows.heap.range.base (8 * n)) (map (λ (t : row.Thread). t.area) rows.list.items)) (sym (kept_length f 0 gs)) holds.stacks;
       heap = record {
         laid = (slice_heap rows.region.ram gs low high rows.heap holds.heap.laid).laid;
@@ -211,8 +212,8 @@ slice_objects : (gs hs : List Granule) (rows : Rows) (low high : ℕ) → IsSlic
 slice_objects gs hs rows low high is holds =
     ap (λ xs. objects_of rows.heap xs) (slice_kept rows.region.ram low high gs hs is) ∙ (slice_heap rows.region.ram gs low high rows.heap holds.heap.laid).objects
 
-pub slice_seen : (gs hs : List Granule) (rows : Rows) (low high : ℕ) → IsSliced rows.region.ram low high gs hs → IsEngine gs rows → engine_view hs (with_front rows (Some high)) ≡ with_slice (engine_view gs rows) low high
-slice_seen gs hs rows low high is holds =
+pub slice_seen : (gs hs : List Granule) (rows : Rows) (low high : ℕ) → IsSliced rows.region.ram low high gs hs → IsEngine gs rows → rows.standing ≡ rows.running → engine_view hs (with_front rows (Some high)) ≡ with_slice (engine_view gs rows) low high
+slice_seen gs hs rows low high is holds settled =
     let ram : ℕ = rows.region.ram in
     let v : ℕ → Bool = hidden gs rows in
     let shown : List Granule = with_hidden v gs in
@@ -224,9 +225,10 @@ slice_seen gs hs rows low high is holds =
     let granules : with_hidden v hs ≡ kept_granules f 0 shown =
     ap (λ xs. with_hidden v xs) (slice_kept ram low high gs hs is) ∙ sym (slice_with_hidden v ram gs low high) in
     let begins : BeginAt area ram 0 rows.list.items = λ k lt. (let none : 0 + k ≡ k = omega arith in ap area none) in
-    let threads : threads_of hs rows.running 0 rows.list.items ≡ kept_threads f area rows.running 0 (threads_of gs rows.running 0 rows.list.items) =
-    ap (λ xs. threads_of xs rows.running 0 rows.list.items) memory
-    ∙ threads_kept f (passed_keeps ram shown low high) area ram gs rows.running 0 rows.region.trusted rows.region.end rows.list.items holds.areas begins in
-    ap (λ os. seen_by os (with_front rows (Some high)) hs rows.list.items rows.running) (slice_objects gs hs rows low high is holds)
-    ∙ ap (λ xs. put xs (threads_of hs rows.running 0 rows.list.items)) granules
+    let threads : threads_of hs rows.standing 0 rows.list.items ≡ kept_threads f area rows.running 0 (threads_of gs rows.standing 0 rows.list.items) =
+    ap (λ xs. threads_of xs rows.standing 0 rows.list.items) memory
+    ∙ threads_kept f (passed_keeps ram shown low high) area ram gs rows.standing 0 rows.region.trusted rows.region.end rows.list.items holds.areas begins
+    ∙ ap (λ o. kept_threads f area o 0 (threads_of gs rows.standing 0 rows.list.items)) settled in
+    ap (λ os. seen_by os (with_front rows (Some high)) hs rows.list.items rows.standing rows.running) (slice_objects gs hs rows low high is holds)
+    ∙ ap (λ xs. put xs (threads_of hs rows.standing 0 rows.list.items)) granules
     ∙ ap (λ ts. put (kept_granules f 0 shown) ts) threads

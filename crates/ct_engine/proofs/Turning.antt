@@ -23,35 +23,35 @@ use Rattle.ct_engine.proofs.Stacks.{running_stack, running_area, zeroed_holds, z
 
 pub switched_areas : (gs hs : List Granule) (rows : Rows) (t : ℕ) (r q : row.Thread) (high : ℕ) (now : Option ℕ) → IsEngine gs rows → rows.running ≡ Some t
     → r ≡ get_or rows.list.items t r → high ≤ r.area.stack + r.area.stack_length
-    → Touches (area_begin r.area) (area_end r.area) (zeroed_from r.area.stack high r.area.ram gs) hs → OthersRun rows.running now t → q.area ≡ r.area
+    → Touches (area_begin r.area) (area_end r.area) (zeroed_from r.area.stack high r.area.ram gs) hs → OthersRun rows.standing now t → q.area ≡ r.area
     → IsKept hs (is_number now t) q → AreasFrom rows.region.ram hs now 0 rows.region.trusted rows.region.end (set rows.list.items t q)
 switched_areas gs hs rows t r q high now holds runs is le touches others place kept =
     let base = (running_kept gs rows t r holds runs is).base in
     let ms : List Granule = zeroed_from r.area.stack high rows.region.ram gs in
     let after : Touches (area_begin r.area) (area_end r.area) ms hs =
     subst (λ n. Touches (area_begin r.area) (area_end r.area) (zeroed_from r.area.stack high n gs) hs) base touches in
-    areas_turn rows.region ms hs rows.list.items rows.running now t r q
-    (zeroed_holds gs rows r.area high holds (running_stack gs rows t r holds runs is) le).areas (holds.runs t runs) is after others place kept
+    areas_turn rows.region ms hs rows.list.items rows.standing now t r q
+    (zeroed_holds gs rows r.area high holds (running_stack gs rows t r holds runs is) le).areas (holds.stands t (holds.runs t runs)) is after others place kept
 
-pub switched_seen : (gs hs : List Granule) (rows : Rows) (t : ℕ) (r q : row.Thread) (high : ℕ) (now : Option ℕ) (x : Thread) → IsEngine gs rows → rows.running ≡ Some t
+pub switched_seen : (gs hs : List Granule) (rows : Rows) (t : ℕ) (r q : row.Thread) (high : ℕ) (now new : Option ℕ) (x : Thread) → IsEngine gs rows → rows.running ≡ Some t
     → r ≡ get_or rows.list.items t r → high ≤ r.area.stack + r.area.stack_length
-    → Touches (area_begin r.area) (area_end r.area) (zeroed_from r.area.stack high r.area.ram gs) hs → OthersRun rows.running now t → q.area ≡ r.area
-    → thread_of hs (is_number now t) q ≡ x → seen_of hs rows (set rows.list.items t q) now ≡ switched (engine_view gs rows) t high x now
-switched_seen gs hs rows t r q high now x holds runs is le touches others place same =
+    → Touches (area_begin r.area) (area_end r.area) (zeroed_from r.area.stack high r.area.ram gs) hs → OthersRun rows.standing now t → q.area ≡ r.area
+    → thread_of hs (is_number now t) q ≡ x → seen_of hs rows (set rows.list.items t q) now new ≡ switched (engine_view gs rows) t high x new
+switched_seen gs hs rows t r q high now new x holds runs is le touches others place same =
     let base = (running_kept gs rows t r holds runs is).base in
     let stack = running_stack gs rows t r holds runs is in
     let ms : List Granule = zeroed_from r.area.stack high rows.region.ram gs in
     let after : Touches (area_begin r.area) (area_end r.area) ms hs =
     subst (λ n. Touches (area_begin r.area) (area_end r.area) (zeroed_from r.area.stack high n gs) hs) base touches in
-    seen_turn rows ms hs rows.list.items rows.running now t r q x (zeroed_holds gs rows r.area high holds stack le).areas (zeroed_holds gs rows r.area high holds stack le).heap (holds.runs t runs) is after others place same
-    ∙ ap (λ v. with_running (with_thread v t x) now) (zeroed_is_seen gs rows r.area high holds stack le)
+    seen_turn rows ms hs rows.list.items rows.standing now new t r q x (zeroed_holds gs rows r.area high holds stack le).areas (zeroed_holds gs rows r.area high holds stack le).heap (holds.stands t (holds.runs t runs)) is after others place same
+    ∙ ap (λ v. with_running (with_thread v t x) new) (zeroed_is_seen gs rows r.area high holds stack le)
     ∙ ap (λ (a : Area). switched_at a) (sym (running_area gs rows t r holds runs is))
   where
     switched_at : Area → Seen
     switched_at a = record (engine_view gs rows) {
       granules = zeroed_from a.stack high rows.region.ram (engine_view gs rows).granules;
       threads = set (engine_view gs rows).threads t x;
-      running = now;
+      running = new;
     }
 
 pub running_heap : (gs hs : List Granule) (rows : Rows) (t : ℕ) (r : row.Thread) → IsEngine gs rows → rows.running ≡ Some t

@@ -19,9 +19,12 @@ use Rattle.ct_areas.specs.Threads.{area_begin, area_end, thread_of}
 use Rattle.ct_threads.specs.Kept.{IsKept}
 use Rattle.ct_threads.proofs.Beside.{within}
 use Rattle.ct_threads.proofs.Entering.{thread_depth}
+use Rattle.ct_threads.proofs.Filtering.{sifted_kept}
+use Rattle.ct_areas.proofs.Places.{alive_is}
+use Rattle.law_areas.proofs.Changes.{unchanged}
 use Rattle.ct_engine.specs.declared.rows.Region.{Region}
 use Rattle.ct_engine.specs.declared.rows.Rows.{Rows}
-use Rattle.ct_engine.specs.Seen.{Seen, threads_of, engine_view, thread, with_thread, with_running, resumed, region_hides, hides_over, seen_by, seen_of, hidden}
+use Rattle.ct_engine.specs.Seen.{Seen, threads_of, engine_view, thread, with_thread, resumed, region_hides, hides_over, seen_by, seen_of, hidden}
 use Rattle.ct_engine.specs.Kept.{AreasFrom, HeapHolds, IsEngine}
 use Rattle.ct_engine.proofs.Lists.{Lies, OthersRun, lies, areas_put, threads_put, places_put, the_thread}
 use Rattle.ct_engine.proofs.HeapStays.{turn_objects}
@@ -54,11 +57,11 @@ unseen os rows gs hs runs t l touches =
     or_left (region_hides rows.region k) _ (hidden_is rows.region k (omega (arith, a, low, base)) (omega (arith, b, high, base))))
 
 -- the row that an index gives, whichever default it is read by
-pub turned : (os : List Object) (rows : Rows) (gs hs : List Granule) (ts : List row.Thread) (run now : Option ℕ) (t : ℕ) (d q : row.Thread) (x : Thread)
+pub turned : (os : List Object) (rows : Rows) (gs hs : List Granule) (ts : List row.Thread) (run now new : Option ℕ) (t : ℕ) (d q : row.Thread) (x : Thread)
     → AreasFrom rows.region.ram gs run 0 rows.region.trusted rows.region.end ts → t < length ts → Touches (area_begin (get_or ts t d).area) (area_end (get_or ts t d).area) gs hs
     → OthersRun run now t → q.area ≡ (get_or ts t d).area → thread_of hs (is_number now t) q ≡ x
-    → seen_by os rows hs (set ts t q) now ≡ record (seen_by os rows gs ts run) { threads = set (threads_of gs run 0 ts) t x; running = now }
-turned os rows gs hs ts run now t d q x areas lt touches runs is same =
+    → seen_by os rows hs (set ts t q) now new ≡ record (seen_by os rows gs ts run new) { threads = set (threads_of gs run 0 ts) t x }
+turned os rows gs hs ts run now new t d q x areas lt touches runs is same =
     let g : Region = rows.region in
     let start : 0 + t ≡ t = omega arith in
     let l : Lies g.ram gs (is_number run (0 + t)) g.trusted g.end (get_or ts t d) = lies g.ram gs run 0 g.trusted g.end ts t d areas lt in
@@ -105,16 +108,16 @@ set_self [] t d = refl
 set_self (x ∷ xs) zero d = refl
 set_self (x ∷ xs) (suc t) d = ap (λ r. x ∷ r) (set_self xs t d)
 
-pub seen_turn : (rows : Rows) (gs hs : List Granule) (ts : List row.Thread) (run now : Option ℕ) (t : ℕ) (r q : row.Thread) (x : Thread)
+pub seen_turn : (rows : Rows) (gs hs : List Granule) (ts : List row.Thread) (run now new : Option ℕ) (t : ℕ) (r q : row.Thread) (x : Thread)
     → AreasFrom rows.region.ram gs run 0 rows.region.trusted rows.region.end ts → HeapHolds gs rows.region rows.heap rows.front → t < length ts → r ≡ get_or ts t r
     → Touches (area_begin r.area) (area_end r.area) gs hs → OthersRun run now t → q.area ≡ r.area → thread_of hs (is_number now t) q ≡ x
-    → seen_of hs rows (set ts t q) now ≡ with_running (with_thread (seen_of gs rows ts run) t x) now
-seen_turn rows gs hs ts run now t r q x areas heap lt is touches runs place same =
+    → seen_of hs rows (set ts t q) now new ≡ with_thread (seen_of gs rows ts run new) t x
+seen_turn rows gs hs ts run now new t r q x areas heap lt is touches runs place same =
     let start : 0 + t ≡ t = omega arith in
     let l : Lies rows.region.ram gs (is_number run t) rows.region.trusted rows.region.end r =
     kept_of rows.region gs ts run t r (is_number run t) areas lt is refl in
-    ap (λ (os : List Object). seen_by os rows hs (set ts t q) now) (turn_objects gs hs rows.region rows.heap rows.front (is_number run t) r heap l touches)
-    ∙ turned (objects_of rows.heap gs) rows gs hs ts run now t r q x areas lt (subst (λ (u : row.Thread). Touches (area_begin u.area) (area_end u.area) gs hs) is touches)
+    ap (λ (os : List Object). seen_by os rows hs (set ts t q) now new) (turn_objects gs hs rows.region rows.heap rows.front (is_number run t) r heap l touches)
+    ∙ turned (objects_of rows.heap gs) rows gs hs ts run now new t r q x areas lt (subst (λ (u : row.Thread). Touches (area_begin u.area) (area_end u.area) gs hs) is touches)
     runs (subst (λ (u : row.Thread). q.area ≡ u.area) is place) same
 
 pub areas_turn : (g : Region) (gs hs : List Granule) (ts : List row.Thread) (run now : Option ℕ) (t : ℕ) (r q : row.Thread)
@@ -125,12 +128,12 @@ areas_turn g gs hs ts run now t r q areas lt is touches runs place kept =
     areas_turned g gs hs ts run now t r q areas lt (subst (λ (u : row.Thread). Touches (area_begin u.area) (area_end u.area) gs hs) is touches)
     runs (subst (λ (u : row.Thread). q.area ≡ u.area) is place) kept
 
--- who runs
-pub runs_it : (rows : Rows) (t : ℕ) → rows.running ≡ Some t → is_number rows.running t ≡ true
-runs_it rows t runs = ap (λ o. is_number o t) runs ∙ is_itself t
+-- who stands in a row
+pub runs_it : (rows : Rows) (t : ℕ) → rows.standing ≡ Some t → is_number rows.standing t ≡ true
+runs_it rows t stands = ap (λ o. is_number o t) stands ∙ is_itself t
 
-pub none_runs : (rows : Rows) (t : ℕ) → rows.running ≡ None → is_number rows.running t ≡ false
-none_runs rows t runs = ap (λ o. is_number o t) runs
+pub none_stands : (rows : Rows) (t : ℕ) → rows.standing ≡ None → is_number rows.standing t ≡ false
+none_stands rows t none = ap (λ o. is_number o t) none
 
 leaves_off : (run : Option ℕ) (t : ℕ) → run ≡ Some t → OthersRun run None t
 leaves_off run t runs = λ u no_. sym (ap (λ o. is_number o u) runs ∙ other t u no_)
@@ -138,35 +141,38 @@ leaves_off run t runs = λ u no_. sym (ap (λ o. is_number o u) runs ∙ other t
 takes_on : (run : Option ℕ) (t : ℕ) → run ≡ None → OthersRun run (Some t) t
 takes_on run t runs = λ u no_. other t u no_ ∙ sym (ap (λ o. is_number o u) runs)
 
--- what the row of the running thread keeps, and of one that doesn't
+-- what the row keeps of a thread that stands in it, as the one that runs does, and of one that doesn't
+pub standing_kept : (gs : List Granule) (rows : Rows) (t : ℕ) (r : row.Thread) → IsEngine gs rows → rows.standing ≡ Some t → r ≡ get_or rows.list.items t r
+    → Lies rows.region.ram gs true rows.region.trusted rows.region.end r
+standing_kept gs rows t r holds stands is =
+    kept_of rows.region gs rows.list.items rows.standing t r true holds.areas (holds.stands t stands) is (runs_it rows t stands)
+
 pub running_kept : (gs : List Granule) (rows : Rows) (t : ℕ) (r : row.Thread) → IsEngine gs rows → rows.running ≡ Some t → r ≡ get_or rows.list.items t r
     → Lies rows.region.ram gs true rows.region.trusted rows.region.end r
-running_kept gs rows t r holds runs is =
-    kept_of rows.region gs rows.list.items rows.running t r true holds.areas (holds.runs t runs) is (runs_it rows t runs)
+running_kept gs rows t r holds runs is = standing_kept gs rows t r holds (holds.runs t runs) is
 
-pub stopped_lies : (gs : List Granule) (rows : Rows) (t : ℕ) (r : row.Thread) → IsEngine gs rows → rows.running ≡ None → t < length rows.list.items
+pub stopped_lies : (gs : List Granule) (rows : Rows) (t : ℕ) (r : row.Thread) → IsEngine gs rows → rows.standing ≡ None → t < length rows.list.items
     → r ≡ get_or rows.list.items t r → Lies rows.region.ram gs false rows.region.trusted rows.region.end r
-stopped_lies gs rows t r holds runs lt is =
-    kept_of rows.region gs rows.list.items rows.running t r false holds.areas lt is (none_runs rows t runs)
+stopped_lies gs rows t r holds none lt is =
+    kept_of rows.region gs rows.list.items rows.standing t r false holds.areas lt is (none_stands rows t none)
 
--- ---- a stop
+-- ---- its registers go to its area
 
-pub stop_areas : (gs hs : List Granule) (rows : Rows) (t : ℕ) (r q : row.Thread) → IsEngine gs rows → rows.running ≡ Some t → r ≡ get_or rows.list.items t r
+pub settled_areas : (gs hs : List Granule) (rows : Rows) (t : ℕ) (r q : row.Thread) → IsEngine gs rows → rows.standing ≡ Some t → r ≡ get_or rows.list.items t r
     → Touches (area_begin r.area) (area_end r.area) gs hs → q.area ≡ r.area → IsKept hs false q
     → AreasFrom rows.region.ram hs None 0 rows.region.trusted rows.region.end (set rows.list.items t q)
-stop_areas gs hs rows t r q holds runs is touches place kept =
-    areas_turn rows.region gs hs rows.list.items rows.running None t r q holds.areas (holds.runs t runs) is touches (leaves_off rows.running t runs) place kept
+settled_areas gs hs rows t r q holds stands is touches place kept =
+    areas_turn rows.region gs hs rows.list.items rows.standing None t r q holds.areas (holds.stands t stands) is touches (leaves_off rows.standing t stands) place kept
 
-pub stop_seen : (gs hs : List Granule) (rows : Rows) (t : ℕ) (r q : row.Thread) → IsEngine gs rows → rows.running ≡ Some t → r ≡ get_or rows.list.items t r
+pub settled_seen : (gs hs : List Granule) (rows : Rows) (t : ℕ) (r q : row.Thread) → IsEngine gs rows → rows.standing ≡ Some t → r ≡ get_or rows.list.items t r
     → Touches (area_begin r.area) (area_end r.area) gs hs → q.area ≡ r.area → thread_of hs false q ≡ thread_of gs true r
-    → seen_of hs rows (set rows.list.items t q) None ≡ with_running (engine_view gs rows) None
-stop_seen gs hs rows t r q holds runs is touches place same =
-    let ts : List row.Thread = rows.list.items in
-    let lt : t < length rows.list.items = holds.runs t runs in
-    let here : get_or (threads_of gs rows.running 0 rows.list.items) t nobody ≡ thread_of gs true r = thread_is gs rows.list.items rows.running t r true lt is (runs_it rows t runs) in
-    let turn = seen_turn rows gs hs rows.list.items rows.running None t r q (get_or (threads_of gs rows.running 0 rows.list.items) t nobody) holds.areas holds.heap lt is touches
-    (leaves_off rows.running t runs) place (same ∙ sym here) in
-    turn ∙ ap (λ (xs : List Thread). let s : Seen = record (engine_view gs rows) { threads = xs; running = None } in s) (set_self (threads_of gs rows.running 0 rows.list.items) t nobody)
+    → seen_of hs rows (set rows.list.items t q) None rows.running ≡ engine_view gs rows
+settled_seen gs hs rows t r q holds stands is touches place same =
+    let lt : t < length rows.list.items = holds.stands t stands in
+    let here : get_or (threads_of gs rows.standing 0 rows.list.items) t nobody ≡ thread_of gs true r = thread_is gs rows.list.items rows.standing t r true lt is (runs_it rows t stands) in
+    let turn = seen_turn rows gs hs rows.list.items rows.standing None rows.running t r q (get_or (threads_of gs rows.standing 0 rows.list.items) t nobody) holds.areas holds.heap lt is touches
+    (leaves_off rows.standing t stands) place (same ∙ sym here) in
+    turn ∙ ap (λ (xs : List Thread). let s : Seen = record (engine_view gs rows) { threads = xs } in s) (set_self (threads_of gs rows.standing 0 rows.list.items) t nobody)
 
 -- ---- a pick
 
@@ -177,36 +183,73 @@ map_same f k same (c ∷ cs) = rw (same c, map_same f k same cs) refl
 picked_same : (f k : Cap → Cap) (t : Thread) → ((c : Cap) → f c ≡ k c) → picked_with f t ≡ picked_with k t
 picked_same f k t same = rw (same t.pcc, map_same f k same t.registers) refl
 
-pub pick_areas : (gs hs : List Granule) (rows : Rows) (t : ℕ) (r q : row.Thread) → IsEngine gs rows → rows.running ≡ None → t < length rows.list.items
+-- the thread that another or none stood before, or that stood itself
+picked_on : (gs hs : List Granule) (rows : Rows) (t : ℕ) (r q : row.Thread) (stood : Bool) → IsEngine gs rows → is_number rows.standing t ≡ stood → OthersRun rows.standing (Some t) t
+    → t < length rows.list.items → r ≡ get_or rows.list.items t r → Touches (area_begin r.area) (area_end r.area) gs hs → q.area ≡ r.area
+    → thread_of hs true q ≡ picked_with (filtered_in r.area.ram gs) (thread_of gs stood r)
+    → seen_of hs rows (set rows.list.items t q) (Some t) (Some t) ≡ resumed (engine_view gs rows) t
+picked_on gs hs rows t r q stood holds who others lt is touches place same =
+    let l = kept_of rows.region gs rows.list.items rows.standing t r stood holds.areas lt is who in
+    let seen_filter : Cap → Cap = filtered_in rows.region.ram (with_hidden (hidden gs rows) gs) in
+    let here : get_or (threads_of gs rows.standing 0 rows.list.items) t nobody ≡ thread_of gs stood r = thread_is gs rows.list.items rows.standing t r stood lt is who in
+    let keep : (c : Cap) → seen_filter c ≡ filtered_in r.area.ram gs c =
+    λ c. filtered_same (hidden gs rows) rows.region.ram gs c ∙ ap (λ n. filtered_in n gs c) (sym l.base) in
+    let new : picked_with seen_filter (get_or (threads_of gs rows.standing 0 rows.list.items) t nobody) ≡ picked_with (filtered_in r.area.ram gs) (thread_of gs stood r) =
+    ap (λ (u : Thread). picked_with seen_filter u) here ∙ picked_same seen_filter (filtered_in r.area.ram gs) (thread_of gs stood r) keep in
+    let now : thread_of hs (is_number (Some t) t) q ≡ picked_with seen_filter (get_or (threads_of gs rows.standing 0 rows.list.items) t nobody) =
+    subst (λ b. thread_of hs b q ≡ picked_with seen_filter (get_or (threads_of gs rows.standing 0 rows.list.items) t nobody)) (sym (is_itself t)) (same ∙ sym new) in
+    seen_turn rows gs hs rows.list.items rows.standing (Some t) (Some t) t r q _ holds.areas holds.heap lt is touches others place now
+
+pub pick_areas : (gs hs : List Granule) (rows : Rows) (t : ℕ) (r q : row.Thread) → IsEngine gs rows → rows.standing ≡ None → t < length rows.list.items
     → r ≡ get_or rows.list.items t r → Touches (area_begin r.area) (area_end r.area) gs hs → q.area ≡ r.area → IsKept hs true q
     → AreasFrom rows.region.ram hs (Some t) 0 rows.region.trusted rows.region.end (set rows.list.items t q)
-pick_areas gs hs rows t r q holds runs lt is touches place kept =
-    areas_turn rows.region gs hs rows.list.items rows.running (Some t) t r q holds.areas lt is touches (takes_on rows.running t runs) place
+pick_areas gs hs rows t r q holds none lt is touches place kept =
+    areas_turn rows.region gs hs rows.list.items rows.standing (Some t) t r q holds.areas lt is touches (takes_on rows.standing t none) place
     (subst (λ b. IsKept hs b q) (sym (is_itself t)) kept)
 
-pub pick_seen : (gs hs : List Granule) (rows : Rows) (t : ℕ) (r q : row.Thread) → IsEngine gs rows → rows.running ≡ None → t < length rows.list.items
+pub pick_seen : (gs hs : List Granule) (rows : Rows) (t : ℕ) (r q : row.Thread) → IsEngine gs rows → rows.standing ≡ None → t < length rows.list.items
     → r ≡ get_or rows.list.items t r → Touches (area_begin r.area) (area_end r.area) gs hs → q.area ≡ r.area
     → thread_of hs true q ≡ picked_with (filtered_in r.area.ram gs) (thread_of gs false r)
-    → seen_of hs rows (set rows.list.items t q) (Some t) ≡ resumed (engine_view gs rows) t
-pick_seen gs hs rows t r q holds runs lt is touches place same =
-    let l = stopped_lies gs rows t r holds runs lt is in
-    let here : get_or (threads_of gs rows.running 0 rows.list.items) t nobody ≡ thread_of gs false r = thread_is gs rows.list.items rows.running t r false lt is (none_runs rows t runs) in
-    let keep : (c : Cap) → filtered_in rows.region.ram (with_hidden (hidden gs rows) gs) c ≡ filtered_in r.area.ram gs c =
-    λ c. filtered_same (hidden gs rows) rows.region.ram gs c ∙ ap (λ n. filtered_in n gs c) (sym l.base) in
-    let new : picked_with (filtered_in rows.region.ram (with_hidden (hidden gs rows) gs)) (get_or (threads_of gs rows.running 0 rows.list.items) t nobody)
-    ≡ picked_with (filtered_in r.area.ram gs) (thread_of gs false r) =
-    ap (λ (u : Thread). picked_with (filtered_in rows.region.ram (with_hidden (hidden gs rows) gs)) u) here
-    ∙ picked_same (filtered_in rows.region.ram (with_hidden (hidden gs rows) gs)) (filtered_in r.area.ram gs) (thread_of gs false r) keep in
-    let now : thread_of hs (is_number (Some t) t) q ≡ picked_with (filtered_in rows.region.ram (with_hidden (hidden gs rows) gs)) (get_or (threads_of gs rows.running 0 rows.list.items) t nobody) =
-    subst (λ b. thread_of hs b q ≡ picked_with (filtered_in rows.region.ram (with_hidden (hidden gs rows) gs)) (get_or (threads_of gs rows.running 0 rows.list.items) t nobody)) (sym (is_itself t)) (same ∙ sym new) in
-    seen_turn rows gs hs rows.list.items rows.running (Some t) t r q _ holds.areas holds.heap lt is touches (takes_on rows.running t runs) place now
+    → seen_of hs rows (set rows.list.items t q) (Some t) (Some t) ≡ resumed (engine_view gs rows) t
+pick_seen gs hs rows t r q holds none lt is touches place same =
+    picked_on gs hs rows t r q false holds (none_stands rows t none) (takes_on rows.standing t none) lt is touches place same
+
+-- a thread that stands in its row: all that it keeps there passes the load filter
+abbrev pub row_refreshed : List Granule → row.Thread → row.Thread
+row_refreshed gs r = record r { pcc = filtered_in r.area.ram gs r.pcc; regs = map (filtered_in r.area.ram gs) r.regs }
+
+refreshed_kept : (gs : List Granule) (r : row.Thread) → IsKept gs true r → IsKept gs true (row_refreshed gs r)
+refreshed_kept gs r k =
+    let s = sifted_kept gs r k in
+    record { area = s.area; room = s.room; zero = s.zero; alive = s.alive; clean = s.clean }
+
+stays_stood : (rows : Rows) (t : ℕ) → rows.standing ≡ Some t → OthersRun rows.standing (Some t) t
+stays_stood rows t stands = λ u no_. ap (λ o. is_number o u) (sym stands)
+
+pub refreshed_areas : (gs : List Granule) (rows : Rows) (t : ℕ) (r q : row.Thread) → IsEngine gs rows → rows.standing ≡ Some t → r ≡ get_or rows.list.items t r
+    → q ≡ row_refreshed gs r → AreasFrom rows.region.ram gs rows.standing 0 rows.region.trusted rows.region.end (set rows.list.items t q)
+refreshed_areas gs rows t r q holds stands is passed =
+    subst (λ (u : row.Thread). AreasFrom rows.region.ram gs rows.standing 0 rows.region.trusted rows.region.end (set rows.list.items t u)) (sym passed)
+    (areas_turn rows.region gs gs rows.list.items rows.standing rows.standing t r (row_refreshed gs r) holds.areas (holds.stands t stands) is
+    (unchanged gs (area_begin r.area) (area_end r.area)) (λ u no_. refl) refl
+    (subst (λ b. IsKept gs b (row_refreshed gs r)) (sym (runs_it rows t stands)) (refreshed_kept gs r (standing_kept gs rows t r holds stands is).kept)))
+
+pub refreshed_seen : (gs : List Granule) (rows : Rows) (t : ℕ) (r q : row.Thread) → IsEngine gs rows → rows.standing ≡ Some t → r ≡ get_or rows.list.items t r
+    → q ≡ row_refreshed gs r → seen_of gs rows (set rows.list.items t q) rows.standing (Some t) ≡ resumed (engine_view gs rows) t
+refreshed_seen gs rows t r q holds stands is passed =
+    let alive = (standing_kept gs rows t r holds stands is).kept.alive refl in
+    subst (λ (o : Option ℕ). seen_of gs rows (set rows.list.items t q) o (Some t) ≡ resumed (engine_view gs rows) t) (sym stands)
+    (subst (λ (u : row.Thread). seen_of gs rows (set rows.list.items t u) (Some t) (Some t) ≡ resumed (engine_view gs rows) t) (sym passed)
+    (picked_on gs gs rows t r (row_refreshed gs r) true holds (runs_it rows t stands) (stays_stood rows t stands) (holds.stands t stands) is
+    (unchanged gs (area_begin r.area) (area_end r.area)) refl
+    (alive_is gs true (row_refreshed gs r) alive ∙ ap (λ (u : Thread). picked_with (filtered_in r.area.ram gs) u) (sym (alive_is gs true r alive)))))
 
 -- ---- how many frames
 
 pub depth_is : (gs : List Granule) (rows : Rows) (t : ℕ) (r : row.Thread) (runs : Bool) → t < length rows.list.items → r ≡ get_or rows.list.items t r
-    → is_number rows.running t ≡ runs → length (thread (engine_view gs rows) t).frames ≡ r.depth
+    → is_number rows.standing t ≡ runs → length (thread (engine_view gs rows) t).frames ≡ r.depth
 depth_is gs rows t r runs lt is who =
-    ap (λ (u : Thread). length u.frames) (thread_is gs rows.list.items rows.running t r runs lt is who) ∙ thread_depth gs runs r
+    ap (λ (u : Thread). length u.frames) (thread_is gs rows.list.items rows.standing t r runs lt is who) ∙ thread_depth gs runs r
 
 pub some_is : (t u : ℕ) → (let o : Option ℕ = Some t in o) ≡ Some u → t ≡ u
 some_is t u e = ap (λ (o : Option ℕ). unwrap_or o 0) e

@@ -23,10 +23,10 @@ ArePlain ram gs from to =
 -- Areas stand one after another from one address up to another, of RAM from `ram` on, and plain words between them; the
 -- first thread has number n.
 abbrev pub AreasFrom : ℕ → List Granule → Option ℕ → ℕ → ℕ → ℕ → List row.Thread → Type 0
-AreasFrom ram gs running n from to [] = (from ≤ to) × ArePlain ram gs from to
-AreasFrom ram gs running n from to (t ∷ ts) =
-    (from ≤ t.area.trusted) × (t.area.ram ≡ ram) × IsKept gs (is_number running n) t
-    × AreasFrom ram gs running (n + 1) (t.area.trusted + t.area.trusted_length) to ts
+AreasFrom ram gs standing n from to [] = (from ≤ to) × ArePlain ram gs from to
+AreasFrom ram gs standing n from to (t ∷ ts) =
+    (from ≤ t.area.trusted) × (t.area.ram ≡ ram) × IsKept gs (is_number standing n) t
+    × AreasFrom ram gs standing (n + 1) (t.area.trusted + t.area.trusted_length) to ts
     × ArePlain ram gs from t.area.trusted
 
 -- a stack lies in RAM of so many bytes, in multiples of 16, ends before the heap, and doesn't meet the region
@@ -50,11 +50,12 @@ pub record HeapHolds (gs : List Granule) (g : Region) (h : HeapRow) (front : Opt
   pub within : unwrap_or front 0 ≤ 8 * length gs
   pub clear : IsClear h gs
 
--- All areas in the region, the thread that runs is one of them, their stacks lie apart from the region and before the
--- heap, the heap, and room for a row of each object that it may have.
+-- All areas in the region, the thread that runs stands in its row, the one that stands is one of them, their stacks lie
+-- apart from the region and before the heap, the heap, and room for a row of each object that it may have.
 pub record IsEngine (gs : List Granule) (r : Rows) : Type 0 where
-  pub areas : AreasFrom r.region.ram gs r.running 0 r.region.trusted r.region.end r.list.items
-  pub runs : (t : ℕ) → r.running ≡ Some t → t < length r.list.items
+  pub areas : AreasFrom r.region.ram gs r.standing 0 r.region.trusted r.region.end r.list.items
+  pub runs : (t : ℕ) → r.running ≡ Some t → r.standing ≡ Some t
+  pub stands : (t : ℕ) → r.standing ≡ Some t → t < length r.list.items
   pub stacks : Each (StackLies r.region r.heap.range.base (8 * length gs))
       (map (λ (t : row.Thread). t.area) r.list.items)
   pub heap : HeapHolds gs r.region r.heap r.front

@@ -7,3 +7,4 @@ pub mod Handling
 pub mod Grants
 pub mod Sweeps
 pub mod Written
+pub mod Bursts

@@ -12,7 +12,7 @@ use Rattle.def_chunks.specs.Hides.{hides_heap}
 use Rattle.def_machine.specs.Slices.{is_number}
 use Rattle.def_machine.specs.Threads.{picked_with, jumped}
 use Rattle.def_words.specs.declared.Cap.{Cap}
-use Rattle.def_words.specs.Capability.{integer, raised, with_address}
+use Rattle.def_words.specs.Capability.{raised}
 use Rattle.def_words.specs.declared.Posture.{Posture}
 use Rattle.def_machine.specs.Memory.{filtered_in}
 use Rattle.def_hidden.specs.Hiding.{with_hidden}
@@ -30,11 +30,11 @@ region_of i = record { ram = i.ram; trusted = i.trusted; end = trusted_end i }
 abbrev pub region_hides : Region → ℕ → Bool
 region_hides g k = nat_le g.trusted (g.ram + GRANULE * k) && nat_lt (g.ram + GRANULE * k) g.end
 
--- the threads of these rows, of which the first has number n
+-- the threads of these rows, of which the first has number n; registers stand in the row of one at most
 abbrev pub threads_of : List Granule → Option ℕ → ℕ → List row.Thread → List Thread
-threads_of gs running n [] = []
-threads_of gs running n (t ∷ ts) =
-    thread_of gs (is_number running n) t ∷ threads_of gs running (n + 1) ts
+threads_of gs standing n [] = []
+threads_of gs standing n (t ∷ ts) =
+    thread_of gs (is_number standing n) t ∷ threads_of gs standing (n + 1) ts
 
 -- `tokens` stand by their numbers; `next` is the next object's number; `front` is the running sweep's, an offset in RAM in
 -- bytes; the heap's base and end are addresses; `limits` are in bytes, by the quotas' numbers. Where areas, stacks and the
@@ -67,11 +67,12 @@ hides_over g r objects k =
 abbrev pub limits_in : List Account → List ℕ
 limits_in accounts = map (λ (a : Account). a.limit) accounts
 
--- of these objects, threads, and who runs
-abbrev pub seen_by : List Object → Rows → List Granule → List row.Thread → Option ℕ → Seen
-seen_by objects r gs ts running = record {
+-- of these objects, threads, who stands and who runs
+abbrev pub seen_by : List Object → Rows → List Granule → List row.Thread → Option ℕ → Option ℕ
+    → Seen
+seen_by objects r gs ts standing running = record {
   granules = with_hidden (hides_over r.region r.heap.range objects) gs;
-  threads = threads_of gs running 0 ts;
+  threads = threads_of gs standing 0 ts;
   running = running;
   region = r.region;
   areas = map (λ (t : row.Thread). t.area) ts;
@@ -84,11 +85,11 @@ seen_by objects r gs ts running = record {
   limits = limits_in r.heap.accounts;
 }
 
-abbrev pub seen_of : List Granule → Rows → List row.Thread → Option ℕ → Seen
-seen_of gs r ts running = seen_by (objects_of r.heap gs) r gs ts running
+abbrev pub seen_of : List Granule → Rows → List row.Thread → Option ℕ → Option ℕ → Seen
+seen_of gs r ts standing running = seen_by (objects_of r.heap gs) r gs ts standing running
 
 abbrev pub engine_view : List Granule → Rows → Seen
-engine_view gs r = seen_of gs r r.list.items r.running
+engine_view gs r = seen_of gs r r.list.items r.standing r.running
 
 abbrev pub hidden : List Granule → Rows → ℕ → Bool
 hidden gs r k = hides_over r.region r.heap.range (objects_of r.heap gs) k
@@ -123,11 +124,6 @@ after_jump s t pcc posture to value = with_thread s t (jumped (thread s t) pcc p
 -- it goes on after its instruction
 abbrev pub advanced : Seen → ℕ → ℕ → Cap → Seen
 advanced s t to value = after_jump s t (raised (thread s t).pcc 4) (thread s t).posture to value
-
--- it goes on at an address, by the address rule, and no register changes
-abbrev pub moved_to : Seen → ℕ → ℕ → Seen
-moved_to s t at =
-    after_jump s t (with_address (thread s t).pcc at) (thread s t).posture 0 (integer 0)
 
 -- where a thread's area and its stack lie
 abbrev pub area_at : Seen → ℕ → Area

@@ -2,7 +2,6 @@
 use Rattle.std.specs.Prelude.{ℕ, ◌+◌, ◌*◌, ◌≡◌, ◌≤◌, ◌<◌, true, List, [], ◌∷◌, length, None, map}
 use Rattle.def_memory.specs.declared.Granule.{Granule}
 use Rattle.def_memory.specs.Granules.{plain, cap_in}
-use Rattle.def_machine.specs.State.{Thread}
 use Rattle.def_machine.specs.Objects.{Each}
 use Rattle.def_chunks.specs.Heaps.{HeapRow}
 use Rattle.ct_heap.specs.Effects.{Empty}

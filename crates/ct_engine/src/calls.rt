@@ -34,6 +34,7 @@ pub(crate) fn return_to_caller<M: Memory>(rows: &mut Rows, mem: &mut M, t: u32, 
 {
     let more = return_row(&mut rows.list[t as usize], mem, e);
     rows.running = still(t, more);
+    rows.standing = rows.running;
     more
 }
 
@@ -50,6 +51,7 @@ pub(crate) fn end_with<M: Memory>(rows: &mut Rows, mem: &mut M, t: u32, value: u
 {
     let more = end_row(&mut rows.list[t as usize], mem, value);
     rows.running = still(t, more);
+    rows.standing = rows.running;
     more
 }
 

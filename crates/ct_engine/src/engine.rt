@@ -22,7 +22,7 @@ use crate::handling::{handle, is_handling, value_in};
 use crate::rows::{Region, Rows};
 use crate::starting::start;
 use crate::steps::{actor, jump_to, pcc, posture, register};
-use crate::turns::{pick, stop};
+use crate::turns::pick;
 use ct_areas::Fresh;
 use ct_bus::Bus;
 use ct_cap::{Live, Posture, Trap};
@@ -43,7 +43,8 @@ use std::marker::Model;
 ///
 /// Contracts see memory where the region and the heap outside live objects read as zero, each thread as the machine's
 /// state has it, and the heap's objects as rows; a thread without frames has ended. Offsets count bytes from RAM's
-/// begin. No method but `start` takes memory.
+/// begin. No method but `start` takes memory. Where a thread stops, its registers stay in its row until another is
+/// picked or a slice of the revoker has work.
 #[derive(Drop)]
 pub struct Engine<M: Memory + Drop> {
     pub(crate) mem: M,
@@ -159,7 +160,7 @@ impl<M: Memory + Drop> Engine<M> {
         requires { self.old.running ≡ Some t }
         ensures { self.new ≡ with_running self.old None }
     {
-        stop(&mut self.rows, &mut self.mem, t);
+        self.rows.running = None;
     }
 
     /// A thread that hasn't ended goes on where it stopped, where none runs: its program counter capability and its

@@ -9,11 +9,11 @@
 //! a slice of a sweep are the changes that the machine's definitions say. docs/use/machine.md tells the layout in prose.
 #![tactic(auto)]
 
+mod bursting;
 mod calls;
 mod engine;
 mod granting;
 mod handling;
-mod quiet;
 mod rows;
 mod sealing;
 mod starting;

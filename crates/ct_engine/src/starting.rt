@@ -59,6 +59,7 @@ pub(crate) fn start<M: Memory>(
         region,
         list,
         running: None,
+        standing: None,
         heap,
         front: Front::idle(),
         tokens,

@@ -5,6 +5,7 @@ ghost use Rattle.def_machine.specs.Objects.{has_quarantined};
 ghost use Rattle.ct_engine.specs.Sweeps.{NoneLeft, size_of, began, passed_on, with_slice, slice_end, over, swept_by, EndsClean};
 
 use crate::engine::Engine;
+use crate::turns::settle;
 use ct_mem::Memory;
 
 impl<M: Memory + Drop> Engine<M> {
@@ -48,6 +49,7 @@ impl<M: Memory + Drop> Engine<M> {
         if !self.rows.front.running() {
             return;
         }
+        settle(&mut self.rows, &mut self.mem);
         let ram = self.rows.region.ram;
         self.rows.front.slice(&mut self.mem, ram, rate);
         if self.rows.front.finished(self.mem.size()) {

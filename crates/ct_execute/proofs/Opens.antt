@@ -14,7 +14,8 @@ use Rattle.law_events.proofs.Seeing.{register_sees, counter_sees}
 use Rattle.def_chunks.specs.Hides.{hides_heap}
 use Rattle.ct_engine.specs.declared.rows.Region.{Region}
 use Rattle.ct_engine.specs.Seen.{Seen, region_hides, hides, thread, region_of}
-use Rattle.ct_execute.specs.Opening.{IsOpen, Runs}
+use Rattle.ct_engine.specs.Bursts.{IsOpen}
+use Rattle.ct_execute.specs.Opening.{Runs}
 
 abbrev hides_at : Region → ℕ → ℕ → List Object → ℕ → Bool
 hides_at g base end objects k = region_hides g k || hides_heap g.ram base end objects k

@@ -1,11 +1,11 @@
 -- An access whose checks pass lies in its capability's bounds, which have the right to load or to store.
-use Rattle.std.proofs.Common.{ℕ, ◌+◌, ◌-◌, ◌/◌, ◌%◌, ◌==◌, ◌&&◌, ◌||◌, nat_le, ◌≡◌, ◌≤◌, ◌<◌, ◌⊎◌, Bool, true, false, not, inl, inr, [], ◌∷◌, None, is_none, refl, sym, subst, arith, if◌then◌else◌}
+use Rattle.std.proofs.Common.{ℕ, ◌+◌, ◌-◌, ◌/◌, ◌%◌, ◌==◌, ◌&&◌, ◌||◌, nat_le, ◌≡◌, ◌≤◌, ◌<◌, ◌⊎◌, Bool, true, false, not, inl, inr, [], ◌∷◌, None, refl, sym, subst, arith, if◌then◌else◌}
 use Rattle.std.proofs.lemmas.Bool.{leb-true, and_parts}
 use Rattle.def_words.specs.declared.Cap.{Cap}
 use Rattle.def_words.specs.declared.Trap.{Trap}
-use Rattle.def_words.specs.Authority.{cap_address, cap_base, cap_top}
+use Rattle.def_words.specs.Authority.{cap_base, cap_top}
 use Rattle.def_words.specs.Capability.{is_range_inside}
-use Rattle.def_words.specs.Permissions.{has, execute, load_data, store_data, memory_capability}
+use Rattle.def_words.specs.Permissions.{has, load_data, store_data, memory_capability}
 use Rattle.def_words.specs.Seals.{is_unsealed}
 use Rattle.def_instr.specs.declared.Instr.{Instr}
 use Rattle.def_instr.specs.declared.Instr.TheVariants.{Clc, Csc}
@@ -13,12 +13,9 @@ use Rattle.def_machine.specs.State.{register}
 use Rattle.def_step.specs.Checks.{first_failed}
 use Rattle.def_step.specs.declared.Access.{Access}
 use Rattle.def_step.specs.Accesses.{access_of, access_address, load_checks, store_checks}
-use Rattle.def_step.specs.Instructions.{fetch_checks}
 use Rattle.def_safety.specs.HiddenSteps.{SeesAccess}
-use Rattle.ct_threads.specs.Steps.{is_word_of_ram}
 use Rattle.ct_engine.specs.Seen.{thread, Seen, hides}
-use Rattle.ct_engine.specs.Steps.{SeesFetch}
-use Rattle.ct_execute.specs.Opening.{IsOpen}
+use Rattle.ct_engine.specs.Bursts.{IsOpen}
 
 five : (b0 b1 b2 b3 b4 : Bool) (t0 t1 t2 t3 t4 : Trap) → first_failed ((b0, t0) ∷ (b1, t1) ∷ (b2, t2) ∷ (b3, t3) ∷ (b4, t4) ∷ []) ≡ None → (b0 ≡ true) × (b2 ≡ true) × (b3 ≡ true)
 five true true true true b4 t0 t1 t2 t3 t4 e = (refl, refl, refl)
@@ -81,22 +78,3 @@ pub register_seen : (s : Seen) (t n : ℕ) (i : Instr) (x y : Cap) → IsOpen s 
 register_seen s t n i x y opens is =
     access_seen (hides s) s.region.ram i x y
     (subst (λ (c : Cap). OpenTo (hides s) s.region.ram c) (sym is) (λ a inside tagged may low high. opens.registers n a inside tagged may low high))
-
--- ---- a fetch
-
-four : (b0 b1 b2 b3 : Bool) (t0 t1 t2 t3 : Trap) → is_none (first_failed ((b0, t0) ∷ (b1, t1) ∷ (b2, t2) ∷ (b3, t3) ∷ [])) ≡ true → (b0 ≡ true) × (b3 ≡ true)
-four true true true true t0 t1 t2 t3 e = (refl, refl)
-four true true true false t0 t1 t2 t3 e = absurd (cc)
-four true true false b3 t0 t1 t2 t3 e = absurd (cc)
-four true false b2 b3 t0 t1 t2 t3 e = absurd (cc)
-four false b1 b2 b3 t0 t1 t2 t3 e = absurd (cc)
-
--- where a word is found it isn't hidden
-pub found_seen : (s : Seen) (t : ℕ) → IsOpen s t → SeesFetch s t
-found_seen s t opens found inside =
-    let c : Cap = (thread s t).pcc in
-    let checks = and_parts (is_none (first_failed (fetch_checks c))) (is_word_of_ram s.region.ram s.granules (cap_address c)) found in
-    let h = four c.tag (is_unsealed c) (has c execute) (is_range_inside c (cap_address c) (cap_address c + 4)) _ _ _ _ checks.0 in
-    let ends = and_parts (nat_le (cap_base c) (cap_address c)) (nat_le (cap_address c + 4) (cap_top c)) h.1 in
-    let high : cap_address c + 4 ≤ cap_top c = leb-true (cap_address c + 4) (cap_top c) ends.1 in
-    opens.fetches (cap_address c) inside h.0 (leb-true (cap_base c) (cap_address c) ends.0) (omega (arith, high))

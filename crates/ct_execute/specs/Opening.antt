@@ -1,26 +1,11 @@
 -- What an instruction of the running thread may reach isn't hidden.
-use Rattle.std.specs.Prelude.{ℕ, ◌-◌, ◌/◌, ◌≡◌, ◌≤◌, ◌<◌, ◌⊎◌, true, false, Some}
-use Rattle.def_words.specs.Authority.{cap_base, cap_top}
-use Rattle.def_words.specs.Permissions.{has, load_data, store_data}
+use Rattle.std.specs.Prelude.{ℕ, ◌≡◌, Some}
 use Rattle.def_machine.specs.Image.{Image}
-use Rattle.def_machine.specs.State.{State, register}
+use Rattle.def_machine.specs.State.{State}
 use Rattle.def_machine.specs.State as state
-use Rattle.ct_engine.specs.Seen.{region_of, thread, Seen, hides}
+use Rattle.ct_engine.specs.Bursts.{IsOpen}
+use Rattle.ct_engine.specs.Seen.{region_of, thread, Seen}
 use Rattle.ct_engine.specs.Steps.{HeapLies}
-
--- Nothing is hidden that a thread may load or store through a register, or fetch. All x are addresses of RAM or past
--- it.
-pub record IsOpen (s : Seen) (t : ℕ) : Type 0 where
-  pub registers : (n x : ℕ) → s.region.ram ≤ x
-      → (register (thread s t) n).tag ≡ true
-      → (has (register (thread s t) n) load_data ≡ true)
-      ⊎ (has (register (thread s t) n) store_data ≡ true)
-      → cap_base (register (thread s t) n) ≤ x
-      → x < cap_top (register (thread s t) n)
-      → hides s ((x - s.region.ram) / 8) ≡ false
-  pub fetches : (x : ℕ) → s.region.ram ≤ x → (thread s t).pcc.tag ≡ true
-      → cap_base (thread s t).pcc ≤ x → x < cap_top (thread s t).pcc
-      → hides s ((x - s.region.ram) / 8) ≡ false
 
 -- Thread t runs, nothing is hidden that it may reach, and the heap lies from an address to RAM's end.
 pub record MayGo (s : Seen) (t base : ℕ) : Type 0 where

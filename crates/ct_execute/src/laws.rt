@@ -8,7 +8,8 @@ ghost use Rattle.def_machine.specs.State.{State, thread};
 ghost use Rattle.def_step.specs.Instructions.{executed, space_of};
 ghost use Rattle.def_machine.specs.Platform.{Platform};
 ghost use Rattle.ct_execute.specs.Deciding.{decide, settle};
-ghost use Rattle.ct_execute.specs.Opening.{IsOpen, Runs};
+ghost use Rattle.ct_execute.specs.Opening.{Runs};
+ghost use Rattle.ct_engine.specs.Bursts.{IsOpen};
 ghost use Rattle.ct_engine.specs.Seen.{Seen};
 
 /// The written step of a thread is the decision over the thread and what is around it, carried out.

@@ -11,8 +11,8 @@ use Rattle.def_sched.specs.Picks.{pick}
 use Rattle.def_step.specs.declared.Event.TheVariants.{Step}
 use Rattle.def_step.specs.Events.{begun_since, continued, end_of, happens, holder, one_more_step, picked_as, picked_from, preempted, run_on, scheduled, told_of}
 use Rattle.ct_machine.specs.Going.{one_more_sweep}
-use Rattle.ct_machine.specs.Quiet.{has_sweep, is_dormant, with_counts, with_rounds, WentRound, WentRounds}
-use Rattle.ct_machine.proofs.Rounding.{none_went, one_more_went, round_guarded, with_silence}
+use Rattle.ct_machine.specs.Quiet.{has_sweep, is_dormant, with_counts, with_rounds, WentRounds}
+use Rattle.ct_machine.proofs.Rounding.{none_went, one_more_went, with_silence, WentRound}
 use Rattle.ct_machine.proofs.Appending.{same_machine}
 use Rattle.ct_machine.proofs.Taking.{holder_none, none_preempted}
 
@@ -70,11 +70,6 @@ dormant_round m steps sweeps i more_steps more_sweeps = record {
       ∙ ap (λ (n : ℕ). with_silence (counted m (m.state.counts.steps + 1) n).state) more_sweeps
       ∙ step_counts m.board (one_more_sweep m.state) i.runs i.picks;
   board = refl;
-  steps = more_steps;
-  sweeps = more_sweeps;
-  sweep = refl;
-  pending = refl;
-  running = refl;
   going = i.going;
 }
 
@@ -92,8 +87,7 @@ dormant_rounds m g none dormant (suc count) steps sweeps more_steps more_sweeps 
     let one_sweep : sweeps ≡ m.state.counts.sweeps + count + 1 = omega (arith, more_sweeps) in
     let w : WentRound mid (counted m steps sweeps) =
     dormant_round mid steps sweeps (counted_sleeps m (m.state.counts.steps + count) (m.state.counts.sweeps + count) (sleeps_by m dormant)) one_step one_sweep in
-    let next : count + 1 ≡ suc count = omega arith in
-    (subst (λ k. WentRounds m (counted m steps sweeps) k) next (one_more_went m mid (counted m steps sweeps) count before.0 none w), round_guarded mid (counted m steps sweeps) none w before.1)
+    one_more_went m mid (counted m steps sweeps) count before none w
 
 pub dormant_went : (m n : MachineRow) (count : ℕ) → Guarded m → has_sweep m.state ≡ false → is_dormant m ≡ true → n.state ≡ with_rounds m.state count → n.board ≡ m.board → WentRounds m n count × Guarded n
 dormant_went m n count g none dormant state board =

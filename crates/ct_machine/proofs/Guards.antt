@@ -1,5 +1,5 @@
 -- A machine that starts is guarded, and every event keeps it so.
-use Rattle.std.proofs.Common.{◌≡◌, Bool, true, false, refl, ap, subst, sym}
+use Rattle.std.proofs.Common.{◌≡◌, ap, subst, sym}
 use Rattle.ct_entry.specs.declared.acts.Happened.{Happened}
 use Rattle.def_events.specs.Guarded.{Guarded}
 use Rattle.def_confined.specs.Telling.{IsLicensedEvent}
@@ -30,7 +30,6 @@ use Rattle.law_started.proofs.Globality.{boots_local}
 use Rattle.law_started.proofs.Starting.{no_rows}
 use Rattle.law_truly.proofs.Running.{event_framed}
 use Rattle.law_truly.proofs.Whole.{boots_framed}
-use Rattle.ct_machine.specs.Going.{silence}
 
 pub at_boot : (p : PartsRow) → Sound p → Guarded (booted_machine p)
 at_boot p s = record {
@@ -84,20 +83,13 @@ told_by m n e h g same told =
 pub booted_by : (p : PartsRow) (m : MachineRow) → Sound p → m ≡ booted_machine p → Guarded m
 booted_by p m s is = subst Guarded (sym is) (at_boot p s)
 
--- ---- a step that tells nothing, or nothing
+-- ---- nothing, or a step
 
 pub same_by : (m n : MachineRow) → n.state ≡ m.state → n.board ≡ m.board → Guarded m → Guarded n
 same_by m n state board h = whole n.board n.state board state
   where
     whole : (b : Platform) (s : State) → b ≡ m.board → s ≡ m.state → Guarded (record { board = b; state = s })
     whole b s is_board is_state = rw (is_board, is_state) h
-
-pub quietly_by : (m n : MachineRow) (went : Bool) → (went ≡ true → (n.state, silence) ≡ happens m.board m.state Step) → (went ≡ false → n.state ≡ m.state) → n.board ≡ m.board
-    → Guarded m → Guarded n
-quietly_by m n true is same board h =
-    let state : n.state ≡ (happens m.board m.state Step).0 = ap (λ (r : State × Happened). r.0) (is refl) in
-    kept_by m n Step h state board
-quietly_by m n false is same board h = same_by m n (same refl) board h
 
 pub step_guarded : (m n : MachineRow) (h : Happened) → Guarded m → (n.state, h) ≡ happens m.board m.state Step → n.board ≡ m.board → Guarded n
 step_guarded m n h g is board = kept_by m n Step g (ap (λ (r : State × Happened). r.0) is) board

@@ -10,7 +10,7 @@ use Rattle.ct_sched.specs.Sched.{SchedRow}
 use Rattle.ct_engine.specs.Seen as engine
 use Rattle.ct_engine.specs.Seen.{area_at, Seen}
 use Rattle.ct_engine.specs.Calls.{TopLies}
-use Rattle.ct_execute.specs.Opening.{IsOpen}
+use Rattle.ct_engine.specs.Bursts.{IsOpen}
 use Rattle.ct_execute.proofs.Opens.{running_open}
 use Rattle.ct_boot.specs.Placed.{IsPlaced}
 use Rattle.law_callable.proofs.Tops.{top_lies}

@@ -2,6 +2,7 @@
 use Rattle.std.proofs.Common.{ℕ, zero, suc, ◌+◌, ◌*◌, ◌≡◌, ◌||◌, is_some, Bool, true, false, if◌then◌else◌, cond, List, [], ◌∷◌, length, Option, Some, None, option_map, refl, sym, ap, ◌∙◌, subst}
 use Rattle.std.proofs.Math.ListN.{get_or, set}
 use Rattle.std.proofs.lemmas.Bool.{eq-eqb}
+use Rattle.std.proofs.lemmas.List.{length-set}
 use Rattle.ct_entry.specs.declared.acts.Act.{Act}
 use Rattle.ct_entry.specs.declared.acts.Owned.{Owned}
 use Rattle.def_words.specs.declared.Posture.{Posture}
@@ -17,17 +18,19 @@ use Rattle.def_step.specs.Events.{holder_by, holder, begun_since, begun, preempt
 use Rattle.ct_sched.specs.Sched.{SchedRow}
 use Rattle.ct_engine.specs.Seen as engine
 use Rattle.ct_engine.specs.Seen.{Seen}
+use Rattle.ct_engine.specs.Bursts.{GoesOnce}
 use Rattle.ct_engine.specs.Steps.{HasWindow}
 use Rattle.ct_threads.specs.declared.window.Window.{Window}
 use Rattle.ct_threads.specs.Windows.{IsWindow}
 use Rattle.ct_execute.specs.declared.ran.Ran.{Ran}
 use Rattle.ct_execute.specs.declared.ran.Ran.TheVariants.{Went}
 use Rattle.ct_execute.specs.Deciding.{act_by, Decision, Goes, Returns, Serves, Traps, decision, Decided, Stays, WentQuietly}
-use Rattle.ct_machine.specs.Parts.{state_by, IsKept, IsCounted}
+use Rattle.ct_execute.proofs.Bursting.{goes_quietly, goes_stays}
+use Rattle.ct_machine.specs.Parts.{state_by, IsKept}
 use Rattle.ct_machine.specs.Going.{silence}
 use Rattle.ct_machine.specs.Quiet.{has_sweep, undisturbed, IsThreadWindow}
 use Rattle.ct_machine.proofs.Carried.{came}
-use Rattle.ct_machine.proofs.Keeping.{machine_by, ran_kept, counted_so}
+use Rattle.ct_machine.proofs.Keeping.{machine_by, ran_else, same_kept, still_ready}
 use Rattle.ct_machine.proofs.Statuses.{ready_goes, end_none}
 use Rattle.ct_machine.proofs.Stepping.{carried_so, quietly_left}
 use Rattle.ct_machine.proofs.Taking.{ram_is, posture_with, not_pending, runs_scheduled}
@@ -105,52 +108,48 @@ parts_of false o t is = (refl, sym is)
 pub undisturbed_parts : (s : State) (t : ℕ) → Some t ≡ undisturbed s → (s.pending ≡ false) × (s.running ≡ Some t)
 undisturbed_parts s t is = parts_of s.pending s.running t is
 
--- ---- what the code leaves
+-- ---- an instruction of a burst
+
+pub once_kept : (i : Image) (e new : Seen) (r : SchedRow) (t : ℕ) → IsKept i e r → GoesOnce t e new → IsKept i new r
+once_kept i e new r t kept goes =
+    let stays = goes_stays e new t goes in
+    same_kept i e new r kept (ran_else e new stays) stays.size (ap (λ (x : Seen). length x.threads) goes.is ∙ length-set e.threads t goes.to)
+    (still_ready e new r.statuses kept.ready (ap (λ (x : Seen). x.running) stays.beside))
 
 module _ (i : Image) (e new : Seen) (r : SchedRow) (k : DeviceStates) (pending : Bool) (time : ℕ) (c : Counts) (t : ℕ)
-    (kept : IsKept i e r) (runs : Some t ≡ e.running)
-    (quiet : WentQuietly (decision i.entries e t k time) t e k new)
-    (stays : Stays e new) where
+    (kept : IsKept i e r) (runs : e.running ≡ Some t) (none : pending ≡ false) (goes : GoesOnce t e new) where
   abbrev board : Platform
   board = record { image = i; bases = k.bases }
 
-  abbrev one_more : Counts
-  one_more = record c { steps = c.steps + 1 }
+  -- with one step more
+  abbrev stepped : Seen → State
+  stepped x = state_by x r pending k.states time (record c { steps = c.steps + 1 })
 
-  pub quietly_kept : IsCounted c time e.next → IsKept i new r × IsCounted c time new.next
-  quietly_kept counted = (
-    ran_kept i (decision i.entries e t k time) t e new r k k (Went None) kept
-        (quietly_decided (decision i.entries e t k time) t e k new quiet) stays,
-    counted_so c time e new _ stays.beside refl counted,
-  )
+  quiet : WentQuietly (decision i.entries e t k time) t e k new
+  quiet = goes_quietly e new t goes i.entries k time
 
-  quietly_run : (state_by new r pending k.states time one_more, None) ≡ run_on board (state_by e r pending k.states time one_more)
+  quietly_run : (stepped new, None) ≡ run_on board (stepped e)
   quietly_run =
       let ran : Ran = Went None in
-      let m : MachineRow = record { board = board; state = state_by e r pending k.states time one_more } in
-      let n : MachineRow = record { board = board; state = state_by new r pending k.states time one_more } in
-      carried_so m n t (actor_of (thread (state_by e r pending k.states time one_more) t).frames) ran (state_by new r pending k.states time one_more) None (sym runs) refl
-      (came i i.entries e r k pending time one_more t kept refl new k ran (quietly_decided (decision i.entries e t k time) t e k new quiet) refl tt)
-      (quietly_left n t (actor_of (thread (state_by e r pending k.states time one_more) t).frames) ran refl)
+      let m : MachineRow = record { board = board; state = stepped e } in
+      let n : MachineRow = record { board = board; state = stepped new } in
+      carried_so m n t (actor_of (thread (stepped e) t).frames) ran (stepped new) None runs refl
+      (came i i.entries e r k pending time (record c { steps = c.steps + 1 }) t kept refl new k ran (quietly_decided (decision i.entries e t k time) t e k new quiet) refl tt)
+      (quietly_left n t (actor_of (thread (stepped e) t).frames) ran refl)
 
-  still_posture : (thread (state_by new r pending k.states time one_more) t).posture ≡ (thread (state_by e r pending k.states time c) t).posture
+  still_posture : (thread (stepped new) t).posture ≡ (thread (state_by e r pending k.states time c) t).posture
   still_posture =
       posture_with new.threads r.statuses t
       ∙ same_posture (decision i.entries e t k time) t e k new quiet
       ∙ sym (posture_with e.threads r.statuses t)
 
-  pub quietly_is : (after : State) → pending ≡ false → after ≡ one_more_step (state_by new r pending k.states time c) → (after, silence) ≡ happens board (state_by e r pending k.states time c) Step
-  quietly_is after none counts =
-      ap (λ (s : State). (s, silence)) counts
-      ∙ still_told board (state_by e r pending k.states time c) (state_by new r pending k.states time one_more) t none (sym runs) (ap (λ (x : Seen). x.running) stays.beside ∙ sym runs) still_posture quietly_run
+  -- its step tells nothing
+  pub quietly_is : (one_more_step (state_by new r pending k.states time c), silence) ≡ happens board (state_by e r pending k.states time c) Step
+  quietly_is =
+      still_told board (state_by e r pending k.states time c) (stepped new) t none runs
+      (ap (λ (x : Seen). x.running) (goes_stays e new t goes).beside ∙ runs) still_posture quietly_run
 
--- ---- whether the instruction was carried out or not
-
-pub kept_after : (i : Image) (e new : Seen) (r : SchedRow) (k : DeviceStates) (pending : Bool) (time : ℕ) (c : Counts) (t : ℕ) → IsKept i e r → IsCounted c time e.next → Some t ≡ e.running → Stays e new
-    → (went : Bool) → (went ≡ true → WentQuietly (decision i.entries e t k time) t e k new) → (went ≡ false → new ≡ e) → IsKept i new r × IsCounted c time new.next
-kept_after i e new r k pending time c t kept counted runs stays true quiet same = quietly_kept i e new r k pending time c t kept runs (quiet refl) stays counted
-kept_after i e new r k pending time c t kept counted runs stays false quiet same =
-    subst (λ (x : Seen). IsKept i x r × IsCounted c time x.next) (sym (same refl)) (kept, counted)
+-- ---- beside it
 
 -- whether a sweep has work stays as it was
 pub sweep_stays : (e new : Seen) (r : SchedRow) (pending : Bool) (devices : List DeviceState) (time : ℕ) (c : Counts) → Stays e new
@@ -158,7 +157,7 @@ pub sweep_stays : (e new : Seen) (r : SchedRow) (pending : Bool) (devices : List
 sweep_stays e new r pending devices time c stays = ap (λ (x : Seen). is_some x.front || has_quarantined x.objects) stays.beside
 
 -- where a thread runs the machine has come to no end
-pub none_ended : (i : Image) (e : Seen) (r : SchedRow) (pending : Bool) (devices : List DeviceState) (time : ℕ) (c : Counts) (t : ℕ) → IsKept i e r → Some t ≡ e.running
+pub none_ended : (i : Image) (e : Seen) (r : SchedRow) (pending : Bool) (devices : List DeviceState) (time : ℕ) (c : Counts) (t : ℕ) → IsKept i e r → e.running ≡ Some t
     → end_of (state_by e r pending devices time c) ≡ None
 none_ended i e r pending devices time c t kept runs =
-    sym (end_none (state_by e r pending devices time c) e.threads r.statuses refl kept.statuses (ready_goes r.statuses t (kept.ready t (sym runs))))
+    sym (end_none (state_by e r pending devices time c) e.threads r.statuses refl kept.statuses (ready_goes r.statuses t (kept.ready t runs)))

@@ -21,7 +21,7 @@ use Rattle.ct_machine.specs.Going.{silence, one_more_sweep}
 use Rattle.ct_machine.specs.Onward.{RanOn}
 use Rattle.ct_machine.specs.Quiet.{with_counts, IsThreadWindow}
 use Rattle.ct_machine.proofs.Appending.{both_ran, none_ran, ran_kinds}
-use Rattle.ct_machine.proofs.Rounding.{told_nothing}
+use Rattle.ct_machine.proofs.Rounding.{with_silence}
 
 -- ---- what a slice leaves
 
@@ -142,8 +142,14 @@ sweeps_room first m t most made w all l more room =
 pub step_is : (m n counted : MachineRow) → ((c : Counts) → (one_more_step (with_counts n.state c), silence) ≡ happens m.board (with_counts m.state c) Step) → n.state.counts ≡ m.state.counts → counted.state ≡ one_more_step n.state
     → (counted.state, silence) ≡ happens m.board m.state Step
 step_is m n counted is same whole =
-    told_nothing counted.state (one_more_step (with_counts n.state m.state.counts)) (whole ∙ ap (λ (c : Counts). one_more_step (with_counts n.state c)) same)
+    ap with_silence (whole ∙ ap (λ (c : Counts). one_more_step (with_counts n.state c)) same)
     ∙ is m.state.counts
+
+-- which counts nothing that a window speaks of
+pub window_counted : (m n : MachineRow) (t : ℕ) (w : Window) → n.board ≡ m.board → n.state ≡ one_more_step m.state → IsThreadWindow m t w → IsThreadWindow n t w
+window_counted m n t w board state has =
+    subst (λ (b : Platform). IsWindow w (thread n.state t).pcc b.image.ram (8 * length n.state.granules)) (sym board)
+    (subst (λ (s : State). IsWindow w (thread s t).pcc m.board.image.ram (8 * length s.granules)) (sym state) has)
 
 pub one_more : (first m n : MachineRow) (t most made : ℕ) (w : Window) (h : Happened) → Sweeping first m t most made w → RanOn m n 1 h → RanOn first n (made + 1) h
 one_more first m n t most made w h l r = both_ran first m n made 1 h l.ran l.going (omega arith) r

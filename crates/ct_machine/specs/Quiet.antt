@@ -6,11 +6,10 @@ use Rattle.def_machine.specs.Platform.{MachineRow}
 use Rattle.def_machine.specs.State.{State, Counts, thread}
 use Rattle.def_machine.specs.Threads.{statuses_of}
 use Rattle.def_sched.specs.Picks.{pick}
-use Rattle.def_step.specs.declared.Event.TheVariants.{Step}
-use Rattle.def_step.specs.Events.{happens, end_of}
+use Rattle.def_step.specs.Events.{end_of}
 use Rattle.ct_threads.specs.declared.window.Window.{Window}
 use Rattle.ct_threads.specs.Windows.{IsWindowOf}
-use Rattle.ct_machine.specs.Going.{silence, one_more_sweep}
+use Rattle.ct_machine.specs.Going.{silence}
 use Rattle.ct_machine.specs.Onward.{RanOn}
 
 -- a sweep runs, or is to begin
@@ -52,17 +51,6 @@ pub record StaysAside (m n : MachineRow) : Type 0 where
   pub sweep : has_sweep n.state ≡ has_sweep m.state
   pub pending : n.state.pending ≡ m.state.pending
   pub running : n.state.running ≡ m.state.running
-
--- One quiet round of machine m, which had come to no end, left machine n: where the sweep had no work it only counted.
-pub record WentRound (m n : MachineRow) : Type 0 where
-  pub is : (n.state, silence) ≡ happens m.board (one_more_sweep m.state) Step
-  pub board : n.board ≡ m.board
-  pub steps : n.state.counts.steps ≡ m.state.counts.steps + 1
-  pub sweeps : n.state.counts.sweeps ≡ m.state.counts.sweeps + 1
-  pub sweep : has_sweep n.state ≡ has_sweep m.state
-  pub pending : n.state.pending ≡ m.state.pending
-  pub running : n.state.running ≡ m.state.running
-  pub going : end_of m.state ≡ None
 
 -- So many rounds of machine m left machine n. They told nothing; and where there are any, m had come to no end.
 pub record WentRounds (m n : MachineRow) (count : ℕ) : Type 0 where

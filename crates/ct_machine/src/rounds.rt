@@ -8,7 +8,6 @@ ghost use Rattle.ct_machine.specs.Going.{silence};
 ghost use Rattle.ct_machine.specs.Onward.{tells, RanOn};
 
 use crate::parts::Parts;
-use crate::quiet::is_done;
 use ct_entry::Happened;
 use ct_mem::Memory;
 
@@ -57,9 +56,6 @@ impl<M: Memory + Drop> Parts<M> {
         ensures guarded { Guarded self.new }
     {
         self.sweep();
-        if self.step_quietly() {
-            return silence();
-        }
         self.step()
     }
 
@@ -87,15 +83,13 @@ impl<M: Memory + Drop> Parts<M> {
         let mut window = self.window(t);
         for made in 0..most {
             self.sweep();
-            let how = self.thread_goes_quietly(t, window);
-            if !is_done(how) {
+            if !self.goes_quietly(t, &mut window) {
                 return Rounds {
                     count: made + 1,
                     told: self.step(),
                 };
             }
             self.count_step();
-            window = self.window_after(t, how, window);
             if !self.has_sweep() {
                 return silent(made + 1);
             }
@@ -103,7 +97,7 @@ impl<M: Memory + Drop> Parts<M> {
         silent(most)
     }
 
-    /// Quiet rounds, and one more, which may tell something: at least one, and at most `most`.
+    /// Rounds up to one that isn't quiet, and that one: at least one, and at most `most`.
     fn rounds_and_one(&mut self, most: u32) -> Rounds
         requires guarded { Guarded self.old }
         requires some { 1 ≤ most }

@@ -79,7 +79,7 @@ impl<M: Memory + Drop> Parts<M> {
             (ran self.old.board self.old.state t (routine.sleep self.old.state t)) }
         ensures done { IsDone result }
     {
-        let ticks = self.engine.address_in(t, 10);
+        let ticks = self.engine.register(t, 10).address();
         self.rest_for(t, ticks)
     }
 

@@ -1,7 +1,7 @@
 //! The thread to pick, found by one look at each in the order of their last picks.
 
-ghost use Rattle.std.specs.Prelude.{ℕ, ◌≡◌, ◌+◌, ◌++◌, ◌∷◌, [], ◌<◌, All, length, remove, slice_index_or, IfOk, MatchOption};
-ghost use Rattle.def_sched.specs.Statuses.{is_ready};
+ghost use Rattle.std.specs.Prelude.{ℕ, ◌≡◌, ◌+◌, ◌++◌, ◌∷◌, [], ◌<◌, All, length, remove, slice_index_or, true, false, IfOk, MatchOption};
+ghost use Rattle.def_sched.specs.Statuses.{is_ready, status_of};
 ghost use Rattle.def_sched.specs.Picks.{first_order};
 ghost use Rattle.ct_sched.specs.Choosing.{NoneReady, IsForemost};
 
@@ -25,6 +25,18 @@ pub(crate) fn is_ready(status: Status) -> bool
     ensures { result ≡ is_ready status }
 {
     matches!(status, Status::Ready)
+}
+
+/// Whether no thread may be picked.
+pub(crate) fn are_idle(statuses: &[Status]) -> bool
+    ensures { result ≡ true → (t : ℕ) → is_ready (status_of statuses.now t) ≡ false }
+{
+    for t in 0..statuses.len() {
+        if is_ready(statuses[t]) {
+            return false;
+        }
+    }
+    true
 }
 
 /// Where in the order the thread to pick stands: no thread before it is ready and of the same

@@ -6,7 +6,7 @@ ghost use Rattle.def_sched.specs.Statuses.{is_ready, status_of, runs_again, asle
 ghost use Rattle.def_sched.specs.Picks.{pick, first_order};
 ghost use Rattle.ct_sched.specs.Sched.{SchedRow, with_statuses, after_pick};
 
-use crate::choosing::{first_order, foremost, move_last};
+use crate::choosing::{are_idle, first_order, foremost, move_last};
 use crate::turning::{all_ready, asleep, tick_all, wake_some};
 use def_refusals::NoMemory;
 use def_sched::Status;
@@ -82,6 +82,13 @@ impl Sched {
 
     /// Whether none is ready: then `pick` answers `None`.
     pub fn none_is_ready(&self) -> bool
+        ensures { result ≡ is_none (pick self.now.priorities self.now.statuses self.now.order) }
+    {
+        are_idle(&self.statuses) || self.picks_none()
+    }
+
+    /// Whether a look along the order finds none.
+    fn picks_none(&self) -> bool
         ensures { result ≡ is_none (pick self.now.priorities self.now.statuses self.now.order) }
     {
         match foremost(&self.priorities, &self.statuses, &self.order) {

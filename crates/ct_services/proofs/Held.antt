@@ -7,7 +7,7 @@ use Rattle.def_words.specs.Authority.{cap_address, cap_base, cap_top}
 use Rattle.def_memory.specs.Accesses.{IsAccess}
 use Rattle.def_machine.specs.State.{register}
 use Rattle.ct_engine.specs.Seen.{thread, Seen, hides}
-use Rattle.ct_execute.specs.Opening.{IsOpen}
+use Rattle.ct_engine.specs.Bursts.{IsOpen}
 use Rattle.ct_services.specs.Served.{IsWord}
 
 accessed : (ram size at : ℕ) → ram % 16 ≡ 0 → ram ≤ at → at + 4 ≤ ram + size → at % 4 ≡ 0 → IsAccess size (at - ram) 4

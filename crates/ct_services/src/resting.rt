@@ -8,7 +8,7 @@ ghost use Rattle.def_sched.specs.Statuses.{status_of, asleep, awaiting, woken, w
 ghost use Rattle.def_step.specs.Checks.{first_failed};
 ghost use Rattle.def_step.specs.Switch.{return_checks};
 ghost use Rattle.ct_engine.specs.Seen.{thread};
-ghost use Rattle.ct_execute.specs.Opening.{IsOpen};
+ghost use Rattle.ct_engine.specs.Bursts.{IsOpen};
 ghost use Rattle.ct_sched.specs.Sched.{with_statuses};
 ghost use Rattle.ct_services.specs.Served.{address_in, answered_in, rested, waited, with_status, word_held, unless, unless_row};
 ghost use Rattle.ct_services.specs.Served.{IfPasses, IsWord, IsWordTrap};

@@ -139,7 +139,7 @@ fn make_token<M: Memory + Drop>(engine: &mut Engine<M>, t: u32, quota: u32) -> R
     let c = engine.register(t, 12);
     match key_in(engine, c) {
         Some(key) => {
-            let size = engine.address_in(t, 11);
+            let size = engine.register(t, 11).address();
             seal_new(engine, t, quota, size, Some(key))
         }
         None => tell(engine, t, code(NO_KEY)),

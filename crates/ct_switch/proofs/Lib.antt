@@ -1,3 +1,4 @@
+pub mod Registers
 pub mod Rooms
 pub mod Rows
 pub mod Failing

@@ -121,6 +121,21 @@ left_at gs t first second one two some same also =
     by_frames [] = refl
     by_frames (h ∷ hs) = rw (same, also) refl
 
+-- and not what stood in the registers
+pub left_dressed : (gs : List Granule) (t : row.Thread) (rs : List Cap) (first second : Frame → Cap) → 0 < t.depth
+    → thread_left gs (record t { regs = rs }) first second ≡ thread_left gs t first second
+left_dressed gs t rs first second some =
+    let keep = load_filter gs t in
+    ap (λ fs. after_frame_end keep (thread_of gs true (record t { regs = rs })) fs first second) (frames_are gs true (record t { regs = rs }) some)
+    ∙ by_frames (outer_frames gs t) (some_depth t.depth some)
+    ∙ sym (ap (λ fs. after_frame_end keep (thread_of gs true t) fs first second) (frames_are gs true t some))
+  where
+    by_frames : (fs : List Frame) → (t.depth == 0) ≡ false
+        → after_frame_end (load_filter gs t) (thread_of gs true (record t { regs = rs })) (inner_frame gs t ∷ fs) first second
+        ≡ after_frame_end (load_filter gs t) (thread_of gs true t) (inner_frame gs t ∷ fs) first second
+    by_frames [] now = refl
+    by_frames (h ∷ hs) now = rw now refl
+
 -- the last frame ends
 pub left_last : (gs : List Granule) (t : row.Thread) (first second : Frame → Cap) → t.depth ≡ 1 → thread_left gs t first second ≡ nobody
 left_last gs t first second one =

@@ -10,7 +10,7 @@ ghost use Rattle.ct_switch.specs.Ready.{IsReady, IsOther, MayCall};
 ghost use Rattle.ct_switch.specs.Calls.{head_of, switch_in, call_outcome, memory_after, thread_after, row_after, registers_in, posture_in, entered_row, entered_thread};
 
 use crate::deciding::{Decision, decide, entry_of, register};
-use crate::given::{Start, given, posture, registers};
+use crate::given::{Start, dress_registers, given, posture};
 use crate::{Export, table_at};
 use ct_areas::{Thread, clear, push};
 use ct_cap::Trap;
@@ -53,7 +53,7 @@ fn dress(t: &mut Thread, x: &Export, start: &Start)
     } }
 {
     t.pcc = start.pcc;
-    t.regs = registers(x, &t.regs, start);
+    dress_registers(x, &mut t.regs, start);
     t.posture = posture(x);
 }
 

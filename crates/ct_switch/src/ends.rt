@@ -1,18 +1,18 @@
 //! A frame's end: the return, and the end with a value, by which a frame is unwound and an error handler ends.
 
-ghost use Rattle.std.specs.Prelude.{◌≡◌, ◌*◌, ◌<◌, Bool, true, nat_lt, length};
+ghost use Rattle.std.specs.Prelude.{◌≡◌, ◌*◌, ◌<◌, Bool, true, nat_lt, length, slice_index_or};
 ghost use Rattle.def_memory.specs.Granules.{plain};
+ghost use Rattle.def_machine.specs.Memory.{filtered_in};
 ghost use Rattle.def_machine.specs.State.{Frame};
 ghost use Rattle.ct_areas.specs.declared.thread.Thread as row;
 ghost use Rattle.ct_areas.specs.Threads.{thread_of};
-ghost use Rattle.ct_areas.specs.Parts.{inner_frame, saved_in};
+ghost use Rattle.ct_areas.specs.Parts.{inner_frame, register_in, saved_in};
 ghost use Rattle.ct_switch.specs.Exports.{AreSorted};
 ghost use Rattle.ct_switch.specs.Ready.{IsReady, IsOther};
-ghost use Rattle.ct_switch.specs.Calls.{returned_by, thread_left, memory_left, row_left, no_registers, ended_row, restored_row, filtered_frame, caller_registers};
+ghost use Rattle.ct_switch.specs.Calls.{handed, returned_by, thread_left, memory_left, row_left, no_registers, ended_row, restored_row, filtered_frame, caller_registers};
 
-use crate::deciding::register;
 use crate::export_of;
-use crate::given::handed;
+use crate::given::pass;
 use ct_areas::{Saved, Thread, clear, innermost, pop};
 use ct_cap::{Live, Posture, open};
 use ct_entry::Entries;
@@ -20,40 +20,52 @@ use ct_flow::posture_through;
 use ct_loadstore::filter;
 use ct_mem::Memory;
 
-/// What a frame keeps, through the load filter.
-fn through<M: Memory>(mem: &M, ram: u32, saved: &Saved) -> Saved
-    ensures { (f : Frame) → saved.now ≡ saved_in f
-        → result ≡ filtered_frame (M.granules mem.now) ram f }
+/// A register gets what a frame keeps, through the load filter.
+#[inline(always)]
+fn take<M: Memory>(register: &mut Live, mem: &M, ram: u32, kept: &Live)
+    ensures { register.new ≡ filtered_in ram (M.granules mem.now) kept.now }
 {
-    Saved {
-        export: saved.export,
-        c1: filter(mem, ram, saved.c1),
-        c2: filter(mem, ram, saved.c2),
-        c3: filter(mem, ram, saved.c3),
-        c8: filter(mem, ram, saved.c8),
-        c9: filter(mem, ram, saved.c9),
+    *register = *kept;
+    if kept.cap.tag {
+        *register = filter(mem, ram, *kept);
     }
 }
 
-/// The registers of a caller: those that its frame kept, and two results.
-fn restored(kept: &Saved, first: Live, second: Live) -> [Live; 16]
-    ensures { result ≡ caller_registers kept.now first second }
+/// The registers become those of a caller: those that its frame kept, filtered, and the two results, which stand in c10
+/// and c11.
+fn restore_registers<M: Memory>(regs: &mut [Live; 16], mem: &M, ram: u32, saved: &Saved)
+    ensures { (f : Frame) → saved.now ≡ saved_in f
+        → regs.new
+        ≡ caller_registers (filtered_frame (M.granules mem.now) ram f)
+        (slice_index_or regs.old 10 (plain 0)) (slice_index_or regs.old 11 (plain 0)) }
 {
     let none = Live::integer(0);
-    [
-        none, none, kept.c2, kept.c3, none, none, none, none, kept.c8, kept.c9, first, second,
-        none, none, none, none,
-    ]
+    regs[0] = none;
+    regs[1] = none;
+    take(&mut regs[2], mem, ram, &saved.c2);
+    take(&mut regs[3], mem, ram, &saved.c3);
+    regs[4] = none;
+    regs[5] = none;
+    regs[6] = none;
+    regs[7] = none;
+    take(&mut regs[8], mem, ram, &saved.c8);
+    take(&mut regs[9], mem, ram, &saved.c9);
+    regs[12] = none;
+    regs[13] = none;
+    regs[14] = none;
+    regs[15] = none;
 }
 
-/// A caller goes on: its program counter and registers are those that its frame kept, filtered, and its posture is by the
-/// saved c1.
-fn restore(t: &mut Thread, saved: &Saved, kept: &Saved, first: Live, second: Live)
+/// A caller goes on with the results that stand in c10 and c11: its program counter and its other registers are those
+/// that its frame kept, filtered, and its posture is by the saved c1.
+fn restore<M: Memory>(t: &mut Thread, mem: &M, saved: &Saved)
     ensures { (f : Frame) → saved.now ≡ saved_in f
-        → t.new ≡ restored_row t.old f kept.now first second }
+        → t.new
+        ≡ restored_row t.old f (filtered_frame (M.granules mem.now) t.old.area.ram f)
+        (register_in t.old 10) (register_in t.old 11) }
 {
-    t.pcc = open(kept.c1);
-    t.regs = restored(kept, first, second);
+    t.pcc = open(filter(mem, t.area.ram, saved.c1));
+    restore_registers(&mut t.regs, mem, t.area.ram, saved);
     t.posture = posture_through(t.posture, saved.c1.seal, 0, saved.c1.cap.shadow.source);
 }
 
@@ -80,18 +92,22 @@ fn end(t: &mut Thread)
     t.handling = false;
 }
 
-/// The innermost frame, which keeps this, ends with two results. `false` exactly where it was the thread's last.
-fn leave<M: Memory>(t: &mut Thread, mem: &mut M, saved: &Saved, first: Live, second: Live) -> bool
+/// The innermost frame, which keeps this, ends with the results that stand in c10 and c11. `false` exactly where it was
+/// the thread's last.
+fn leave<M: Memory>(t: &mut Thread, mem: &mut M, saved: &Saved) -> bool
     requires ready { IsReady (M.granules mem.old) t.old }
     requires saved { saved.now ≡ saved_in (inner_frame (M.granules mem.old) t.old) }
     ensures result { result ≡ nat_lt 1 t.old.depth }
     ensures thread { thread_of (M.granules mem.new) true t.new
-        ≡ thread_left (M.granules mem.old) t.old (λ f. first) (λ f. second) }
+        ≡ thread_left (M.granules mem.old) t.old (λ f. register_in t.old 10)
+        (λ f. register_in t.old 11) }
     ensures memory { M.granules mem.new ≡ memory_left (M.granules mem.old) t.old }
-    ensures row { t.new ≡ row_left (M.granules mem.old) t.old (λ f. first) (λ f. second) }
+    ensures row { t.new
+        ≡ row_left (M.granules mem.old) t.old (λ f. register_in t.old 10)
+        (λ f. register_in t.old 11) }
 {
-    let kept = through(mem, t.area.ram, saved);
     let bytes = t.top - t.area.stack;
+    restore(t, mem, saved);
     pop(t, mem);
     clear(mem, t.area.ram, t.area.stack, bytes);
     let depth = t.depth;
@@ -99,8 +115,29 @@ fn leave<M: Memory>(t: &mut Thread, mem: &mut M, saved: &Saved, first: Live, sec
         end(t);
         return false;
     }
-    restore(t, saved, &kept, first, second);
     true
+}
+
+/// The results that stand in c10 and c11 are handed back.
+#[inline(always)]
+fn pass_results(passes: bool, regs: &mut [Live; 16])
+    ensures first { slice_index_or regs.new 10 (plain 0)
+        ≡ handed passes (slice_index_or regs.old 10 (plain 0)) }
+    ensures second { slice_index_or regs.new 11 (plain 0)
+        ≡ handed passes (slice_index_or regs.old 11 (plain 0)) }
+{
+    pass(passes, &mut regs[10]);
+    pass(passes, &mut regs[11]);
+}
+
+/// c10 becomes a value and c11 zero.
+#[inline(always)]
+fn put_results(value: u32, regs: &mut [Live; 16])
+    ensures first { slice_index_or regs.new 10 (plain 0) ≡ plain value }
+    ensures second { slice_index_or regs.new 11 (plain 0) ≡ plain 0 }
+{
+    regs[10] = Live::integer(value);
+    regs[11] = Live::integer(0);
 }
 
 /// The return: c10 and c11 are handed back, untagged where the frame's export passes plain values. `false` exactly
@@ -122,11 +159,8 @@ pub fn return_to_caller<M: Memory>(t: &mut Thread, mem: &mut M, e: &Entries) -> 
 {
     let saved = innermost(t, mem);
     let passes = export_of(e, saved.export).passes;
-    let ten = register(&t.regs, 10);
-    let eleven = register(&t.regs, 11);
-    let first = handed(passes, ten);
-    let second = handed(passes, eleven);
-    leave(t, mem, &saved, first, second)
+    pass_results(passes, &mut t.regs);
+    leave(t, mem, &saved)
 }
 
 /// The end of a frame with a value, as its error handler says, or -1 where it is unwound: the return with c10 = the
@@ -143,5 +177,6 @@ pub fn end_with<M: Memory>(t: &mut Thread, mem: &mut M, value: u32) -> bool
         → thread_of (M.granules mem.new) runs u ≡ thread_of (M.granules mem.old) runs u }
 {
     let saved = innermost(t, mem);
-    leave(t, mem, &saved, Live::integer(value), Live::integer(0))
+    put_results(value, &mut t.regs);
+    leave(t, mem, &saved)
 }

@@ -1,19 +1,21 @@
 //! What a callee is given.
 
-ghost use Rattle.std.specs.Prelude.{◌≡◌, ◌+◌, ◌*◌, ◌/◌, ◌%◌, ◌≤◌, ◌<◌, ℕ, true, List, length};
+ghost use Rattle.std.specs.Prelude.{◌≡◌, ◌+◌, ◌*◌, ◌/◌, ◌%◌, ◌≤◌, ◌<◌, ℕ, true, List, length, cond, nat_lt};
 ghost use Rattle.ct_entry.specs.Listed.{Listed};
+ghost use Rattle.def_words.specs.Capability.{untagged};
 ghost use Rattle.def_memory.specs.declared.Granule.{Granule};
+ghost use Rattle.def_memory.specs.Granules.{plain};
 ghost use Rattle.def_boot.specs.Made.{return_sentry};
 ghost use Rattle.def_machine.specs.Image.{Image};
 ghost use Rattle.def_machine.specs.Frames.{callee_start};
 ghost use Rattle.ct_areas.specs.declared.thread.Thread as row;
 ghost use Rattle.ct_areas.specs.Threads.{thread_of};
 ghost use Rattle.ct_switch.specs.Exports.{callee_of};
-ghost use Rattle.ct_switch.specs.Calls.{given_by, given_in, registers_in, argument_in, handed, posture_in, stack_cap, HoldsHeads};
+ghost use Rattle.ct_switch.specs.Calls.{given_by, given_in, registers_in, handed, posture_in, stack_cap, HoldsHeads};
 
 use crate::Export;
 use ct_areas::Thread;
-use ct_cap::{Bounds, Cap, Live, Perms, Posture, Shadow, clear_tag, derive, expand, turn};
+use ct_cap::{Bounds, Cap, Live, Perms, Posture, Shadow, derive, expand, turn};
 use ct_mem::Memory;
 use def_profile::native::{NATIVE_LENGTH, RETURN_ENTRY};
 use def_profile::rights::{MEMORY_ROOT, SERVICE_RIGHTS, STACK_RIGHTS};
@@ -94,48 +96,59 @@ pub(crate) fn given<M: Memory>(t: &Thread, mem: &M, head: u32, code: u32, high: 
     }
 }
 
-/// A capability as it is passed: untagged where only plain values are.
-pub(crate) fn handed(passes: bool, c: Live) -> Live
-    ensures { result ≡ handed passes c }
+/// A register loses its tag.
+#[tactic(auto, unfolding(def_words::specs::Authority::cap_bounds, def_words::specs::Permissions::cap_perms, def_words::specs::Seals::cap_seal))]
+fn untag(register: &mut Live)
+    ensures { register.new ≡ untagged register.old }
 {
-    if passes { c } else { clear_tag(c) }
+    register.cap.tag = false;
+    register.cap.shadow = Shadow { root: 0, source: 0 };
 }
 
-/// Argument register 10 + n of the callee: the caller's where it is declared, else zero.
-fn argument(x: &Export, regs: &[Live; 16], n: u32) -> Live
-    requires { n < 6 }
-    ensures { result ≡ argument_in x.now regs.now n }
+/// A register as it is passed: untagged where only plain values are.
+#[inline(always)]
+pub(crate) fn pass(passes: bool, register: &mut Live)
+    ensures { register.new ≡ handed passes register.old }
 {
-    if n < x.args {
-        handed(x.passes, regs[10 + n as usize])
-    } else {
-        Live::integer(0)
+    if !passes {
+        untag(register);
     }
 }
 
-/// The registers of the callee.
-pub(crate) fn registers(x: &Export, regs: &[Live; 16], start: &Start) -> [Live; 16]
-    ensures { result ≡ registers_in x.now regs.now start.now }
+/// Argument register 10 + n of the callee: the caller's where it is declared, else zero.
+#[inline(always)]
+fn argument(x: &Export, register: &mut Live, n: u32)
+    ensures { register.new
+        ≡ cond (nat_lt n x.now.args) (handed x.now.passes register.old) (plain 0) }
 {
+    if n < x.args {
+        pass(x.passes, register);
+    } else {
+        *register = Live::integer(0);
+    }
+}
+
+/// The registers of the caller become those of the callee.
+pub(crate) fn dress_registers(x: &Export, regs: &mut [Live; 16], start: &Start)
+    ensures { regs.new ≡ registers_in x.now regs.old start.now }
+{
+    argument(x, &mut regs[10], 0);
+    argument(x, &mut regs[11], 1);
+    argument(x, &mut regs[12], 2);
+    argument(x, &mut regs[13], 3);
+    argument(x, &mut regs[14], 4);
+    argument(x, &mut regs[15], 5);
     let none = Live::integer(0);
-    [
-        none,
-        start.back,
-        start.stack,
-        start.globals,
-        none,
-        none,
-        none,
-        none,
-        none,
-        none,
-        argument(x, regs, 0),
-        argument(x, regs, 1),
-        argument(x, regs, 2),
-        argument(x, regs, 3),
-        argument(x, regs, 4),
-        argument(x, regs, 5),
-    ]
+    regs[0] = none;
+    regs[1] = start.back;
+    regs[2] = start.stack;
+    regs[3] = start.globals;
+    regs[4] = none;
+    regs[5] = none;
+    regs[6] = none;
+    regs[7] = none;
+    regs[8] = none;
+    regs[9] = none;
 }
 
 /// The posture of the callee.

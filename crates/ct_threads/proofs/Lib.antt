@@ -6,5 +6,4 @@ pub mod Entering
 pub mod Leaving
 pub mod Handlers
 pub mod Starts
-pub mod Past
 pub mod Windows

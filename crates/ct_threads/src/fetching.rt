@@ -1,15 +1,12 @@
 //! The checks of a fetch, and what stands at an address.
 
-ghost use Rattle.std.specs.Prelude.{◌≡◌, ◌+◌, ◌*◌, ◌%◌, ◌≤◌, ◌&&◌, ◌==◌, IfSome, is_none, is_some, length};
-ghost use Rattle.def_words.specs.Authority.{cap_address};
+ghost use Rattle.std.specs.Prelude.{◌≡◌, ◌+◌, ◌*◌, ◌%◌, ◌≤◌, ◌&&◌, ◌==◌, length};
 ghost use Rattle.def_machine.specs.Memory.{lies_in};
 ghost use Rattle.def_step.specs.Checks.{first_failed};
 ghost use Rattle.def_step.specs.Instructions.{fetch_checks, fetched, next_at, next_native, is_native_entry};
 ghost use Rattle.ct_loadstore.specs.Shapes.{space_of};
-ghost use Rattle.ct_threads.specs.Steps.{finds_word, is_word_of_ram, no_bank, NextInRange};
-ghost use Rattle.ct_threads.specs.Windows.{IsWindow};
+ghost use Rattle.ct_threads.specs.Steps.{no_bank, NextInRange};
 
-use crate::window::Window;
 use ct_cap::{Flags, Live, Perms, Trap};
 use ct_isa::decode;
 use ct_mem::Memory;
@@ -40,14 +37,6 @@ pub fn fetch_trap(pcc: Live) -> Option<Trap>
         return Some(Trap::capability(BOUNDS_CODE, PCC_REGISTER));
     }
     None
-}
-
-/// Whether each check of a fetch passes.
-#[inline(always)]
-fn may_fetch(pcc: &Live) -> bool
-    ensures { result ≡ is_none (first_failed (fetch_checks pcc.now)) }
-{
-    fetch_trap(*pcc).is_none()
 }
 
 /// Whether an aligned word at an address lies in RAM.
@@ -107,20 +96,6 @@ pub fn next<M: Memory>(mem: &M, ram: u32, at: u32) -> Next
     }
 }
 
-/// The word at an address, hidden or not, where it lies past the native routines, is a multiple of 4, and a whole word
-/// of RAM stands there; else `None`.
-fn word_at<M: Memory>(mem: &M, ram: u32, at: u32) -> Option<u32>
-    requires { ram % 16 ≡ 0 }
-    ensures when { is_some result ≡ is_word_of_ram ram (M.granules mem.now) at }
-    ensures given { IfSome result (λ w. w
-        ≡ fetched (space_of ram (M.granules mem.now) no_bank 0) at) }
-{
-    if at >= FIRST_AFTER_NATIVE && is_aligned_in_ram(mem, ram, at) {
-        return Some(word_there(mem, ram, at));
-    }
-    None
-}
-
 /// The word at an address, a multiple of 4 at which a whole word of RAM stands.
 #[inline(always)]
 fn word_there<M: Memory>(mem: &M, ram: u32, at: u32) -> u32
@@ -131,39 +106,4 @@ fn word_there<M: Memory>(mem: &M, ram: u32, at: u32) -> u32
     ensures { result ≡ fetched (space_of ram (M.granules mem.now) no_bank 0) at }
 {
     mem.load(at - ram, 4)
-}
-
-/// What `fetch_word` finds, with each check asked.
-#[inline(never)]
-fn fetch_anew<M: Memory>(pcc: &Live, mem: &M, ram: u32) -> Option<u32>
-    requires { ram % 16 ≡ 0 }
-    ensures when { is_some result ≡ finds_word pcc.now ram (M.granules mem.now) }
-    ensures given { IfSome result (λ w. w
-        ≡ fetched (space_of ram (M.granules mem.now) no_bank 0) (cap_address pcc.now)) }
-{
-    if !may_fetch(pcc) {
-        return None;
-    }
-    word_at(mem, ram, pcc.address())
-}
-
-/// The word at a program counter capability's address, hidden or not, where each check of a fetch passes, the address
-/// lies past the native routines and is a multiple of 4, and a whole word of RAM stands there; else `None`. Where the
-/// address is one of the window's next to nothing is asked. That is for speed alone: to fetch anew each time answers
-/// alike.
-///
-/// Conditions: RAM begins at a multiple of 16, and the window is one of the capability.
-#[inline(always)]
-pub fn fetch_word<M: Memory>(pcc: &Live, mem: &M, ram: u32, window: Window) -> Option<u32>
-    requires even { ram % 16 ≡ 0 }
-    requires window { IsWindow window pcc.now ram (8 * length (M.granules mem.now)) }
-    ensures when { is_some result ≡ finds_word pcc.now ram (M.granules mem.now) }
-    ensures given { IfSome result (λ w. w
-        ≡ fetched (space_of ram (M.granules mem.now) no_bank 0) (cap_address pcc.now)) }
-{
-    let at = pcc.address();
-    if pcc.cap.tag && window.holds(at) && at % 4 == 0 {
-        return Some(word_there(mem, ram, at));
-    }
-    fetch_anew(pcc, mem, ram)
 }

@@ -17,9 +17,9 @@ mod window;
 
 pub use accesses::access;
 pub use calls::{call_row, end_row, return_row};
-pub use fetching::{fetch_trap, fetch_word, next};
+pub use fetching::{fetch_trap, next};
 pub use handling::{handle_row, value_of};
-pub use registers::{branch_row, filter_row, jump_row, put_row, read, read_ref};
+pub use registers::{branch_row, filter_row, jump_row, read, read_ref};
 pub use starting::begin;
 pub use turns::{pick_row, stop_row};
 pub use window::{Window, window_of};

@@ -1,16 +1,14 @@
 //! A row's registers and its program counter, and how its thread goes on.
 
 ghost use Rattle.std.specs.Prelude.{◌≡◌, ◌<◌, map, slice_index_or};
-ghost use Rattle.def_words.specs.Capability.{integer, raised, with_address};
+ghost use Rattle.def_words.specs.Capability.{integer, with_address};
 ghost use Rattle.def_memory.specs.Granules.{plain};
 ghost use Rattle.def_machine.specs.Memory.{filtered_in};
 ghost use Rattle.def_machine.specs.Registers.{written};
 ghost use Rattle.ct_threads.specs.Rows.{row_gone};
-ghost use Rattle.ct_threads.specs.Windows.{Suits};
 
-use crate::window::Window;
 use ct_areas::Thread;
-use ct_cap::{Live, Posture, raise, turn};
+use ct_cap::{Live, Posture, turn};
 use ct_loadstore::filter;
 use ct_mem::Memory;
 
@@ -53,36 +51,6 @@ pub fn jump_row(t: &mut Thread, pcc: Live, posture: Posture, to: u32, value: Liv
     t.posture = posture;
 }
 
-/// The capability with its address raised past an instruction, by the address rule. Where it is
-/// tagged and its address is one of the window's nothing is decoded.
-#[inline(always)]
-fn go_past(l: &mut Live, window: Window)
-    requires { Suits window l.old }
-    ensures { l.new ≡ raised l.old 4 }
-{
-    if l.cap.tag && window.holds(l.address()) {
-        l.cap.word += 4;
-        return;
-    }
-    raise(l, 4);
-}
-
-/// A row whose thread goes on after its instruction; a register, whose number is below 16, gets a value, which register
-/// 0 drops.
-///
-/// Condition: the window suits the row's program counter capability.
-#[inline(always)]
-pub fn put_row(t: &mut Thread, to: u32, value: &Live, window: Window)
-    requires to { to < 16 }
-    requires window { Suits window t.old.pcc }
-    ensures { t.new ≡ row_gone t.old (raised t.old.pcc 4) t.old.posture to value.now }
-{
-    go_past(&mut t.pcc, window);
-    if to != 0 {
-        t.regs[to as usize] = *value;
-    }
-}
-
 /// A row whose thread goes on at an address.
 #[inline(always)]
 pub fn branch_row(t: &mut Thread, target: u32)
@@ -91,12 +59,22 @@ pub fn branch_row(t: &mut Thread, target: u32)
     turn(&mut t.pcc, target);
 }
 
+/// A register passes the load filter, where it stands: one that is untagged stays.
+#[inline(always)]
+fn pass<M: Memory>(register: &mut Live, mem: &M, ram: u32)
+    ensures { register.new ≡ filtered_in ram (M.granules mem.now) register.old }
+{
+    if register.cap.tag {
+        *register = filter(mem, ram, *register);
+    }
+}
+
 /// Each register passes the load filter.
 fn filter_each<M: Memory>(registers: &mut [Live; 16], mem: &M, ram: u32)
     ensures { registers.new ≡ map (filtered_in ram (M.granules mem.now)) registers.old }
 {
     for number in 0..16usize {
-        registers[number] = filter(mem, ram, registers[number]);
+        pass(&mut registers[number], mem, ram);
     }
 }
 

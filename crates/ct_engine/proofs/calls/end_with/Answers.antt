@@ -26,11 +26,12 @@ returns-clause-holds g c =
     let rows = c.args.rows.now in
     let r = c.index_mut.result.now in
     let q = c.end_row-more.new.t in
-    let lt = c.requires.holds.runs c.args.t c.requires.runs in
+    let lt = c.requires.holds.stands c.args.t (c.requires.holds.runs c.args.t c.requires.runs) in
     record {
       areas = subst (λ (o : Option ℕ). AreasFrom rows.region.ram hs o 0 rows.region.trusted rows.region.end (set rows.list.items c.args.t q)) (sym c.still-rows.ensures)
           (end_areas gs hs rows c.args.t r q c.end_row-more.result (λ f. plain c.args.value) (λ f. plain 0) c.requires.holds c.requires.runs c.index_mut.ensures.value c.requires.top c.end_row-more.ensures);
-      runs = λ u e. (let less = runs_in c.end_row-more.result c.args.t u (length rows.list.items) (sym c.still-rows.ensures ∙ e) lt in
+      runs = λ u e. e;
+      stands = λ u e. (let less = runs_in c.end_row-more.result c.args.t u (length rows.list.items) (sym c.still-rows.ensures ∙ e) lt in
           let size = length-set rows.list.items c.args.t q in omega (arith, less, size));
       stacks = stacks_turn gs hs rows c.args.t r q c.requires.holds lt c.index_mut.ensures.value
           (end_size gs hs r q c.end_row-more.result (λ f. plain c.args.value) (λ f. plain 0) c.end_row-more.ensures) c.end_row-more.ensures.area;
@@ -50,7 +51,7 @@ returns-clause-seen g c =
     let rows = c.args.rows.now in
     let r = c.index_mut.result.now in
     let q = c.end_row-more.new.t in
-    subst (λ (o : Option ℕ). seen_of hs rows (set rows.list.items c.args.t q) o ≡ ended_with (engine_view gs rows) c.args.t c.args.value) (sym c.still-rows.ensures)
+    subst (λ (o : Option ℕ). seen_of hs rows (set rows.list.items c.args.t q) o o ≡ ended_with (engine_view gs rows) c.args.t c.args.value) (sym c.still-rows.ensures)
     (end_sees gs hs rows c.args.t r q c.end_row-more.result (λ f. plain c.args.value) (λ f. plain 0)
     (λ f. plain c.args.value) (λ f. plain 0)
     c.requires.holds c.requires.runs c.index_mut.ensures.value c.requires.top c.end_row-more.ensures

@@ -19,8 +19,9 @@ returns-clause-holds g c =
     record {
       areas = trap_areas gs rows c.args.t r c.requires.holds c.requires.runs c.index_mut.ensures.value e c.args.handler c.args.trap c.handle_row.result hs q c.requires.may
           c.handle_row.ensures.result c.handle_row.ensures.memory c.handle_row.ensures.row;
-      runs = λ u is. (let lt = c.requires.holds.runs u is in let size = length-set rows.list.items c.args.t q in omega (arith, lt, size));
-      stacks = stacks_turn gs hs rows c.args.t r q c.requires.holds (c.requires.holds.runs c.args.t c.requires.runs) c.index_mut.ensures.value
+      runs = c.requires.holds.runs;
+      stands = λ u is. (let lt = c.requires.holds.stands u is in let size = length-set rows.list.items c.args.t q in omega (arith, lt, size));
+      stacks = stacks_turn gs hs rows c.args.t r q c.requires.holds (c.requires.holds.stands c.args.t (c.requires.holds.runs c.args.t c.requires.runs)) c.index_mut.ensures.value
           (trap_size gs rows c.args.t r c.requires.holds c.requires.runs c.index_mut.ensures.value e c.args.handler c.args.trap c.handle_row.result hs c.requires.may
           c.handle_row.ensures.result c.handle_row.ensures.memory)
           (trap_place gs rows c.args.t r c.requires.holds c.requires.runs c.index_mut.ensures.value e c.args.handler c.args.trap c.handle_row.result q c.handle_row.ensures.row);

@@ -10,8 +10,9 @@ returns-clause-holds g c =
     let gs = g.M.Memory.granules c.args.mem.now in
     record {
       areas = filter_areas gs c.args.rows.now c.args.t c.index_mut.result.now c.filter_row.new.t c.requires.holds c.requires.runs c.index_mut.ensures.value c.filter_row.ensures;
-      runs = λ u e. (let lt = c.requires.holds.runs u e in let size = length-set c.args.rows.now.list.items c.args.t c.filter_row.new.t in omega (arith, lt, size));
-      stacks = stacks_turn gs gs c.args.rows.now c.args.t c.index_mut.result.now c.filter_row.new.t c.requires.holds (c.requires.holds.runs c.args.t c.requires.runs) c.index_mut.ensures.value refl
+      runs = c.requires.holds.runs;
+      stands = λ u e. (let lt = c.requires.holds.stands u e in let size = length-set c.args.rows.now.list.items c.args.t c.filter_row.new.t in omega (arith, lt, size));
+      stacks = stacks_turn gs gs c.args.rows.now c.args.t c.index_mut.result.now c.filter_row.new.t c.requires.holds (c.requires.holds.stands c.args.t (c.requires.holds.runs c.args.t c.requires.runs)) c.index_mut.ensures.value refl
           (ap (λ (u : row.Thread). u.area) c.filter_row.ensures);
       heap = c.requires.holds.heap;
       room = c.requires.holds.room;

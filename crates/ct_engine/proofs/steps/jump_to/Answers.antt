@@ -8,7 +8,8 @@ use Rattle.ct_engine.proofs.steps.jump_to.Goals as goal
 pub returns-clause-holds : goal.returns-clause-holds
 returns-clause-holds c = λ gs holds. record {
   areas = jump_areas gs c.args.rows.now c.args.t c.index_mut.result.now c.jump_row.new.t c.args.pcc c.args.posture c.args.to c.args.value holds c.requires.runs c.index_mut.ensures.value c.jump_row.ensures;
-  runs = λ u e. (let lt = holds.runs u e in let size = length-set c.args.rows.now.list.items c.args.t c.jump_row.new.t in omega (arith, lt, size));
+  runs = holds.runs;
+  stands = λ u e. (let lt = holds.stands u e in let size = length-set c.args.rows.now.list.items c.args.t c.jump_row.new.t in omega (arith, lt, size));
   stacks = stacks_turn gs gs c.args.rows.now c.args.t c.index_mut.result.now c.jump_row.new.t holds c.requires.there c.index_mut.ensures.value refl
       (ap (λ (u : row.Thread). u.area) c.jump_row.ensures);
   heap = holds.heap;

@@ -16,7 +16,7 @@ returns-in-Some g c =
     let t = c.args.t in
     let made : ℕ → Seen × Ran = λ key. made_token s t (Some key) (allocation_in s c.args.quota (cap_address (register (thread s t) 11))) in
     c.seal_new.ensures
-    ∙ ap (λ size. made_token s t (Some c.in-Some.key) (allocation_in s c.args.quota size)) c.address_in-size.ensures
+    ∙ ap (λ size. made_token s t (Some c.in-Some.key) (allocation_in s c.args.quota size)) (c.address-size.ensures ∙ ap cap_address c.register.ensures)
     ∙ by_some s t c.in-Some.key (key_of s (register (thread s t) 12)) made (c.in-Some.ensures.is ∙ ap (λ (x : Cap). number_of (key_of s x)) c.register-c.ensures)
 
 pub returns-in-None : goal.returns-in-None

@@ -1,20 +1,25 @@
 use Rattle.std.proofs.Common.{◌∙◌, ap}
 use Rattle.def_memory.specs.Granules.{plain}
 use Rattle.ct_areas.specs.Threads.{thread_of}
-use Rattle.ct_switch.specs.Calls.{thread_left, row_left}
+use Rattle.ct_switch.proofs.Leaving.{stands}
 use Rattle.ct_switch.proofs.Threads.{left_others}
 use Rattle.ct_switch.proofs.ends.end_with.Goals as goal
+
+pub leave-requires : goal.leave-requires
+leave-requires g c =
+    let there = stands (g.M.Memory.granules c.args.mem.now) c.args.t.now c.put_results.new.regs (plain c.args.value) (plain 0) c.requires
+    c.put_results.ensures.first c.put_results.ensures.second in
+    record { ready = there.ready; saved = c.innermost-saved.ensures }
 
 pub returns : goal.returns
 returns g c =
     let gs = g.M.Memory.granules c.args.mem.now in
     let t = c.args.t.now in
+    let there = stands gs t c.put_results.new.regs (plain c.args.value) (plain 0) c.requires c.put_results.ensures.first c.put_results.ensures.second in
     record {
       result = c.leave.ensures.result;
-      thread = c.leave.ensures.thread ∙ ap (λ a. thread_left gs t (λ f. a) (λ f. c.integer-2.result)) c.integer.ensures
-          ∙ ap (λ b. thread_left gs t (λ f. plain c.args.value) (λ f. b)) c.integer-2.ensures;
+      thread = c.leave.ensures.thread ∙ there.thread;
       memory = c.leave.ensures.memory;
-      row = c.leave.ensures.row ∙ ap (λ a. row_left gs t (λ f. a) (λ f. c.integer-2.result)) c.integer.ensures
-          ∙ ap (λ b. row_left gs t (λ f. plain c.args.value) (λ f. b)) c.integer-2.ensures;
+      row = c.leave.ensures.row ∙ there.row;
       others = λ u runs other. ap (λ l. thread_of l runs u) c.leave.ensures.memory ∙ left_others gs t u runs c.requires other;
     }

@@ -35,8 +35,9 @@ invariant_of-self g c =
     record {
       areas = call_areas_by gs hs rows c.args.t r c.call_row.new.t e holds runs c.index_mut.ensures.value may
           (switch_in gs e r) refl c.call_row.ensures.touches c.call_row.ensures.area c.call_row.ensures.kept;
-      runs = λ u is. (let lt = holds.runs u is in let size = length-set rows.list.items c.args.t c.call_row.new.t in omega (arith, lt, size));
-      stacks = stacks_turn gs hs rows c.args.t r c.call_row.new.t holds (holds.runs c.args.t runs) c.index_mut.ensures.value
+      runs = holds.runs;
+      stands = λ u is. (let lt = holds.stands u is in let size = length-set rows.list.items c.args.t c.call_row.new.t in omega (arith, lt, size));
+      stacks = stacks_turn gs hs rows c.args.t r c.call_row.new.t holds (holds.stands c.args.t (holds.runs c.args.t runs)) c.index_mut.ensures.value
           (call_size gs hs r (switch_in gs e r) c.call_row.ensures.touches) c.call_row.ensures.area;
       heap = call_heap_by gs hs rows c.args.t r e holds runs c.index_mut.ensures.value may (switch_in gs e r) refl c.call_row.ensures.touches;
       room = holds.room;

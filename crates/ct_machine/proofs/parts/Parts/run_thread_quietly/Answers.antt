@@ -1,47 +1,60 @@
-use Rattle.std.proofs.Common.{sym, ◌∙◌}
-use Rattle.ct_machine.proofs.Rounding.{starts, has_room, goes_on, still_went, still_guarded, all_went}
+use Rattle.std.proofs.Common.{◌∙◌, arith, refl, sym, subst, ap}
+use Rattle.def_events.specs.Guarded.{Guarded}
+use Rattle.def_machine.specs.Platform.{MachineRow}
+use Rattle.ct_machine.specs.Quiet.{has_sweep, IsThreadWindow, WentRounds}
+use Rattle.ct_machine.proofs.Bursting.{burst_kept, none_seen, rounds_went, runs_seen, stays_open}
+use Rattle.ct_machine.proofs.Keeping.{counted_so}
+use Rattle.ct_machine.proofs.Quietly.{window_in}
 use Rattle.ct_machine.proofs.parts.Parts.run_thread_quietly.Goals as goal
 
-pub loop-made-init : goal.loop-made-init
-loop-made-init g c = (starts c.args.self.now c.args.t c.args.most c.requires.guarded c.requires.idle c.requires.pending c.requires.runs, c.window-window.ensures)
+pub burst-made-requires-clause-runs : goal.burst-made-requires-clause-runs
+burst-made-requires-clause-runs g c = runs_seen _ c.args.self.now c.args.t c.self.view_is c.requires.runs
 
-pub round_quietly-how-requires-clause-guarded : goal.round_quietly-how-requires-clause-guarded
-round_quietly-how-requires-clause-guarded g c = c.loop-made.invariant.0.guarded
+pub burst-made-requires-clause-opened : goal.burst-made-requires-clause-opened
+burst-made-requires-clause-opened g c =
+    let i = c.self.inside in
+    stays_open i.plan i.engine i.sched c.args.t c.self.invariant.0 i.bus i.pending i.time i.counts (runs_seen _ c.args.self.now c.args.t c.self.view_is c.requires.runs)
+    (none_seen _ c.args.self.now c.self.view_is c.requires.pending) (subst Guarded (sym c.self.view_is) c.requires.guarded)
 
-pub round_quietly-how-requires-clause-pending : goal.round_quietly-how-requires-clause-pending
-round_quietly-how-requires-clause-pending g c = c.loop-made.invariant.0.pending
+pub burst-made-requires-clause-window : goal.burst-made-requires-clause-window
+burst-made-requires-clause-window g c =
+    let i = c.self.inside in
+    window_in i.plan i.engine i.sched i.bus i.pending i.time i.counts c.args.t c.window-window.result c.self.invariant.0
+    (subst (λ (m : MachineRow). IsThreadWindow m c.args.t c.window-window.result) (sym c.self.view_is) c.window-window.ensures)
 
-pub round_quietly-how-requires-clause-runs : goal.round_quietly-how-requires-clause-runs
-round_quietly-how-requires-clause-runs g c = c.loop-made.invariant.0.runs
+pub invariant_of-self : goal.invariant_of-self
+invariant_of-self g c =
+    let i = c.self.inside in
+    let after = burst_kept i.plan i.engine i.sched c.args.t c.self.invariant.0 c.burst-made.result c.burst-made.new.self c.burst-made.ensures.goes in
+    (after.0, counted_so i.counts i.time i.engine c.burst-made.new.self _ after.1.beside refl c.self.invariant.1)
 
-pub round_quietly-how-requires-clause-window : goal.round_quietly-how-requires-clause-window
-round_quietly-how-requires-clause-window g c = c.loop-made.invariant.1
+pub count_rounds-requires-clause-steps : goal.count_rounds-requires-clause-steps
+count_rounds-requires-clause-steps g c =
+    let few = c.burst-made.ensures.most in
+    let room = c.requires.steps in
+    let same = ap (λ (m : MachineRow). m.state.counts.steps) c.self.view_is in
+    omega (arith, few, room, same)
 
-pub round_quietly-how-requires-clause-steps : goal.round_quietly-how-requires-clause-steps
-round_quietly-how-requires-clause-steps g c = has_room _ _ _ _ _ c.loop-made.invariant.0.steps c.requires.steps c.loop-made-test.true
-
-pub round_quietly-how-requires-clause-sweeps : goal.round_quietly-how-requires-clause-sweeps
-round_quietly-how-requires-clause-sweeps g c = has_room _ _ _ _ _ c.loop-made.invariant.0.sweeps c.requires.sweeps c.loop-made-test.true
-
-pub loop-made-preserved : goal.loop-made-preserved
-loop-made-preserved g c = (
-  goes_on c.args.self.now c.loop-made.self c.round_quietly-how.new.self c.args.t c.args.most c.loop-made.made c.loop-made.invariant.0 c.loop-made-test.true
-      (c.round_quietly-how.ensures.went (sym c.is_done.ensures ∙ c.if-not-is_done.false)),
-  c.window_after-window.ensures,
-)
-
-pub returns-then-not-is_done-clause-went : goal.returns-then-not-is_done-clause-went
-returns-then-not-is_done-clause-went g c =
-    still_went c.args.self.now c.loop-made.self c.round_quietly-how.new.self c.args.t c.args.most c.loop-made.made c.loop-made.invariant.0
-    (c.round_quietly-how.ensures.same (sym c.is_done.ensures ∙ c.if-not-is_done.true)) c.round_quietly-how.ensures.board
-
-pub returns-then-not-is_done-clause-guarded : goal.returns-then-not-is_done-clause-guarded
-returns-then-not-is_done-clause-guarded g c =
-    still_guarded c.args.self.now c.loop-made.self c.round_quietly-how.new.self c.args.t c.args.most c.loop-made.made c.loop-made.invariant.0
-    (c.round_quietly-how.ensures.same (sym c.is_done.ensures ∙ c.if-not-is_done.true)) c.round_quietly-how.ensures.board
+pub count_rounds-requires-clause-sweeps : goal.count_rounds-requires-clause-sweeps
+count_rounds-requires-clause-sweeps g c =
+    let few = c.burst-made.ensures.most in
+    let room = c.requires.sweeps in
+    let same = ap (λ (m : MachineRow). m.state.counts.sweeps) c.self.view_is in
+    omega (arith, few, room, same)
 
 pub returns-clause-went : goal.returns-clause-went
-returns-clause-went g c = all_went c.args.self.now c.loop-made.self c.args.t c.args.most c.loop-made.made c.loop-made.invariant.0 c.loop-made-test.false
+returns-clause-went g c =
+    let i = c.self.inside in
+    subst (λ (m : MachineRow). WentRounds m c.count_rounds.new.self c.burst-made.result) c.self.view_is
+    (rounds_went i.plan i.engine i.sched c.args.t c.self.invariant.0 i.bus i.pending i.time i.counts (runs_seen _ c.args.self.now c.args.t c.self.view_is c.requires.runs)
+    (none_seen _ c.args.self.now c.self.view_is c.requires.pending) (subst Guarded (sym c.self.view_is) c.requires.guarded)
+    (ap (λ (m : MachineRow). has_sweep m.state) c.self.view_is ∙ c.requires.idle)
+    c.burst-made.result c.burst-made.new.self c.count_rounds.new.self c.burst-made.ensures.goes c.count_rounds.ensures.state c.count_rounds.ensures.board).0
 
 pub returns-clause-guarded : goal.returns-clause-guarded
-returns-clause-guarded g c = c.loop-made.invariant.0.guarded
+returns-clause-guarded g c =
+    let i = c.self.inside in
+    (rounds_went i.plan i.engine i.sched c.args.t c.self.invariant.0 i.bus i.pending i.time i.counts (runs_seen _ c.args.self.now c.args.t c.self.view_is c.requires.runs)
+    (none_seen _ c.args.self.now c.self.view_is c.requires.pending) (subst Guarded (sym c.self.view_is) c.requires.guarded)
+    (ap (λ (m : MachineRow). has_sweep m.state) c.self.view_is ∙ c.requires.idle)
+    c.burst-made.result c.burst-made.new.self c.count_rounds.new.self c.burst-made.ensures.goes c.count_rounds.ensures.state c.count_rounds.ensures.board).1

@@ -1,0 +1,33 @@
+-- How a jump went.
+use Rattle.std.proofs.Common.{ℕ, ◌≡◌, Bool, true, false, refl, sym, subst, if◌then◌else◌}
+use Rattle.def_instr.specs.declared.Instr.{Instr}
+use Rattle.def_words.specs.declared.Cap.{Cap}
+use Rattle.ct_areas.specs.declared.thread.Thread as row
+use Rattle.ct_threads.specs.declared.window.Window.{Window}
+use Rattle.ct_threads.specs.Rows.{row_gone}
+use Rattle.ct_burst.specs.declared.going.Quietly.{Quietly}
+use Rattle.ct_burst.specs.declared.going.Quietly.TheVariants.{Loud, Turned}
+use Rattle.ct_burst.specs.Carrying.{CarriesAlone, IsBeside, CarriedAlone}
+
+pub beside_gone : (r new : row.Thread) (pcc : Cap) (to : ℕ) (value : Cap) → new ≡ row_gone r pcc r.posture to value → IsBeside r new
+beside_gone r new pcc to value is = subst (λ (q : row.Thread). IsBeside r q) (sym is) refl
+
+turned_so : (r : row.Thread) (w : Window) (i : Instr) (gone : Bool) (new : row.Thread) → (gone ≡ true → CarriesAlone r i new) → (gone ≡ false → new ≡ r) → IsBeside r new
+    → CarriedAlone r w i (if gone then Turned else Loud) new
+turned_so r w i true new carries same beside = record {
+  carries = λ told. carries refl;
+  same = λ left. absurd (cc);
+  beside = beside;
+  on = λ is. absurd (cc);
+}
+turned_so r w i false new carries same beside = record {
+  carries = λ told. absurd (cc);
+  same = λ left. same refl;
+  beside = beside;
+  on = λ is. absurd (cc);
+}
+
+-- what was carried out may have left the window
+pub turned_jump : (r : row.Thread) (w : Window) (i : Instr) (gone : Bool) (how : Quietly) (new : row.Thread) → how ≡ (if gone then Turned else Loud) → (gone ≡ true → CarriesAlone r i new)
+    → (gone ≡ false → new ≡ r) → IsBeside r new → CarriedAlone r w i how new
+turned_jump r w i gone how new is carries same beside = subst (λ h. CarriedAlone r w i h new) (sym is) (turned_so r w i gone new carries same beside)
