@@ -78,8 +78,8 @@ fn run<M: Memory>(
     ensures most { result.count ≤ most }
     ensures some { result.turned ≡ true → 1 ≤ result.count }
     ensures goes { (fs : List Frame)
-        → GoesFor ram result.count (running_thread row.old fs) (M.granules mem.old) (running_thread row.new fs)
-        (M.granules mem.new) }
+        → GoesFor ram result.count (running_thread row.old fs) (M.granules mem.old)
+        (running_thread row.new fs) (M.granules mem.new) }
     ensures stays { Stays row.old row.new (M.granules mem.old) (M.granules mem.new) }
     ensures window { result.turned ≡ false → HasWindow ram row.new (M.granules mem.new) window }
 {
@@ -138,8 +138,8 @@ pub fn burst<M: Memory>(
     requires window { HasWindow ram row.old (M.granules mem.old) window.old }
     ensures most { result ≤ most }
     ensures goes { (fs : List Frame)
-        → GoesFor ram result (running_thread row.old fs) (M.granules mem.old) (running_thread row.new fs)
-        (M.granules mem.new) }
+        → GoesFor ram result (running_thread row.old fs) (M.granules mem.old)
+        (running_thread row.new fs) (M.granules mem.new) }
     ensures stays { Stays row.old row.new (M.granules mem.old) (M.granules mem.new) }
     ensures window { HasWindow ram row.new (M.granules mem.new) window.new }
 {
@@ -174,8 +174,8 @@ pub fn once<M: Memory>(
     requires window { HasWindow ram row.old (M.granules mem.old) window.old }
     ensures most { result ≤ 1 }
     ensures goes { (fs : List Frame)
-        → GoesFor ram result (running_thread row.old fs) (M.granules mem.old) (running_thread row.new fs)
-        (M.granules mem.new) }
+        → GoesFor ram result (running_thread row.old fs) (M.granules mem.old)
+        (running_thread row.new fs) (M.granules mem.new) }
     ensures stays { Stays row.old row.new (M.granules mem.old) (M.granules mem.new) }
     ensures window { HasWindow ram row.new (M.granules mem.new) window.new }
 {

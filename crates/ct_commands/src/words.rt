@@ -104,7 +104,8 @@ fn firmware_number(text: &[u8]) -> Option<u32>
 /// line.
 pub fn form_of<'a>(words: &'a [String]) -> Option<Form<'a>>
     ensures short { IfSome result (λ f. IsShort f.task) }
-    ensures command { option_map command_of result ≡ spec.command_form (map string_bytes words.now) }
+    ensures command { option_map command_of result
+        ≡ spec.command_form (map string_bytes words.now) }
 {
     match words {
         [word, name] => of_one(word.as_str(), name.as_str()),

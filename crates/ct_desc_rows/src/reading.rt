@@ -46,7 +46,8 @@ fn all_of<R: Row>(alloc: Global, values: &[Value]) -> Result<Vec<R>, AllocError>
 
 fn words_of(alloc: Global, values: &[Value]) -> Result<Vec<u32>, AllocError>
     ensures { IfOk result
-        (λ v. v.items ≡ map (λ w. spec.hexadecimal_word (member.text_value w)) (map view values.now)) }
+        (λ v. v.items ≡ map (λ w. spec.hexadecimal_word (member.text_value w))
+        (map view values.now)) }
 {
     let mut all = Vec::new(alloc);
     for value in values {

@@ -66,7 +66,8 @@ fn are_listed(keys: &Map<String, Value>, part: PartWord, value: &Value) -> bool
 }
 
 fn members_are_listed(part: PartWord, value: &Value) -> bool
-    ensures { result ≡ list_all (spec.is_listed_member part (view value.now)) (keys_of (view value.now)) }
+    ensures { result
+        ≡ list_all (spec.is_listed_member part (view value.now)) (keys_of (view value.now)) }
 {
     match value.as_object() {
         Some(keys) => are_listed(keys, part, value),

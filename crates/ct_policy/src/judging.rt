@@ -139,7 +139,8 @@ fn add_entries(
 /// The line of a path.
 fn add_path(text: &mut String, line: u32, parts: &Parts, owners: &[Owner]) -> Result<(), NoMemory>
     ensures { OnOk result
-        (string_bytes text.new ≡ string_bytes text.old ++ denied_path_line parts.now line owners.now) }
+        (string_bytes text.new ≡ string_bytes text.old
+        ++ denied_path_line parts.now line owners.now) }
 {
     add_denied(text, line)?;
     text.push_str(" path")?;

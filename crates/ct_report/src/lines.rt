@@ -258,7 +258,8 @@ pub(crate) fn entry_values(
     rows: &[Entry],
     labels: &[Label],
 ) -> Result<Vec<Value>, AllocError>
-    ensures { IfOk result (λ v. map view v.items ≡ spec.numbered_entries 1 rows.now (shown labels.now)) }
+    ensures { IfOk result (λ v. map view v.items
+        ≡ spec.numbered_entries 1 rows.now (shown labels.now)) }
 {
     let mut values = Vec::new(alloc);
     for (index, row) in rows.iter().enumerate() {

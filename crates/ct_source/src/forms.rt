@@ -119,14 +119,16 @@ fn jump<'a>(row: &[Token<&'a [u8]>]) -> Option<Part<&'a [u8]>>
 }
 
 fn jump_and_link<'a>(row: &[Token<&'a [u8]>]) -> Option<Part<&'a [u8]>>
-    ensures { option_map part_view result ≡ source.statement_form head.JumpAndLink (row_view row.now) }
+    ensures { option_map part_view result
+        ≡ source.statement_form head.JumpAndLink (row_view row.now) }
 {
     let (rd, target) = register_target(row)?;
     Some(Part::JumpAndLink { rd, target })
 }
 
 fn jump_register<'a>(row: &[Token<&'a [u8]>]) -> Option<Part<&'a [u8]>>
-    ensures { option_map part_view result ≡ source.statement_form head.JumpRegister (row_view row.now) }
+    ensures { option_map part_view result
+        ≡ source.statement_form head.JumpRegister (row_view row.now) }
 {
     let rs = one_register(row)?;
     Some(Part::JumpRegister { rs })
@@ -140,14 +142,16 @@ fn if_zero<'a>(row: &[Token<&'a [u8]>]) -> Option<Part<&'a [u8]>>
 }
 
 fn if_not_zero<'a>(row: &[Token<&'a [u8]>]) -> Option<Part<&'a [u8]>>
-    ensures { option_map part_view result ≡ source.statement_form head.IfNotZero (row_view row.now) }
+    ensures { option_map part_view result
+        ≡ source.statement_form head.IfNotZero (row_view row.now) }
 {
     let (rs, target) = register_target(row)?;
     Some(Part::IfNotZero { rs, target })
 }
 
 fn load_immediate<'a>(row: &[Token<&'a [u8]>]) -> Option<Part<&'a [u8]>>
-    ensures { option_map part_view result ≡ source.statement_form head.LoadImmediate (row_view row.now) }
+    ensures { option_map part_view result
+        ≡ source.statement_form head.LoadImmediate (row_view row.now) }
 {
     let (rd, number) = register_number(row)?;
     Some(Part::LoadImmediate { rd, number })
@@ -161,14 +165,16 @@ fn import<'a>(row: &[Token<&'a [u8]>]) -> Option<Part<&'a [u8]>>
 }
 
 fn text_address<'a>(row: &[Token<&'a [u8]>]) -> Option<Part<&'a [u8]>>
-    ensures { option_map part_view result ≡ source.statement_form head.TextAddress (row_view row.now) }
+    ensures { option_map part_view result
+        ≡ source.statement_form head.TextAddress (row_view row.now) }
 {
     let (rd, label) = register_name(row)?;
     Some(Part::TextAddress { rd, label })
 }
 
 fn global_address<'a>(row: &[Token<&'a [u8]>]) -> Option<Part<&'a [u8]>>
-    ensures { option_map part_view result ≡ source.statement_form head.GlobalAddress (row_view row.now) }
+    ensures { option_map part_view result
+        ≡ source.statement_form head.GlobalAddress (row_view row.now) }
 {
     let (rd, label) = register_name(row)?;
     Some(Part::GlobalAddress { rd, label })

@@ -31,10 +31,12 @@ pub fn labels_are_offsets()
         → sizes k ≡ others k }
     ensures section_text { (all : Statements) (sizes : ℕ → ℕ) (slots : List Name)
         → AreSizes all sizes
-        → length (text_of all slots) ≡ total_before (section_at all) sizes section.Text (length all) }
+        → length (text_of all slots)
+        ≡ total_before (section_at all) sizes section.Text (length all) }
     ensures section_initial { (all : Statements) (sizes : ℕ → ℕ) (slots : List Name)
         → AreSizes all sizes
-        → length (initial_of all slots) ≡ total_before (section_at all) sizes section.Data (length all) }
+        → length (initial_of all slots)
+        ≡ total_before (section_at all) sizes section.Data (length all) }
 {}
 
 /// A line's fault is the least number that it breaks, each by its own condition, and a line that is

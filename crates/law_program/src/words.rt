@@ -16,8 +16,10 @@ ghost use Rattle.def_script.specs.Bytes.{two_bytes};
 /// most, a number with a leading zero or past the most, a word too many or too few, and a command
 /// that isn't one.
 pub fn forms_of_words()
-    ensures audit { command_form (codes "audit" ∷ codes "a.json" ∷ []) ≡ Some (Audit (codes "a.json")) }
-    ensures image { command_form (codes "image" ∷ codes "a.json" ∷ []) ≡ Some (Image (codes "a.json")) }
+    ensures audit { command_form (codes "audit" ∷ codes "a.json" ∷ [])
+        ≡ Some (Audit (codes "a.json")) }
+    ensures image { command_form (codes "image" ∷ codes "a.json" ∷ [])
+        ≡ Some (Image (codes "a.json")) }
     ensures run { command_form (codes "run" ∷ codes "a.json" ∷ codes "100" ∷ [])
         ≡ Some (Run (codes "a.json") 100 None) }
     ensures runimage { command_form (codes "runimage" ∷ codes "a.img" ∷ codes "4000000000" ∷ [])
@@ -43,7 +45,8 @@ pub fn forms_of_words()
     ensures empty { command_form (codes "demo" ∷ [] ∷ []) ≡ None }
     ensures no_steps { command_form (codes "run" ∷ codes "a.json" ∷ codes "0" ∷ []) ≡ None }
     ensures leading { command_form (codes "run" ∷ codes "a.json" ∷ codes "01" ∷ []) ≡ None }
-    ensures past { command_form (codes "runimage" ∷ codes "a.img" ∷ codes "4000000001" ∷ []) ≡ None }
+    ensures past { command_form (codes "runimage" ∷ codes "a.img" ∷ codes "4000000001" ∷ [])
+        ≡ None }
     ensures few { command_form (codes "run" ∷ codes "a.json" ∷ []) ≡ None }
     ensures many { command_form (codes "audit" ∷ codes "a.json" ∷ codes "b.json" ∷ []) ≡ None }
     ensures other { command_form (codes "link" ∷ codes "a.json" ∷ []) ≡ None }

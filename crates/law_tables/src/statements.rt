@@ -73,7 +73,8 @@ pub fn words_of_statements()
         ∷ capability.CUnseal ∷ capability.CAndPerm ∷ capability.CSetAddr ∷ capability.CIncAddr
         ∷ capability.CSub ∷ capability.CSetHigh ∷ capability.CTestSubset
         ∷ capability.CSetEqualExact ∷ []) }
-    ensures capability_immediates { map statement_head (codes "cincaddrimm" ∷ codes "csetboundsimm" ∷ [])
+    ensures capability_immediates { map statement_head
+        (codes "cincaddrimm" ∷ codes "csetboundsimm" ∷ [])
         ≡ map (λ o. Some (head.Immediate o))
         (immediate.CIncAddrImm ∷ immediate.CSetBoundsImm ∷ []) }
     ensures capability_sources { map statement_head
