@@ -162,7 +162,7 @@ pub fn burst<M: Memory>(
 /// to do after each.
 ///
 /// Conditions: as of `burst`.
-#[inline(always)]
+#[inline(never)]
 pub fn once<M: Memory>(
     row: &mut Thread,
     mem: &mut M,
