@@ -24,6 +24,7 @@ from checks import (blocks, counts, lists, marks, pages, pictures, places, readi
 MOST_WORDS = {"README.md": 1500}
 MOST_OF_ALL = 50000
 MOST_LINES = 800
+MOST_COLUMNS = 100
 
 
 def check_crates(faults):
@@ -74,6 +75,16 @@ def check_sizes(faults):
             faults.append(f"{path}: {MOST_LINES} lines and more")
 
 
+def check_columns(faults):
+    """A clause fits a page: comments, imports, attributes and texts of tests apart, no line of a source is wider."""
+    for path in sources.files_below("crates", ".rt"):
+        if path.startswith("crates/tests_"):
+            continue
+        for number, line in enumerate(sources.text_of(path).split("\n"), 1):
+            if len(line) > MOST_COLUMNS and not line.lstrip().startswith(("//", "#", "ghost use ", "pub ghost use ")):
+                faults.append(f"{path}:{number}: {len(line)} columns, of at most {MOST_COLUMNS}")
+
+
 def check_parts(faults):
     """Each definition whose size and digest are told by name is there."""
     for text, name in reading.PARTS:
@@ -98,8 +109,9 @@ def all_faults(wanted):
         pages.check_page(path, faults)
     for path in marks.PAGES:
         pages.check_calls(path, faults)
-    for check in (marks.check_told, check_rooms, check_proofs, check_sizes, check_parts, places.check_places,
-                  sources.check_errors, surface.check_surface, recipes.check_recipes, pages.check_cited, pages.check_read):
+    for check in (marks.check_told, check_rooms, check_proofs, check_sizes, check_columns, check_parts,
+                  places.check_places, sources.check_errors, surface.check_surface, recipes.check_recipes,
+                  pages.check_cited, pages.check_read):
         check(faults)
     for name, rows in counts.tables().items():
         if not rows:

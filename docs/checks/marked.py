@@ -55,13 +55,13 @@ MARKED = {
         "inner": "Bus::new Bus::count Bus::holds",
     },
     "ct_flow": {
-        "inner": "takes posture_through",
+        "inner": "takes posture_through jumps_on go_through become_link",
     },
     "ct_loadstore": {
-        "inner": "filter load_number load_capability store_quietly access",
+        "inner": "filter load_number load_register store_quietly access",
     },
     "ct_decode": {
-        "inner": "Decoded::instruction operands_of class_of",
+        "inner": "Decoded::reading operands_of class_of",
     },
     "ct_layout": {
         "inner": "region_length",
@@ -143,7 +143,7 @@ MARKED = {
         "inner": "Front::idle Front::running Front::at Front::begin Front::finished Front::end sweep_all",
     },
     "ct_areas": {
-        "inner": "clear areas_apart push innermost pop save resume Thread::new",
+        "inner": "clear areas_apart push innermost_export take_back pop save resume Thread::new",
     },
     "ct_switch": {
         "inner":
@@ -162,7 +162,7 @@ MARKED = {
             "branch_row filter_row begin stop_row pick_row Window::empty Window::holds window_of",
     },
     "ct_burst": {
-        "inner": "burst once",
+        "inner": "burst",
     },
     "ct_engine": {
         "inner":
@@ -171,7 +171,6 @@ MARKED = {
             "Engine::pick Engine::call Engine::return_to_caller Engine::unwind Engine::handle "
             "Engine::is_handling Engine::end_handler Engine::next Engine::loadstore Engine::allocate "
             "Engine::free Engine::made Engine::remaining Engine::quarantined Engine::window Engine::burst "
-            "Engine::once "
             "Engine::find Engine::is_key Engine::opens Engine::allocate_sealed Engine::has_sweep Engine::sweep "
             "calls_written ends_written handlers_written grants_written sweeps_written",
     },

@@ -7,10 +7,6 @@ import re
 
 from . import reading, sources
 
-# what stands so low that all above would be proved again for its move
-LOWEST = {"law_lists": {"least"}}
-
-
 def is_word(definition):
     """Whether a definition is no value: a record, a kind of values, or what gives a type."""
     first, *rest = [line for line in definition.lines if not line.startswith("--")]
@@ -55,8 +51,6 @@ def check_places(faults):
                 continue
             for name, definition in module.definitions.items():
                 place = f"{definition.file}:{definition.first}: {name}"
-                if name in LOWEST.get(crate.name, ()):
-                    continue
                 if is_word(definition):
                     faults.append(f"{place} is no sample: of a claim it belongs in a crate of definitions")
                 elif (module.name, name) not in meant:

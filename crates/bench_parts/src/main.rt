@@ -2,6 +2,7 @@
 //! file says which. After the word `then` the next measure's words follow.
 #![tactic(auto)]
 
+mod burst;
 mod decode;
 mod failure;
 mod given;
@@ -20,6 +21,7 @@ fn measure(rt: &HostRuntime, words: &[String]) -> Result<(), Failure> {
         return Err(Failure::Unmeasured);
     };
     match name.as_str() {
+        "burst" => burst::measure(rt, words),
         "decode" => decode::measure(rt, words),
         "heap" => heap::measure(rt, words),
         "planes" => planes::measure(rt, words),

@@ -8,10 +8,10 @@ use Rattle.def_memory.specs.Granules.{plain, holding_all}
 use Rattle.def_memory.specs.Ranges.{zeroed_from}
 use Rattle.def_machine.specs.State.{Thread, Frame}
 use Rattle.def_machine.specs.Frames.{pushed_frame}
+use Rattle.def_machine.specs.Memory.{filtered_in}
 use Rattle.def_areas.specs.Areas.{frame_place, frame_at, frames_in, frame_words, caller_actor, caller_top, caller_handling}
 use Rattle.ct_areas.specs.declared.thread.Area.{Area}
 use Rattle.ct_areas.specs.declared.thread.Thread as row
-use Rattle.ct_areas.specs.declared.frames.Saved.{Saved}
 use Rattle.ct_areas.specs.Threads.{area_begin}
 
 -- ---- ranges of addresses
@@ -61,8 +61,30 @@ outer_frames gs t =
     (caller_top gs (inner_place t))
     (caller_handling gs (inner_place t)) (t.depth - 1)
 
-abbrev pub saved_in : Frame → Saved
-saved_in f = record { export = f.export; c1 = f.c1; c2 = f.c2; c3 = f.c3; c8 = f.c8; c9 = f.c9 }
+-- what a frame keeps, through the load filter
+abbrev pub filtered_frame : List Granule → ℕ → Frame → Frame
+filtered_frame gs ram f = record f {
+  c1 = filtered_in ram gs f.c1;
+  c2 = filtered_in ram gs f.c2;
+  c3 = filtered_in ram gs f.c3;
+  c8 = filtered_in ram gs f.c8;
+  c9 = filtered_in ram gs f.c9;
+}
+
+-- the registers of a frame's caller, with these two results
+abbrev pub caller_registers : Frame → Cap → Cap → List Cap
+caller_registers f first second =
+    plain 0 ∷ plain 0 ∷ f.c2 ∷ f.c3 ∷ plain 0 ∷ plain 0 ∷ plain 0 ∷ plain 0 ∷ f.c8 ∷ f.c9
+    ∷ first ∷ second
+    ∷ plain 0 ∷ plain 0 ∷ plain 0 ∷ plain 0 ∷ []
+
+-- the row with what its innermost frame keeps of the caller, and the results in c10 and c11
+abbrev pub caller_row : List Granule → row.Thread → row.Thread
+caller_row gs t = record t {
+  pcc = (filtered_frame gs t.area.ram (inner_frame gs t)).c1;
+  regs = caller_registers (filtered_frame gs t.area.ram (inner_frame gs t)) (register_in t 10)
+      (register_in t 11);
+}
 
 -- where frame n of an area begins, as an address
 abbrev pub frame_address : Area → ℕ → ℕ

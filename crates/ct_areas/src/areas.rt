@@ -15,7 +15,6 @@ ghost use Rattle.ct_areas.specs.Threads.{HasArea, IsApart, area_begin, frames_mo
 ghost use Rattle.ct_areas.specs.Parts.{IsSpan};
 
 use crate::thread::Area;
-use ct_cap::{Live, expand};
 use ct_mem::Memory;
 use def_profile::layout::{AREA_HEAD, FRAME_SIZE};
 use def_words::{Cap, Shadow};
@@ -61,16 +60,6 @@ pub(crate) fn put<M: Memory>(mem: &mut M, at: u32, cap: Cap)
     ensures size { length (M.granules mem.new) ≡ length (M.granules mem.old) }
 {
     mem.store_cap(at, cap);
-}
-
-/// A capability decoded, as `expand` decodes it: a number, as most registers hold one, without looking at its fields.
-pub(crate) fn decoded(cap: Cap) -> Live
-    ensures { result ≡ cap }
-{
-    if !cap.tag && cap.word < 1 << 32 && cap.shadow.root == 0 && cap.shadow.source == 0 {
-        return Live::integer(cap.word as u32);
-    }
-    expand(cap)
 }
 
 /// So many bytes from an address on are zeroed; RAM begins at `ram`.

@@ -1,29 +1,20 @@
 //! A frame more, and a frame less.
 
-ghost use Rattle.std.specs.Prelude.{◌≡◌, ◌+◌, ◌-◌, ◌*◌, ◌/◌, ◌%◌, ◌^◌, ◌≤◌, ◌<◌, true, length, drop};
+ghost use Rattle.std.specs.Prelude.{◌≡◌, ◌+◌, ◌-◌, ◌*◌, ◌/◌, ◌%◌, ◌^◌, ◌≤◌, ◌<◌, ℕ, Bool, true, length, drop, slice_index_or};
+ghost use Rattle.def_words.specs.Seals.{cap_seal};
 ghost use Rattle.def_profile.specs.declared.layout.TheConstants.{FRAME_SIZE};
 ghost use Rattle.def_memory.specs.Granules.{plain, holding_all};
-ghost use Rattle.def_areas.specs.Areas.{frame_place, frame_words, low_half, high_half, caller_actor, caller_top, caller_handling, mark_word};
+ghost use Rattle.def_areas.specs.Areas.{frame_at, frame_place, frame_words, low_half, high_half, caller_actor, caller_top, caller_handling, mark_word};
 ghost use Rattle.def_areas.specs.Touches.{Touches};
 ghost use Rattle.ct_areas.specs.Threads.{HasArea, area_begin, area_end, frames_most, thread_of};
-ghost use Rattle.ct_areas.specs.Parts.{saved_of, with_frame, deeper, pushed, inner_frame, inner_place, outer_frames, saved_in, without_frame, frame_cleared, shallower};
+ghost use Rattle.ct_areas.specs.Parts.{saved_of, with_frame, deeper, pushed, inner_frame, inner_place, outer_frames, filtered_frame, caller_registers, caller_row, without_frame, frame_cleared, shallower};
 
-use crate::areas::{decoded, frame_offset, plain, put};
+use crate::areas::{frame_offset, plain, put};
+use crate::filtering::{take, take_link};
 use crate::thread::{Area, Thread};
 use ct_cap::{Live, shrink};
 use ct_mem::Memory;
 use def_profile::layout::FRAME_SIZE;
-
-/// What a frame keeps of its caller, and the entry number of its own export.
-#[derive(Drop)]
-pub struct Saved {
-    pub export: u32,
-    pub c1: Live,
-    pub c2: Live,
-    pub c3: Live,
-    pub c8: Live,
-    pub c9: Live,
-}
 
 /// A number fits its type.
 pub(crate) fn word(value: u32) -> u32
@@ -91,22 +82,63 @@ fn words(word: u64) -> (u32, u32)
     ((word % (1 << 32)) as u32, (word >> 32) as u32)
 }
 
-/// What the innermost frame keeps.
-pub fn innermost<M: Memory>(t: &Thread, mem: &M) -> Saved
+/// The number of the innermost frame's export.
+pub fn innermost_export<M: Memory>(t: &Thread, mem: &M) -> u32
     requires area { HasArea (8 * length (M.granules mem.now)) t.now.area }
     requires some { 0 < t.now.depth }
     requires room { t.now.depth ≤ frames_most t.now.area }
-    ensures { result ≡ saved_in (inner_frame (M.granules mem.now) t.now) }
+    ensures { result ≡ (inner_frame (M.granules mem.now) t.now).export }
 {
     let at = frame_offset(&t.area, t.depth - 1, mem);
-    Saved {
-        export: words(mem.load_cap(at + 40).word).0,
-        c1: decoded(mem.load_cap(at)),
-        c2: decoded(mem.load_cap(at + 8)),
-        c3: decoded(mem.load_cap(at + 16)),
-        c8: decoded(mem.load_cap(at + 24)),
-        c9: decoded(mem.load_cap(at + 32)),
-    }
+    words(mem.load_cap(at + 40).word).0
+}
+
+/// Registers become those of the caller that a frame keeps. c10 and c11 stay.
+fn take_kept<M: Memory>(regs: &mut [Live; 16], mem: &M, ram: u32, at: u32)
+    requires even { at % 8 ≡ 0 }
+    requires inside { at + FRAME_SIZE ≤ 8 * length (M.granules mem.now) }
+    ensures { (actor top : ℕ) (handling : Bool)
+        → regs.new
+        ≡ caller_registers (filtered_frame (M.granules mem.now) ram
+        (frame_at (M.granules mem.now) (at / 8) actor top handling))
+        (slice_index_or regs.old 10 (plain 0)) (slice_index_or regs.old 11 (plain 0)) }
+{
+    let _size = mem.size();
+    let none = Live::integer(0);
+    regs[0] = none;
+    regs[1] = none;
+    take(&mut regs[2], mem, ram, at + 8);
+    take(&mut regs[3], mem, ram, at + 16);
+    regs[4] = none;
+    regs[5] = none;
+    regs[6] = none;
+    regs[7] = none;
+    take(&mut regs[8], mem, ram, at + 24);
+    take(&mut regs[9], mem, ram, at + 32);
+    regs[12] = none;
+    regs[13] = none;
+    regs[14] = none;
+    regs[15] = none;
+}
+
+/// The program counter capability and the registers of the innermost frame's caller come back: the saved c1, and what
+/// the frame keeps, each through the load filter. c10 and c11 stay. The answer is the type and the source of the saved
+/// c1, as they were saved.
+pub fn take_back<M: Memory>(t: &mut Thread, mem: &M) -> (u32, u32)
+    requires area { HasArea (8 * length (M.granules mem.now)) t.old.area }
+    requires some { 0 < t.old.depth }
+    requires room { t.old.depth ≤ frames_most t.old.area }
+    ensures link { result
+        ≡ (
+          cap_seal (inner_frame (M.granules mem.now) t.old).c1,
+          (inner_frame (M.granules mem.now) t.old).c1.shadow.source,
+        ) }
+    ensures row { t.new ≡ caller_row (M.granules mem.now) t.old }
+{
+    let at = frame_offset(&t.area, t.depth - 1, mem);
+    let link = take_link(&mut t.pcc, mem, t.area.ram, at);
+    take_kept(&mut t.regs, mem, t.area.ram, at);
+    link
 }
 
 /// The granules of a frame of an area are zeroed.

@@ -5,11 +5,12 @@
 #![tactic(auto)]
 
 mod areas;
+mod filtering;
 mod frames;
 mod stops;
 mod thread;
 
 pub use areas::{areas_apart, clear};
-pub use frames::{Saved, innermost, pop, push};
+pub use frames::{innermost_export, pop, push, take_back};
 pub use stops::{resume, save};
 pub use thread::{Area, First, Fresh, Thread};

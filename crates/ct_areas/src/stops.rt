@@ -1,17 +1,17 @@
 //! A stop and a pick: registers go to the area and come back through the load filter.
 
 ghost use Rattle.std.specs.Prelude.{◌≡◌, ◌+◌, ◌-◌, ◌*◌, ◌/◌, ◌%◌, ◌^◌, ◌≤◌, ◌<◌, ◌∷◌, true, false, length, drop, map};
-ghost use Rattle.def_memory.specs.Granules.{plain, cap_in, caps_from, holding_all};
+ghost use Rattle.def_memory.specs.Granules.{plain, caps_from, holding_all};
 ghost use Rattle.def_machine.specs.Threads.{picked_with};
 ghost use Rattle.def_machine.specs.Memory.{filtered_in};
 ghost use Rattle.def_areas.specs.Touches.{Touches};
 ghost use Rattle.ct_areas.specs.Threads.{HasArea, area_begin, area_end, frames_most, thread_of};
 ghost use Rattle.ct_areas.specs.Parts.{register_in, with_saved, without_saved};
 
-use crate::areas::{area_offset, clear, decoded, put};
+use crate::areas::{area_offset, clear, put};
+use crate::filtering::take;
 use crate::thread::Thread;
 use ct_cap::{Live, shrink};
-use ct_loadstore::filter;
 use ct_mem::Memory;
 use def_profile::layout::SAVED_SIZE;
 
@@ -45,24 +45,6 @@ pub fn save<M: Memory>(t: &mut Thread, mem: &mut M)
     let at = area_offset(&t.area, mem);
     put(mem, at, shrink(t.pcc));
     put_registers(&t.regs, mem, at + 8);
-}
-
-/// A register gets what a granule holds, through the load filter. Where it holds the same capability already, that
-/// isn't decoded anew.
-#[inline(always)]
-fn take<M: Memory>(register: &mut Live, mem: &M, ram: u32, at: u32)
-    requires even { at % 8 ≡ 0 }
-    requires inside { at + 8 ≤ 8 * length (M.granules mem.now) }
-    ensures { register.new
-        ≡ filtered_in ram (M.granules mem.now) (cap_in (M.granules mem.now) (at / 8)) }
-{
-    let cap = mem.load_cap(at);
-    if register.cap != cap {
-        *register = decoded(cap);
-    }
-    if cap.tag {
-        *register = filter(mem, ram, *register);
-    }
 }
 
 /// Registers 1 to 15 come from granules, through the load filter, and register 0 is zero.

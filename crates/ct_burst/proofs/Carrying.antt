@@ -1,26 +1,19 @@
 -- What is carried out quietly: branches and jumps whose target is whole, and jumps by a register.
-use Rattle.std.proofs.Common.{ℕ, ◌≡◌, ◌%◌, ◌==◌, Bool, true, false, List, Option, Some, None, unwrap_or, Result, Ok, not, refl, sym, ap, ◌∙◌, subst, if◌then◌else◌}
-use Rattle.std.proofs.lemmas.Bool.{and_parts, eqb-true}
+use Rattle.std.proofs.Common.{ℕ, ◌≡◌, ◌%◌, ◌==◌, Bool, true, false, List, Option, Some, None, Ok, refl, sym, ap, subst, if◌then◌else◌}
 use Rattle.def_memory.specs.declared.Granule.{Granule}
 use Rattle.def_machine.specs.State.{Frame}
 use Rattle.def_words.specs.declared.Cap.{Cap}
 use Rattle.def_words.specs.declared.Posture.{Posture}
-use Rattle.def_words.specs.declared.Trap.{Trap}
 use Rattle.def_words.specs.Authority.{cap_address}
-use Rattle.def_words.specs.Capability.{integer, with_address}
+use Rattle.def_words.specs.Capability.{with_address}
 use Rattle.def_words.specs.Jumped.{return_link, opened}
-use Rattle.def_words.specs.Seals.{cap_seal, posture_through}
-use Rattle.def_profile.specs.declared.seals.TheConstants.{SENTRY_DISABLE}
 use Rattle.def_instr.specs.declared.Instr.{Instr}
 use Rattle.def_instr.specs.declared.Instr.TheVariants.{Jal, CJalr, Beq, Bne, Blt, Bge, Bltu, Bgeu}
 use Rattle.def_step.specs.declared.Class.TheVariants as kinds
-use Rattle.def_step.specs.Accesses.{unless}
-use Rattle.def_step.specs.Checks.{first_failed}
-use Rattle.def_step.specs.Jumps.{flow_result, is_taken, jump_target, jumped_to, branched, register_jump_checks, register_jumped, register_target, Flowed}
+use Rattle.def_step.specs.Jumps.{flow_result, is_taken, jump_target, jumped_to, branched, register_jumped, register_target}
 use Rattle.def_step.specs.Operands.{class_of, operands_of}
 use Rattle.ct_areas.specs.declared.thread.Thread as row
-use Rattle.ct_threads.specs.Rows.{row_gone}
-use Rattle.ct_burst.specs.Carrying.{value_in, offset_of, takes, jal_offset, jump_by, jump_distance, is_posture, linked_to, CarriesAlone, LeadsTo}
+use Rattle.ct_burst.specs.Carrying.{value_in, offset_of, takes, jal_offset, jump_by, jump_distance, linked_to, through, CarriesAlone}
 use Rattle.ct_burst.specs.Going.{running_thread, Carries}
 
 -- ---- branches and jumps
@@ -99,59 +92,16 @@ jump_quiet r new i n by whole turned = record { each = moved_quiet r i (offset_o
 
 -- ---- a jump by a register
 
--- a sentry that disables interrupts aside, no posture is by what the target's root names
-named_alike : (p : Posture) (kind named kept : ℕ) → (kind == SENTRY_DISABLE) ≡ false → posture_through p kind named kept ≡ posture_through p kind 0 kept
-named_alike p kind named kept other = rw other refl
+-- what the jump to a capability comes to, whatever is named
+abbrev pub GoesThrough : ℕ → ℕ → Cap → ℕ → Posture → Type 0
+GoesThrough to at x n before =
+    (here : Cap) (named : ℕ) → register_jumped to at x n here before named
+    ≡ Ok (record { link = Some (return_link here before); pcc = with_address (opened x) (register_target x n); posture = before })
 
-same_off : (p q : Bool) → (if p then q else not q) ≡ true → p ≡ q
-same_off true true e = refl
-same_off true false e = absurd (cc)
-same_off false true e = absurd (cc)
-same_off false false e = refl
-
-posture_is : (p q : Posture) → is_posture p q ≡ true → p ≡ q
-posture_is p q e =
-    let both = and_parts (if p.off then q.off else not q.off) (p.source == q.source) e in
-    ap (λ (off : Bool). posture off p.source) (same_off p.off q.off both.0) ∙ ap (posture q.off) (eqb-true p.source q.source both.1)
-  where
-    posture : Bool → ℕ → Posture
-    posture off source = record { off = off; source = source }
-
--- what the jump to x comes to where nothing is named
-abbrev Unnamed : ℕ → ℕ → Cap → ℕ → Cap → Posture → Result Flowed Trap
-Unnamed to at x n pcc before = flow_result (CJalr to at n) x x pcc before 0
-
-unnamed_is : (to at : ℕ) (x : Cap) (n : ℕ) (pcc : Cap) (before : Posture) → Unnamed to at x n pcc before ≡ register_jumped to at x n pcc before 0
+through_goes : (r new : row.Thread) (to at n : ℕ) → GoesThrough to at (value_in r at) n r.posture → new ≡ through r to at n → Goes r (CJalr to at n) new
 unfolding flow_result
-unnamed_is to at x n pcc before = refl
+through_goes r new to at n goes is ram gs fs named k time =
+    rw (goes r.pcc named) (ap (λ (q : row.Thread). running_thread q fs) is, refl, refl, refl, refl)
 
--- where nothing is by what is named
-named_by : (o : Option Trap) (a b f : Flowed) → Ok f ≡ unless o a → a ≡ b → unless o b ≡ Ok f
-named_by None a b f is same = ap Ok (sym same) ∙ sym is
-named_by (Some why) a b f is same = absurd (cc)
-
-pub leads : (to at : ℕ) (x : Cap) (n : ℕ) (pcc : Cap) (before : Posture) (off : Bool) (f : Flowed) → off ≡ (cap_seal x == SENTRY_DISABLE) → off ≡ false
-    → Ok f ≡ Unnamed to at x n pcc before → is_posture f.posture before ≡ true → LeadsTo to at x n pcc before f
-leads to at x n pcc before off f disables on is still = record {
-  is = λ named. named_by (first_failed (register_jump_checks to at x n)) (went (posture_through before (cap_seal x) 0 x.shadow.source))
-      (went (posture_through before (cap_seal x) named x.shadow.source)) f (is ∙ unnamed_is to at x n pcc before)
-      (ap went (sym (named_alike before (cap_seal x) named x.shadow.source (sym disables ∙ on))));
-  keeps = posture_is f.posture before still;
-}
-  where
-    went : Posture → Flowed
-    went posture = record { link = Some (return_link pcc before); pcc = with_address (opened x) (register_target x n); posture = posture }
-
-through_goes : (r new : row.Thread) (to at n : ℕ) (x : Cap) (f : Flowed) (value : Cap) → x ≡ value_in r at
-    → LeadsTo to at x n r.pcc r.posture f → value ≡ unwrap_or f.link (integer 0)
-    → new ≡ row_gone r f.pcc f.posture to value → Goes r (CJalr to at n) new
-unfolding flow_result
-through_goes r new to at n x f value here leads link turned ram gs fs named k time =
-    let is : register_jumped to at (value_in r at) n r.pcc r.posture named ≡ Ok f =
-    subst (λ (c : Cap). register_jumped to at c n r.pcc r.posture named ≡ Ok f) here (leads.is named) in
-    rw is (ap (λ (q : row.Thread). running_thread q fs) (subst (λ (v : Cap). new ≡ row_gone r f.pcc f.posture to v) link turned), refl, refl, refl, leads.keeps)
-
-pub through_quiet : (r new : row.Thread) (to at n : ℕ) (x : Cap) (f : Flowed) (value : Cap) → x ≡ value_in r at
-    → LeadsTo to at x n r.pcc r.posture f → value ≡ unwrap_or f.link (integer 0)
-    → new ≡ row_gone r f.pcc f.posture to value → CarriesAlone r (CJalr to at n) new
-through_quiet r new to at n x f value here leads link turned = record { each = through_goes r new to at n x f value here leads link turned }
+pub through_quiet : (r new : row.Thread) (to at n : ℕ) (x : Cap) → x ≡ value_in r at → GoesThrough to at x n r.posture → new ≡ through r to at n → CarriesAlone r (CJalr to at n) new
+through_quiet r new to at n x here goes is = record { each = through_goes r new to at n (subst (λ (c : Cap). GoesThrough to at c n r.posture) here goes) is }

@@ -5,3 +5,4 @@ pub mod Onward
 pub mod Moves
 pub mod Turns
 pub mod Past
+pub mod Loads

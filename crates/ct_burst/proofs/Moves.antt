@@ -12,7 +12,7 @@ use Rattle.ct_threads.specs.declared.window.Window.{Window}
 use Rattle.ct_threads.specs.Rows.{row_gone}
 use Rattle.ct_threads.specs.Windows.{window_holds, Suits}
 use Rattle.ct_burst.proofs.Past.{raised_past, stays, unsealed}
-use Rattle.ct_burst.specs.Carrying.{put_in, IsHeld, IsOn}
+use Rattle.ct_burst.specs.Carrying.{put_in, IsHeld, IsOn, IsPast}
 use Rattle.ct_burst.proofs.Windows.{put_suits, moved_suits}
 
 -- at an address that the window holds
@@ -42,11 +42,25 @@ whole_past w c fits tagged within whole =
     let here : (c.word + 4) % 2 ^ 32 % 4 ≡ 0 = omega (arith, whole) in
     ap (λ n. n % 4) is ∙ here
 
-pub put_on : (r new : row.Thread) (w : Window) (to : ℕ) (value : Cap) → new ≡ put_in r to value → IsHeld r w → IsOn new w
+next_past : (w : Window) (c : Cap) → Suits w c → c.tag ≡ true → window_holds w (cap_address c) ≡ true → cap_address (raised c 4) ≡ cap_address c + 4
+next_past w c fits tagged within =
+    let is : cap_address (raised c 4) ≡ (c.word + 4) % 2 ^ 32 = ap cap_address (sym (raised_past c (stays w c fits tagged within) tagged (unsealed w c fits tagged within))) in
+    let top = (fits (cap_address c) within tagged).top in
+    let less = (fits (cap_address c) within tagged).small in
+    let here : (c.word + 4) % 2 ^ 32 ≡ c.word % 2 ^ 32 + 4 = omega (arith, top, less) in
+    is ∙ here
+
+put_on : (r new : row.Thread) (w : Window) (to : ℕ) (value : Cap) → new ≡ put_in r to value → IsHeld r w → IsOn new w
 put_on r new w to value is h = record {
   suits = put_suits w r new r.posture to value is h.on.suits;
   tagged = ap (λ (q : row.Thread). q.pcc.tag) is ∙ tagged_past w r.pcc h.on.suits h.on.tagged h.held;
   whole = ap (λ (q : row.Thread). cap_address q.pcc % 4) is ∙ whole_past w r.pcc h.on.suits h.on.tagged h.held h.on.whole;
+}
+
+pub put_past : (r new : row.Thread) (w : Window) (to : ℕ) (value : Cap) → new ≡ put_in r to value → IsHeld r w → IsPast r new w
+put_past r new w to value is h = record {
+  on = put_on r new w to value is h;
+  next = ap (λ (q : row.Thread). cap_address q.pcc) is ∙ next_past w r.pcc h.on.suits h.on.tagged h.held;
 }
 
 -- where it goes to an address of the window

@@ -1,24 +1,23 @@
 -- What it is to carry out an instruction on a row and memory.
-use Rattle.std.specs.Prelude.{ℕ, ◌*◌, ◌%◌, ◌==◌, ◌&&◌, ◌≡◌, Bool, true, false, not, List, length, Option, Some, None, Ok, slice_index_or, if◌then◌else◌}
+use Rattle.std.specs.Prelude.{ℕ, ◌+◌, ◌*◌, ◌%◌, ◌≡◌, Bool, true, false, List, length, Option, Some, None, slice_index_or, if◌then◌else◌}
 use Rattle.def_instr.specs.declared.Instr.{Instr}
 use Rattle.def_instr.specs.declared.Instr.TheVariants.{Jal, Beq, Bne, Blt, Bge, Bltu, Bgeu}
 use Rattle.def_machine.specs.State.{Frame}
 use Rattle.def_memory.specs.declared.Granule.{Granule}
 use Rattle.def_memory.specs.Granules.{plain}
 use Rattle.def_step.specs.declared.Class.{Class}
-use Rattle.def_step.specs.Jumps.{is_taken, register_jumped, Flowed}
+use Rattle.def_step.specs.Jumps.{is_taken, register_target}
 use Rattle.def_step.specs.Operands.{class_of, operands, operands_of}
 use Rattle.def_words.specs.declared.Cap.{Cap}
-use Rattle.def_words.specs.declared.Posture.{Posture}
 use Rattle.def_words.specs.Authority.{cap_address}
 use Rattle.def_words.specs.Capability.{raised, with_address}
-use Rattle.def_words.specs.Jumped.{return_link}
+use Rattle.def_words.specs.Jumped.{opened, return_link}
 use Rattle.ct_areas.specs.declared.thread.Thread as row
 use Rattle.ct_threads.specs.declared.window.Window.{Window}
 use Rattle.ct_threads.specs.Rows.{row_gone}
 use Rattle.ct_threads.specs.Windows.{window_holds, IsWindow, Suits}
 use Rattle.ct_burst.specs.declared.going.Quietly.{Quietly}
-use Rattle.ct_burst.specs.declared.going.Quietly.TheVariants.{Loud, Turned, Went}
+use Rattle.ct_burst.specs.declared.going.Quietly.TheVariants.{Led, Loud, Turned, Went}
 use Rattle.ct_burst.specs.Going.{running_thread, Carries}
 
 -- the row's thread goes on by instruction i, whatever its frames
@@ -55,6 +54,11 @@ pub record IsHeld (r : row.Thread) (w : Window) : Type 0 where
   pub on : IsOn r w
   pub held : window_holds w (cap_address r.pcc) ≡ true
 
+-- the same, where it came from row r by going past an instruction
+pub record IsPast (r new : row.Thread) (w : Window) : Type 0 where
+  pub on : IsOn new w
+  pub next : cap_address new.pcc ≡ cap_address r.pcc + 4
+
 -- a register's value
 abbrev pub value_in : row.Thread → ℕ → Cap
 value_in r n = slice_index_or r.regs n (plain 0)
@@ -70,6 +74,12 @@ put_in r to value = row_gone r (raised r.pcc 4) r.posture to value
 -- a row goes on at an address, and a register gets the link of the jump there
 abbrev pub linked_to : row.Thread → ℕ → ℕ → row.Thread
 linked_to r at to = row_gone r (with_address r.pcc at) r.posture to (return_link r.pcc r.posture)
+
+-- a row goes on through register `at` with its posture, and a register gets the link
+abbrev pub through : row.Thread → ℕ → ℕ → ℕ → row.Thread
+through r to at n =
+    row_gone r (with_address (opened (value_in r at)) (register_target (value_in r at) n)) r.posture
+    to (return_link r.pcc r.posture)
 
 -- an instruction of a class, whose registers are these
 pub record HasOperands (i : Instr) (kind : Class) (to first second : ℕ) : Type 0 where
@@ -106,20 +116,13 @@ jump_by r i None = jal_offset i
 abbrev pub jump_distance : row.Thread → Instr → Option ℕ
 jump_distance r i = jump_by r i (offset_of i)
 
-abbrev pub is_posture : Posture → Posture → Bool
-is_posture p q = (if p.off then q.off else not q.off) && (p.source == q.source)
-
--- it leads there, whatever export x's root names, and leaves the posture
-pub record LeadsTo (to at : ℕ) (x : Cap) (n : ℕ) (pcc : Cap) (before : Posture) (f : Flowed) : Type 0 where
-  pub is : (named : ℕ) → register_jumped to at x n pcc before named ≡ Ok f
-  pub keeps : f.posture ≡ before
-
 -- ---- how an instruction went
 
 -- whether it was carried out
 abbrev pub went : Quietly → Bool
 went Loud = false
 went Went = true
+went Led = true
 went Turned = true
 
 -- memory staying, whatever it is
@@ -127,7 +130,8 @@ pub record CarriedAlone (r : row.Thread) (w : Window) (i : Instr) (how : Quietly
   pub carries : went how ≡ true → CarriesAlone r i new
   pub same : went how ≡ false → new ≡ r
   pub beside : IsBeside r new
-  pub on : how ≡ Went → IsOn new w
+  pub past : how ≡ Went → IsPast r new w
+  pub led : how ≡ Led → IsOn new w
 
 -- memory included
 pub record Carried (ram : ℕ) (r : row.Thread) (gs : List Granule) (w : Window) (i : Instr)
@@ -135,5 +139,6 @@ pub record Carried (ram : ℕ) (r : row.Thread) (gs : List Granule) (w : Window)
   pub carries : went how ≡ true → CarriesRow ram r gs i new after
   pub same : went how ≡ false → new ≡ r
   pub stays : Stays r new gs after
-  pub on : how ≡ Went → IsOn new w
+  pub past : how ≡ Went → IsPast r new w
+  pub led : how ≡ Led → IsOn new w
   pub memory : went how ≡ false → after ≡ gs

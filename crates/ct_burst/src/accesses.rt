@@ -12,7 +12,7 @@ ghost use Rattle.ct_burst.specs.Carrying.{Carried, IsHeld, HasOperands};
 use crate::going::{Quietly, put};
 use ct_areas::Thread;
 use ct_cap::Live;
-use ct_loadstore::{load_capability, load_number, store_quietly};
+use ct_loadstore::{load_number, load_register, store_quietly};
 use ct_mem::Memory;
 use ct_threads::{Window, read_ref};
 use def_instr::Instr;
@@ -97,11 +97,10 @@ pub(crate) fn load_whole<M: Memory>(
         (M.granules mem.now) }
 {
     let access = load_of(8, false, true, by, immediate);
-    let x = read_ref(&row.regs, by);
-    match load_capability(&access, x, mem, ram) {
-        Some(value) => put(row, to, &value, window),
-        None => Quietly::Loud,
+    if !load_register(&mut row.regs, to, &access, mem, ram) {
+        return Quietly::Loud;
     }
+    put(row, 0, &Live::integer(0), window)
 }
 
 /// A store, where its checks pass and it lies in RAM; else `Loud`, and nothing changes.

@@ -1,14 +1,14 @@
 //! One instruction after another.
 
-ghost use Rattle.std.specs.Prelude.{◌≡◌, ◌≤◌, ◌%◌, List, true, false};
+ghost use Rattle.std.specs.Prelude.{◌≡◌, ◌≤◌, ◌+◌, ◌*◌, ◌%◌, List, true, false};
 ghost use Rattle.def_machine.specs.State.{Frame};
 ghost use Rattle.def_step.specs.Instructions.{fetched};
 ghost use Rattle.def_words.specs.Authority.{cap_address};
 ghost use Rattle.ct_loadstore.specs.Shapes.{space_of};
 ghost use Rattle.ct_threads.specs.Steps.{no_bank};
 ghost use Rattle.ct_threads.specs.Windows.{Suits};
-ghost use Rattle.ct_burst.specs.Carrying.{went, HasWindow, IsHeld, IsOn, Stays};
-ghost use Rattle.ct_burst.specs.declared.going.Quietly.TheVariants.{Went};
+ghost use Rattle.ct_burst.specs.Carrying.{went, HasWindow, IsHeld, IsOn, IsPast, Stays};
+ghost use Rattle.ct_burst.specs.declared.going.Quietly.TheVariants.{Led, Went};
 ghost use Rattle.ct_burst.specs.Going.{running_thread, GoesFor, GoesOnce};
 
 use crate::dispatching::carry;
@@ -48,18 +48,81 @@ fn step<M: Memory>(
     ensures same { went result ≡ false → row.new ≡ row.old }
     ensures memory { went result ≡ false → M.granules mem.new ≡ M.granules mem.old }
     ensures stays { Stays row.old row.new (M.granules mem.old) (M.granules mem.new) }
-    ensures on { result ≡ Went → IsOn row.new window }
+    ensures past { result ≡ Went → IsPast row.old row.new window }
+    ensures led { result ≡ Led → IsOn row.new window }
 {
     let word = word_at(row, mem, ram, window);
     let at = row.pcc.address();
-    carry(row, mem, ram, decoded.instruction(at, word), window)
+    carry(row, mem, ram, decoded.reading(at, word), window)
 }
 
-/// How many instructions were carried out, and whether the last of them may have left the window.
+/// How many instructions were carried out, whether one was left after them, and whether the last of them may have led out
+/// of the window.
 #[derive(Clone, Copy, Drop)]
 struct Course {
     count: u32,
+    left: bool,
     turned: bool,
+}
+
+/// Instructions at one address after another, all of which the window holds, up to one that is left, one that leads
+/// elsewhere, or the last that is asked for.
+#[inline(always)]
+fn run_line<M: Memory>(
+    row: &mut Thread,
+    mem: &mut M,
+    ram: u32,
+    decoded: &mut Decoded,
+    window: Window,
+    most: u32,
+) -> Course
+    requires even { ram % 16 ≡ 0 }
+    requires some { 1 ≤ most }
+    requires held { IsHeld row.old window }
+    requires line { cap_address row.old.pcc + 4 * most ≤ window.last + 4 }
+    requires window { HasWindow ram row.old (M.granules mem.old) window }
+    ensures most { result.count ≤ most }
+    ensures some { result.left ≡ false → 1 ≤ result.count }
+    ensures turned { result.turned ≡ true → result.left ≡ false }
+    ensures goes { (fs : List Frame)
+        → GoesFor ram result.count (running_thread row.old fs) (M.granules mem.old)
+        (running_thread row.new fs) (M.granules mem.new) }
+    ensures stays { Stays row.old row.new (M.granules mem.old) (M.granules mem.new) }
+    ensures on { result.turned ≡ false → IsOn row.new window }
+{
+    let mut to_come = most;
+    while to_come != 0 {
+        match step(row, mem, ram, decoded, window) {
+            Quietly::Went => {}
+            Quietly::Loud => {
+                return Course {
+                    count: most - to_come,
+                    left: true,
+                    turned: false,
+                };
+            }
+            Quietly::Led => {
+                return Course {
+                    count: most - to_come + 1,
+                    left: false,
+                    turned: false,
+                };
+            }
+            Quietly::Turned => {
+                return Course {
+                    count: most - to_come + 1,
+                    left: false,
+                    turned: true,
+                };
+            }
+        }
+        to_come -= 1;
+    }
+    Course {
+        count: most,
+        left: false,
+        turned: false,
+    }
 }
 
 /// Instructions of a row that a window suits, up to one that is left, one that leads elsewhere, or the last that is
@@ -83,31 +146,37 @@ fn run<M: Memory>(
     ensures stays { Stays row.old row.new (M.granules mem.old) (M.granules mem.new) }
     ensures window { result.turned ≡ false → HasWindow ram row.new (M.granules mem.new) window }
 {
-    for count in 0..most {
-        if !window.holds(row.pcc.address()) {
+    let mut made = 0;
+    while made < most {
+        let at = row.pcc.address();
+        if !window.holds(at) {
             return Course {
-                count,
+                count: made,
+                left: true,
                 turned: false,
             };
         }
-        match step(row, mem, ram, decoded, window) {
-            Quietly::Loud => {
-                return Course {
-                    count,
-                    turned: false,
-                };
-            }
-            Quietly::Went => {}
-            Quietly::Turned => {
-                return Course {
-                    count: count + 1,
-                    turned: true,
-                };
-            }
+        let words = (window.last - at) / 4 + 1;
+        let line = run_line(row, mem, ram, decoded, window, words.min(most - made));
+        made += line.count;
+        if line.turned {
+            return Course {
+                count: made,
+                left: false,
+                turned: true,
+            };
+        }
+        if line.left {
+            return Course {
+                count: made,
+                left: true,
+                turned: false,
+            };
         }
     }
     Course {
         count: most,
+        left: false,
         turned: false,
     }
 }
@@ -126,6 +195,7 @@ fn is_on(row: &Thread, window: Window) -> bool
 /// capability the row is as it was. RAM begins at `ram`, and `decoded` is for speed alone.
 ///
 /// Conditions: RAM begins at a multiple of 16, and the window is one of the row's program counter capability.
+#[inline(never)]
 pub fn burst<M: Memory>(
     row: &mut Thread,
     mem: &mut M,
@@ -156,38 +226,4 @@ pub fn burst<M: Memory>(
         *window = window_of(&row.pcc, mem, ram);
     }
     made
-}
-
-/// One instruction of a row's thread, as a burst of one: 1 where it was carried out, else 0. It is for who has something
-/// to do after each.
-///
-/// Conditions: as of `burst`.
-#[inline(never)]
-pub fn once<M: Memory>(
-    row: &mut Thread,
-    mem: &mut M,
-    ram: u32,
-    decoded: &mut Decoded,
-    window: &mut Window,
-) -> u32
-    requires even { ram % 16 ≡ 0 }
-    requires window { HasWindow ram row.old (M.granules mem.old) window.old }
-    ensures most { result ≤ 1 }
-    ensures goes { (fs : List Frame)
-        → GoesFor ram result (running_thread row.old fs) (M.granules mem.old)
-        (running_thread row.new fs) (M.granules mem.new) }
-    ensures stays { Stays row.old row.new (M.granules mem.old) (M.granules mem.new) }
-    ensures window { HasWindow ram row.new (M.granules mem.new) window.new }
-{
-    if !is_on(row, *window) || !window.holds(row.pcc.address()) {
-        return 0;
-    }
-    match step(row, mem, ram, decoded, *window) {
-        Quietly::Loud => 0,
-        Quietly::Went => 1,
-        Quietly::Turned => {
-            *window = window_of(&row.pcc, mem, ram);
-            1
-        }
-    }
 }

@@ -1,23 +1,25 @@
 //! How a row goes on.
 
-ghost use Rattle.std.specs.Prelude.{◌≡◌, ◌<◌, ◌%◌, true};
+ghost use Rattle.std.specs.Prelude.{◌≡◌, ◌<◌, ◌%◌, true, if◌then◌else◌};
 ghost use Rattle.def_words.specs.Authority.{cap_address};
 ghost use Rattle.def_words.specs.Capability.{integer, raised, with_address};
 ghost use Rattle.ct_threads.specs.Rows.{row_gone};
 ghost use Rattle.ct_threads.specs.Windows.{window_holds, Suits};
-ghost use Rattle.ct_burst.specs.declared.going.Quietly.TheVariants.{Went};
-ghost use Rattle.ct_burst.specs.Carrying.{address_in, put_in, went, IsHeld, IsOn};
+ghost use Rattle.ct_burst.specs.declared.going.Quietly.TheVariants.{Led, Turned, Went};
+ghost use Rattle.ct_burst.specs.Carrying.{address_in, put_in, IsHeld, IsOn, IsPast};
 
 use ct_areas::Thread;
 use ct_cap::Live;
 use ct_threads::{Window, branch_row, read_ref};
 
-/// What became of an instruction: it was left, and nothing changed (`Loud`); it was carried out, and the row is tagged,
-/// at a multiple of 4, and the window suits it as before (`Went`); or it was carried out (`Turned`).
+/// What became of an instruction: it was left, and nothing changed (`Loud`); it was carried out, and the row is at the
+/// next address (`Went`) or at another (`Led`), tagged, at a multiple of 4, and the window suits it as before; or it was
+/// carried out (`Turned`).
 #[derive(Clone, Copy, PartialEq, Eq, Drop)]
 pub(crate) enum Quietly {
     Loud,
     Went,
+    Led,
     Turned,
 }
 
@@ -49,7 +51,7 @@ pub(crate) fn put(row: &mut Thread, to: u32, value: &Live, window: Window) -> Qu
     requires held { IsHeld row.old window }
     ensures went { result ≡ Went }
     ensures gone { row.new ≡ put_in row.old to value.now }
-    ensures on { IsOn row.new window }
+    ensures past { IsPast row.old row.new window }
 {
     go_past(&mut row.pcc, window);
     if to != 0 {
@@ -75,14 +77,14 @@ fn go_inside(l: &mut Live, target: u32, window: Window)
 pub(crate) fn go_to(row: &mut Thread, target: u32, window: Window) -> Quietly
     requires on { IsOn row.old window }
     requires whole { target % 4 ≡ 0 }
-    ensures went { went result ≡ true }
+    ensures came { result ≡ (if window_holds window target then Led else Turned) }
     ensures gone { row.new
         ≡ row_gone row.old (with_address row.old.pcc target) row.old.posture 0 (integer 0) }
-    ensures on { result ≡ Went → IsOn row.new window }
+    ensures on { window_holds window target ≡ true → IsOn row.new window }
 {
     if window.holds(target) {
         go_inside(&mut row.pcc, target, window);
-        return Quietly::Went;
+        return Quietly::Led;
     }
     branch_row(row, target);
     Quietly::Turned

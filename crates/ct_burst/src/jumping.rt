@@ -1,35 +1,33 @@
 //! Branches and jumps, on a row where it stands.
 
-ghost use Rattle.std.specs.Prelude.{◌≡◌, ◌<◌, ◌%◌, ◌==◌, Some, IfSome, true, false, if◌then◌else◌};
+ghost use Rattle.std.specs.Prelude.{◌≡◌, ◌<◌, ◌%◌, ◌==◌, Some, true, false, if◌then◌else◌};
 ghost use Rattle.def_instr.specs.declared.Instr.TheVariants.{CJalr, Jal};
-ghost use Rattle.def_profile.specs.declared.seals.TheConstants.{SENTRY_DISABLE};
+ghost use Rattle.def_machine.specs.Registers.{written};
 ghost use Rattle.def_step.specs.declared.Class.TheVariants as kinds;
 ghost use Rattle.def_step.specs.Jumps.{jump_target};
 ghost use Rattle.def_step.specs.Operands.{operands_of};
-ghost use Rattle.def_words.specs.Seals.{cap_seal};
+ghost use Rattle.def_words.specs.Jumped.{return_link};
 ghost use Rattle.ct_decode.specs.Reading.{AreRegisters};
 ghost use Rattle.ct_burst.specs.declared.going.Quietly.TheVariants.{Loud, Turned};
-ghost use Rattle.ct_burst.specs.Carrying.{is_posture, jump_distance, linked_to, offset_of, CarriedAlone, CarriesAlone, IsBeside, IsHeld, LeadsTo, HasOperands};
+ghost use Rattle.ct_burst.specs.Carrying.{jump_distance, linked_to, offset_of, takes, through, CarriedAlone, CarriesAlone, IsBeside, IsHeld, HasOperands};
 
-use crate::going::{Quietly, address_in, go_to};
+use crate::going::{Quietly, address_in, go_to, put};
 use ct_areas::Thread;
-use ct_cap::{Live, Posture, link, turn};
-use ct_flow::{Flow, flow, takes};
-use ct_threads::{Window, jump_row, read};
+use ct_cap::{Live, Posture, turn};
+use ct_flow::{become_link, go_through, jumps_on, takes};
+use ct_threads::{Window, read_ref};
 use def_instr::Instr;
-use def_profile::seals::SENTRY_DISABLE;
 
-/// By how much a branch by an offset moves the program counter, taken or not.
+/// Whether a branch is taken.
 #[inline(always)]
-fn moved_by(row: &Thread, instruction: Instr, first: u32, second: u32, offset: u32) -> u32
+fn is_branch_taken(row: &Thread, instruction: Instr, first: u32, second: u32) -> bool
     requires takes { HasOperands instruction kinds.Jump 0 first second }
     requires registers { AreRegisters (operands_of instruction) }
-    requires offset { offset_of instruction ≡ Some offset }
-    ensures { Some result ≡ jump_distance row.now instruction }
+    ensures { result ≡ takes row.now instruction }
 {
     let x = address_in(row, first);
     let y = address_in(row, second);
-    if takes(instruction, x, y) { offset } else { 4 }
+    takes(instruction, x, y)
 }
 
 /// A branch by an offset, taken or not, where it leads to a multiple of 4; else `Loud`, and nothing changes.
@@ -48,8 +46,22 @@ pub(crate) fn branch(
     requires offset { offset_of instruction ≡ Some offset }
     ensures { CarriedAlone row.old window instruction result row.new }
 {
-    let by = moved_by(row, instruction, first, second, offset);
-    go_by(row, instruction, by, window)
+    if !is_branch_taken(row, instruction, first, second) {
+        return go_past(row, instruction, window);
+    }
+    go_by(row, instruction, offset, window)
+}
+
+/// A branch that isn't taken.
+#[inline(always)]
+fn go_past(row: &mut Thread, instruction: Instr, window: Window) -> Quietly
+    requires held { IsHeld row.old window }
+    requires by { Some 4 ≡ jump_distance row.old instruction }
+    requires to { (operands_of instruction).to ≡ 0 }
+    ensures { CarriedAlone row.old window instruction result row.new }
+{
+    let _instruction = instruction;
+    put(row, 0, &Live::integer(0), window)
 }
 
 /// `jal`, where it leads to a multiple of 4; else `Loud`, and nothing changes.
@@ -107,6 +119,26 @@ fn turned_if(went: bool) -> Quietly
     if went { Quietly::Turned } else { Quietly::Loud }
 }
 
+/// A register becomes the link of a jump from here.
+#[inline(always)]
+fn link_to(register: &mut Live, here: &Live, posture: Posture)
+    ensures { register.new ≡ return_link here.now posture }
+{
+    *register = *here;
+    become_link(register, posture);
+}
+
+/// A register gets the link of a jump from here, which register 0 drops.
+#[inline(always)]
+fn leave_link(registers: &mut [Live; 16], to: u32, here: &Live, posture: Posture)
+    requires { to < 16 }
+    ensures { registers.new ≡ written registers.old to (return_link here.now posture) }
+{
+    if to != 0 {
+        link_to(&mut registers[to as usize], here, posture);
+    }
+}
+
 /// `jal`, where it leads to a multiple of 4; else `false`, and nothing changes.
 #[inline(never)]
 fn link_by(row: &mut Thread, to: u32, offset: u32) -> bool
@@ -116,16 +148,25 @@ fn link_by(row: &mut Thread, to: u32, offset: u32) -> bool
         → row.new ≡ linked_to row.old (jump_target row.old.pcc offset) to }
     ensures same { result ≡ false → row.new ≡ row.old }
 {
-    let mut pcc = row.pcc;
-    let posture = row.posture;
-    let target = pcc.address().wrapping_add(offset);
+    let target = row.pcc.address().wrapping_add(offset);
     if target % 4 != 0 {
         return false;
     }
-    let link = link(pcc, posture);
-    turn(&mut pcc, target);
-    jump_row(row, pcc, posture, to, link);
+    leave_link(&mut row.regs, to, &row.pcc, row.posture);
+    turn(&mut row.pcc, target);
     true
+}
+
+/// A row goes on through a register, and a register gets the link.
+#[inline(always)]
+fn go_by_register(row: &mut Thread, to: u32, at: u32, immediate: u32)
+    requires to { to < 16 }
+    requires at { at < 16 }
+    ensures { row.new ≡ through row.old to at immediate }
+{
+    let here = row.pcc;
+    go_through(&mut row.pcc, read_ref(&row.regs, at), immediate);
+    leave_link(&mut row.regs, to, &here, row.posture);
 }
 
 /// A jump by a register, where no check refuses it and the posture stays; else `false`, and nothing changes.
@@ -137,55 +178,10 @@ fn jump_through(row: &mut Thread, to: u32, at: u32, immediate: u32) -> bool
     ensures same { result ≡ false → row.new ≡ row.old }
     ensures beside { IsBeside row.old row.new }
 {
-    let x = read(&row.regs, at);
-    match led(to, at, x, immediate, row.pcc, row.posture) {
-        Some(went) => {
-            let link = went.link.unwrap_or(Live::integer(0));
-            jump_row(row, went.pcc, went.posture, to, link);
-            true
-        }
-        None => false,
+    let x = read_ref(&row.regs, at);
+    if !jumps_on(to, at, x, immediate, row.posture) {
+        return false;
     }
-}
-
-/// Where a jump to the capability x in register `at` leads, with the link in register `to`: it leaves the posture that
-/// was, whatever export x's root names. `None` where it is left.
-#[inline(always)]
-fn led(to: u32, at: u32, x: Live, immediate: u32, pcc: Live, before: Posture) -> Option<Flow>
-    ensures { IfSome result (λ f. LeadsTo to at x immediate pcc before f) }
-{
-    if disables(&x) {
-        return None;
-    }
-    let jump = Instr::CJalr {
-        rd: to,
-        rs1: at,
-        immediate,
-    };
-    match flow(jump, x, x, pcc, before, 0) {
-        Ok(went) => {
-            if is_posture(went.posture, before) {
-                Some(went)
-            } else {
-                None
-            }
-        }
-        Err(_) => None,
-    }
-}
-
-/// Whether a capability is a sentry that disables interrupts.
-#[inline(always)]
-fn disables(x: &Live) -> bool
-    ensures { result ≡ (cap_seal x.now == SENTRY_DISABLE) }
-{
-    x.seal == SENTRY_DISABLE
-}
-
-/// Whether two postures are the same.
-#[inline(always)]
-fn is_posture(p: Posture, q: Posture) -> bool
-    ensures { result ≡ is_posture p q }
-{
-    p.off == q.off && p.source == q.source
+    go_by_register(row, to, at, immediate);
+    true
 }

@@ -14,4 +14,4 @@ mod going;
 mod integers;
 mod jumping;
 
-pub use bursting::{burst, once};
+pub use bursting::burst;

@@ -13,7 +13,7 @@ abbrev pub read_as : ℕ → Instr
 read_as word = unwrap_or (instruction_in word) Ebreak
 
 abbrev pub reading_of : ℕ → Reading
-reading_of word = record { word = word; instruction = read_as word }
+reading_of word = record { word = word; instruction = read_as word; room = 0 }
 
 -- each is a register's number
 pub record AreRegisters (o : Operands) : Type 0 where

@@ -3,10 +3,9 @@
 ghost use Rattle.std.specs.Prelude.{◌≡◌, ◌<◌, slice_index_or, true};
 ghost use Rattle.def_step.specs.Operands.{operands_of};
 ghost use Rattle.ct_decode.specs.declared.decoded.TheConstants.{SLOTS};
-ghost use Rattle.ct_decode.specs.Reading.{read_as, reading_of, AreRegisters, IsRead};
+ghost use Rattle.ct_decode.specs.Reading.{reading_of, AreRegisters, IsRead};
 
 use crate::reading::{Reading, read};
-use def_instr::Instr;
 use def_refusals::NoMemory;
 use std::alloc::Global;
 use std::marker::Model;
@@ -97,22 +96,22 @@ impl Decoded {
         }
     }
 
-    /// The instruction that a slot holds.
+    /// The reading that a slot holds.
     #[inline(always)]
-    fn held(&self, slot: usize) -> &Instr
+    fn held(&self, slot: usize) -> &Reading
         requires { slot < SLOTS }
-        ensures is { result.now ≡ (slice_index_or self.now slot (reading_of 0)).instruction }
-        ensures registers { AreRegisters (operands_of result.now) }
+        ensures is { result.now ≡ slice_index_or self.now slot (reading_of 0) }
+        ensures registers { AreRegisters (operands_of result.now.instruction) }
     {
-        &self.rows[slot].instruction
+        &self.rows[slot]
     }
 
     /// What the word at an address says; a word that is no instruction's reads as the breakpoint. Where the address's
     /// slot holds the same word already, or what is kept beside it is that word, nothing is decoded.
     #[inline(always)]
-    pub fn instruction(&mut self, at: u32, word: u32) -> &Instr
-        ensures is { result.now ≡ read_as word }
-        ensures registers { AreRegisters (operands_of result.now) }
+    pub fn reading(&mut self, at: u32, word: u32) -> &Reading
+        ensures is { result.now ≡ reading_of word }
+        ensures registers { AreRegisters (operands_of result.now.instruction) }
     {
         let slot = slot_of(at);
         self.keep(slot, word);

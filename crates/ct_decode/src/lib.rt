@@ -8,3 +8,4 @@ mod reading;
 
 pub use decoded::Decoded;
 pub use operands::{class_of, operands_of};
+pub use reading::Reading;

@@ -1,5 +1,5 @@
 -- Instructions on the running thread's row and on memory, one after another, are the ones of what is seen.
-use Rattle.std.proofs.Common.{ℕ, zero, suc, ◌*◌, ◌≡◌, ◌<◌, true, List, [], length, map, Some, refl, sym, ap, ◌∙◌, subst, arith}
+use Rattle.std.proofs.Common.{ℕ, zero, suc, ◌*◌, ◌≡◌, ◌≤◌, ◌<◌, true, List, [], length, map, Some, refl, sym, ap, ◌∙◌, subst, arith}
 use Rattle.std.proofs.Math.ListN.{get_or, set}
 use Rattle.std.proofs.lemmas.List.{length-set, get_or-set_same, set-set}
 use Rattle.std.specs.Vec.{with_item}
@@ -116,11 +116,11 @@ went_thread gs rows t r w hs g =
 -- ---- one after another
 
 -- what is known before them
-pub record Begins (gs : List Granule) (rows : Rows) (t : ℕ) (r : row.Thread) : Type 0 where
+pub record Begins (gs : List Granule) (rows : Rows) (t : ℕ) (r : row.Thread) (most : ℕ) : Type 0 where
   pub holds : IsEngine gs rows
   pub runs : rows.running ≡ Some t
   pub is : IsRow rows t r
-  pub opened : StaysOpen t (engine_view gs rows)
+  pub opened : StaysOpen t most (engine_view gs rows)
 
 -- after so many thread t is w, in these rows over these granules
 pub record Stands (s : Seen) (t n : ℕ) (w : Thread) (hs : List Granule) (rows : Rows) : Type 0 where
@@ -145,27 +145,27 @@ stands_by s t n w hs rows a b same h =
       is = subst (λ (v : Seen). thread v t ≡ w) view h.is;
     }
 
-own_row : (gs : List Granule) (rows : Rows) (t : ℕ) (r : row.Thread) (w : Thread) → Begins gs rows t r → w ≡ thread (engine_view gs rows) t → rows.list.items ≡ set rows.list.items t (row_of r w)
-own_row gs rows t r w b is =
+own_row : (gs : List Granule) (rows : Rows) (t : ℕ) (r : row.Thread) (most : ℕ) (w : Thread) → Begins gs rows t r most → w ≡ thread (engine_view gs rows) t → rows.list.items ≡ set rows.list.items t (row_of r w)
+own_row gs rows t r most w b is =
     let same : row_of r w ≡ r = ap (λ (u : Thread). row_of r u) (is ∙ running_is gs rows t r b.holds b.runs b.is) in
     sym (ap (λ (q : row.Thread). set rows.list.items t q) (same ∙ b.is) ∙ set_self rows.list.items t r)
 
-pub burst_stands : (gs : List Granule) (rows : Rows) (t : ℕ) (r : row.Thread) (n : ℕ) (w : Thread) (hs : List Granule) → Begins gs rows t r
+pub burst_stands : (gs : List Granule) (rows : Rows) (t : ℕ) (r : row.Thread) (most n : ℕ) (w : Thread) (hs : List Granule) → Begins gs rows t r most → n ≤ most
     → raw.GoesFor rows.region.ram n (thread (engine_view gs rows) t) gs w hs → Stands (engine_view gs rows) t n w hs (put_row rows t (row_of r w))
-burst_stands gs rows t r zero w hs b g =
-    stands_by (engine_view gs rows) t zero w hs rows rows (put_row rows t (row_of r w)) (own_row gs rows t r w b g.0)
+burst_stands gs rows t r most zero w hs b few g =
+    stands_by (engine_view gs rows) t zero w hs rows rows (put_row rows t (row_of r w)) (own_row gs rows t r most w b g.0)
     (subst (λ (xs : List Granule). Stands (engine_view gs rows) t zero w xs rows) (sym g.1)
     (record { holds = b.holds; goes = refl; is = sym g.0 }))
-burst_stands gs rows t r (suc n) w hs b g =
+burst_stands gs rows t r most (suc n) w hs b few g =
     let mid : Thread = g.0 in
     let between : List Granule = g.1 in
     let there : Rows = put_row rows t (row_of r mid) in
-    let before : Stands (engine_view gs rows) t n mid between there = burst_stands gs rows t r n mid between b g.2 in
+    let before : Stands (engine_view gs rows) t n mid between there = burst_stands gs rows t r most n mid between b (omega (arith, few)) g.2 in
     let step : Going between there t (row_of r mid) w hs = record {
       holds = before.holds;
       runs = b.runs;
       is = sym (get_or-set_same rows.list.items t (row_of r mid) (row_of r mid) (b.holds.stands t (b.holds.runs t b.runs)));
-      opened = b.opened n (engine_view between there) before.goes;
+      opened = b.opened n (engine_view between there) (omega (arith, few)) before.goes;
       goes = subst (λ (u : Thread). raw.GoesOnce rows.region.ram u between w hs) (sym before.is) g.3;
     } in
     stands_by (engine_view gs rows) t (suc n) w hs rows (put_row there t (row_of r w)) (put_row rows t (row_of r w)) (set-set rows.list.items t (row_of r mid) (row_of r w))
@@ -176,11 +176,11 @@ burst_stands gs rows t r (suc n) w hs b g =
     })
 
 -- after a burst that took row r to q, with the frames that the thread has all the time
-pub burst_ends : (gs : List Granule) (rows : Rows) (t : ℕ) (r : row.Thread) (n : ℕ) (q : row.Thread) (hs : List Granule) → Begins gs rows t r
+pub burst_ends : (gs : List Granule) (rows : Rows) (t : ℕ) (r : row.Thread) (most n : ℕ) (q : row.Thread) (hs : List Granule) → Begins gs rows t r most → n ≤ most
     → ((fs : List Frame) → raw.GoesFor rows.region.ram n (raw.running_thread r fs) gs (raw.running_thread q fs) hs) → q ≡ row_of r (raw.running_thread q [])
     → Stands (engine_view gs rows) t n (raw.running_thread q (living gs true r).frames) hs (put_row rows t q)
-burst_ends gs rows t r n q hs b goes beside =
+burst_ends gs rows t r most n q hs b few goes beside =
     let w : Thread = raw.running_thread q (living gs true r).frames in
     subst (λ (p : row.Thread). Stands (engine_view gs rows) t n w hs (put_row rows t p)) (sym beside)
-    (burst_stands gs rows t r n w hs b
+    (burst_stands gs rows t r most n w hs b few
     (subst (λ (u : Thread). raw.GoesFor rows.region.ram n u gs w hs) (sym (running_is gs rows t r b.holds b.runs b.is)) (goes (living gs true r).frames)))

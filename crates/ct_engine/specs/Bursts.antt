@@ -33,6 +33,6 @@ abbrev pub GoesFor : ℕ → ℕ → Seen → Seen → Type 0
 GoesFor t zero s new = new ≡ s
 GoesFor t (suc n) s new = (mid : Seen) × GoesFor t n s mid × GoesOnce t mid new
 
--- however many instructions thread t goes on by, nothing is hidden that it may reach
-abbrev pub StaysOpen : ℕ → Seen → Type 0
-StaysOpen t s = (n : ℕ) (mid : Seen) → GoesFor t n s mid → IsOpen mid t
+-- while thread t goes on by fewer instructions than so many, nothing is hidden that it may reach
+abbrev pub StaysOpen : ℕ → ℕ → Seen → Type 0
+StaysOpen t most s = (n : ℕ) (mid : Seen) → n < most → GoesFor t n s mid → IsOpen mid t

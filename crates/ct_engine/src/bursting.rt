@@ -8,7 +8,7 @@ ghost use Rattle.ct_engine.specs.Steps.{HasWindow};
 
 use crate::engine::Engine;
 use crate::steps;
-use ct_burst::{burst, once};
+use ct_burst::burst;
 use ct_decode::Decoded;
 use ct_mem::Memory;
 use ct_threads::Window;
@@ -29,13 +29,13 @@ impl<M: Memory + Drop> Engine<M> {
     /// for: how many. After it the window is one still. Which are left is for speed alone, and so is `decoded`.
     ///
     /// Conditions: the thread runs, RAM begins at a multiple of 16, the window is one of the thread's program counter
-    /// capability, and however long the thread goes on so, nothing is hidden that it may reach.
+    /// capability, and while the thread goes on so, nothing is hidden that it may reach.
     #[inline(always)]
     pub fn burst(&mut self, t: u32, decoded: &mut Decoded, window: &mut Window, most: u32) -> u32
         requires runs { self.old.running ≡ Some t }
         requires even { self.old.region.ram % 16 ≡ 0 }
         requires window { HasWindow self.old t window.old }
-        requires opened { StaysOpen t self.old }
+        requires opened { StaysOpen t most self.old }
         ensures most { result ≤ most }
         ensures goes { GoesFor t result self.old self.new }
         ensures window { HasWindow self.new t window.new }
@@ -49,23 +49,5 @@ impl<M: Memory + Drop> Engine<M> {
             window,
             most,
         )
-    }
-
-    /// One instruction, as a burst of one: 1 where it was carried out, else 0.
-    ///
-    /// Conditions: as of `burst`.
-    #[inline(always)]
-    pub fn once(&mut self, t: u32, decoded: &mut Decoded, window: &mut Window) -> u32
-        requires runs { self.old.running ≡ Some t }
-        requires even { self.old.region.ram % 16 ≡ 0 }
-        requires window { HasWindow self.old t window.old }
-        requires opened { StaysOpen t self.old }
-        ensures most { result ≤ 1 }
-        ensures goes { GoesFor t result self.old self.new }
-        ensures window { HasWindow self.new t window.new }
-    {
-        let ram = self.rows.region.ram;
-        let row = &mut self.rows.list[t as usize];
-        once(row, &mut self.mem, ram, decoded, window)
     }
 }

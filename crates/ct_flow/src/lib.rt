@@ -8,8 +8,10 @@ mod branches;
 mod deciding;
 mod outcome;
 mod registers;
+mod standing;
 
 pub use branches::takes;
 pub use deciding::flow;
 pub use outcome::Flow;
-pub use registers::posture_through;
+pub use registers::{jumps_on, posture_through};
+pub use standing::{become_link, go_through};

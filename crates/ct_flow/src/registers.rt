@@ -1,6 +1,9 @@
 //! The register jump, with sentries and posture.
 
-ghost use Rattle.std.specs.Prelude.{◌≡◌, ◌%◌, ◌/◌, ◌*◌, ◌^◌};
+ghost use Rattle.std.specs.Prelude.{ℕ, ◌≡◌, ◌%◌, ◌/◌, ◌*◌, ◌^◌, Some, Ok, true};
+ghost use Rattle.def_words.specs.declared.Cap.{Cap};
+ghost use Rattle.def_words.specs.Capability.{with_address};
+ghost use Rattle.def_words.specs.Jumped.{opened, return_link};
 ghost use Rattle.def_words.specs.Seals.{is_jump_taken, posture_through};
 ghost use Rattle.def_step.specs.Checks.{first_failed};
 ghost use Rattle.def_step.specs.Jumps.{register_jumped, register_jump_checks, register_target};
@@ -13,6 +16,7 @@ use def_profile::seals::{
 use def_profile::traps::{EXECUTE_CODE, MISALIGNED_FETCH, SEAL_CODE, TAG_CODE};
 
 /// Whether a jump takes a target of this type: `to` gets the link, `at` holds the target.
+#[inline(always)]
 fn is_jump_taken(to: u32, at: u32, kind: u32) -> bool
     ensures { result ≡ is_jump_taken to at kind }
 {
@@ -51,7 +55,8 @@ pub fn posture_through(before: Posture, kind: u32, named: u32, kept: u32) -> Pos
 }
 
 /// The target's address: bit 0 of the sum is cleared.
-fn target_of(x: Live, immediate: u32) -> u32
+#[inline(always)]
+pub(crate) fn target_of(x: Live, immediate: u32) -> u32
     ensures { result ≡ register_target x immediate }
 {
     x.address().wrapping_add(immediate) / 2 * 2
@@ -59,6 +64,7 @@ fn target_of(x: Live, immediate: u32) -> u32
 
 /// The first check of a register jump that fails.
 #[tactic(auto, using(ct_perm::proofs::Tests::has_ex))]
+#[inline(always)]
 fn first_trap(to: u32, at: u32, x: Live, immediate: u32) -> Option<Trap>
     ensures { result ≡ first_failed (register_jump_checks to at x immediate) }
 {
@@ -99,4 +105,34 @@ pub(crate) fn register_jump(
         pcc: next,
         posture: posture_through(posture, x.seal, named, x.cap.shadow.source),
     })
+}
+
+/// Whether a jump or a return through a type leaves the posture, whatever export the target's root entry names.
+#[inline(always)]
+fn keeps_posture(before: Posture, kind: u32, kept: u32) -> bool
+    ensures { result ≡ true → (named : ℕ) → posture_through before kind named kept ≡ before }
+{
+    match kind {
+        SENTRY_DISABLE => false,
+        RETURN_DISABLE => before.off && before.source == kept,
+        SENTRY_ENABLE | RETURN_ENABLE => !before.off && before.source == 0,
+        _ => true,
+    }
+}
+
+/// Whether no check refuses a jump to the capability x in register `at`, with the link in register `to`, and it leaves
+/// the posture, whatever export x's root entry names.
+#[tactic(auto, using(crate::proofs::Through::goes_through))]
+#[inline(always)]
+pub fn jumps_on(to: u32, at: u32, x: &Live, immediate: u32, before: Posture) -> bool
+    ensures { result ≡ true → (pcc : Cap) (named : ℕ)
+        → register_jumped to at x.now immediate pcc before named
+        ≡ Ok (record {
+          link = Some (return_link pcc before);
+          pcc = with_address (opened x.now) (register_target x.now immediate);
+          posture = before;
+        }) }
+{
+    first_trap(to, at, *x, immediate).is_none()
+        && keeps_posture(before, x.seal, x.cap.shadow.source)
 }

@@ -7,7 +7,7 @@ use ct_cap::{Live, clear_tag};
 use ct_mem::Memory;
 
 /// Whether an address lies in a marked granule; RAM begins at `ram`.
-fn is_marked<M: Memory>(mem: &M, ram: u32, address: u64) -> bool
+pub(crate) fn is_marked<M: Memory>(mem: &M, ram: u32, address: u64) -> bool
     ensures { result ≡ is_marked_in ram (M.granules mem.now) address }
 {
     let size = mem.size();

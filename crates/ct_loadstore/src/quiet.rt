@@ -16,7 +16,7 @@ use def_step::Access;
 
 /// The address of an access through x.
 #[inline(always)]
-fn place(a: &Access, x: &Live) -> u32
+pub(crate) fn place(a: &Access, x: &Live) -> u32
     ensures { result ≡ access_address a.now x.now }
 {
     x.address().wrapping_add(a.immediate)
@@ -48,7 +48,7 @@ fn fits(a: &Access, x: &Live, at: u32) -> bool
 /// Whether each check of a load through x at an address passes.
 #[tactic(auto, using(ct_perm::proofs::Tests::has_ld))]
 #[inline(always)]
-fn may_load(a: &Access, x: &Live, at: u32) -> bool
+pub(crate) fn may_load(a: &Access, x: &Live, at: u32) -> bool
     requires { IsShape a.now }
     ensures { result ≡ not (is_some (first_failed (load_checks a.now x.now at))) }
 {
@@ -88,26 +88,6 @@ pub fn load_number<M: Memory>(a: &Access, x: &Live, mem: &M, ram: u32) -> Option
         return None;
     }
     Some(memory::number(*a, at, mem, ram))
-}
-
-/// The capability that a load through x gives, where its checks pass and it lies in RAM, which begins at `ram`; else
-/// `None`.
-#[tactic(auto, using(crate::proofs::Unrefused::quiet_load, crate::proofs::Unrefused::none_failed))]
-#[inline(always)]
-pub fn load_capability<M: Memory>(a: &Access, x: &Live, mem: &M, ram: u32) -> Option<Live>
-    requires even { ram % 16 ≡ 0 }
-    requires shape { IsShape a.now }
-    requires loads { a.now.loads ≡ true }
-    requires whole { a.now.whole ≡ true }
-    ensures when { is_some result ≡ is_quiet_load a.now x.now ram (M.granules mem.now) }
-    ensures given { IfSome result (λ c. (y : Cap) → Quiet a.now x.now y ram (M.granules mem.now)
-        (Some c) (M.granules mem.now)) }
-{
-    let at = place(a, x);
-    if !may_load(a, x, at) || !in_ram(mem, ram, at, a.width) {
-        return None;
-    }
-    Some(memory::load(*a, *x, at, mem, ram))
 }
 
 /// Stores y through x, where the checks pass and it lies in RAM, which begins at `ram`; else `false`, and nothing

@@ -1,18 +1,20 @@
 -- A burst: its instructions are steps that tell nothing, and where no sweep has work each is one with a slice before it.
-use Rattle.std.proofs.Common.{ℕ, zero, suc, ◌+◌, ◌==◌, ◌≡◌, ◌≤◌, Bool, true, false, Some, refl, sym, ap, ◌∙◌, subst, arith}
+use Rattle.std.proofs.Common.{ℕ, zero, suc, ◌+◌, ◌==◌, ◌≡◌, ◌≤◌, Bool, true, false, List, Some, refl, sym, ap, ◌∙◌, subst, arith}
 use Rattle.std.proofs.lemmas.Bool.{eqb-true}
 use Rattle.def_events.specs.Guarded.{Guarded}
 use Rattle.def_machine.specs.Image.{Image}
 use Rattle.def_machine.specs.Platform.{MachineRow}
-use Rattle.def_machine.specs.State.{Counts}
+use Rattle.def_confined.specs.Confined.{Confined}
+use Rattle.def_hidden.specs.Hidden.{Shut}
+use Rattle.def_machine.specs.State.{Counts, DeviceState}
 use Rattle.def_step.specs.Devices.{DeviceStates}
 use Rattle.ct_sched.specs.Sched.{SchedRow}
-use Rattle.ct_engine.specs.Bursts.{GoesFor, GoesOnce, StaysOpen}
+use Rattle.ct_engine.specs.Bursts.{GoesFor, GoesOnce, IsOpen, StaysOpen}
 use Rattle.ct_engine.specs.Seen.{Seen}
 use Rattle.ct_execute.specs.Deciding.{Stays}
 use Rattle.ct_execute.proofs.Bursting.{goes_stays}
 use Rattle.ct_execute.proofs.Ends.{stays_same}
-use Rattle.ct_machine.specs.Parts.{IsKept}
+use Rattle.ct_machine.specs.Parts.{state_by, IsKept}
 use Rattle.ct_machine.specs.Going.{silence}
 use Rattle.ct_machine.specs.Quiet.{has_sweep, with_rounds, WentRounds}
 use Rattle.ct_machine.proofs.Appending.{same_machine}
@@ -60,6 +62,12 @@ module _ (i : Image) (e : Seen) (r : SchedRow) (t : ℕ) (kept : IsKept i e r) w
       let before = burst_kept n goes.0 goes.1 in
       (once_kept i goes.0 new r t before.0 goes.2, both_stay e goes.0 new before.1 (goes_stays goes.0 new t goes.2))
 
+  -- before the first, nothing is hidden that the thread of a confined state may reach
+  pub opens_once : (pending : Bool) (devices : List DeviceState) (time : ℕ) (c : Counts) → Shut i → Confined i (state_by e r pending devices time c) → e.running ≡ Some t → StaysOpen t 1 e
+  opens_once pending devices time c shut held runs zero new few goes =
+      subst (λ (x : Seen). IsOpen x t) (sym goes) (is_open i e r pending devices time c t kept shut held runs)
+  opens_once pending devices time c shut held runs (suc n) new few goes = absurd (omega (arith, few))
+
   module _ (k : DeviceStates) (pending : Bool) (time : ℕ) (c : Counts) (runs : e.running ≡ Some t) (none : pending ≡ false)
       (guarded : Guarded (machine_by i e r k pending time c)) where
     still_runs : (n : ℕ) (new : Seen) → GoesFor t n e new → new.running ≡ Some t
@@ -81,8 +89,8 @@ module _ (i : Image) (e : Seen) (r : SchedRow) (t : ℕ) (kept : IsKept i e r) w
         (ap (λ m. with_silence (counted new m c.sweeps).state) one_more
         ∙ quietly_is i goes.0 new r k pending time mid.state.counts t (burst_kept n goes.0 goes.1).0 (still_runs n goes.0 goes.1) none goes.2) refl
 
-    pub stays_open : StaysOpen t e
-    stays_open n new goes =
+    pub stays_open : (most : ℕ) → StaysOpen t most e
+    stays_open most n new few goes =
         let g = burst_guarded n (c.steps + n) new goes refl in
         is_open i new r pending k.states time (counted new (c.steps + n) c.sweeps).state.counts t (burst_kept n new goes).0 g.shut g.keeps.confined (still_runs n new goes)
 

@@ -117,37 +117,40 @@ once_kept i e new r t kept goes =
     (still_ready e new r.statuses kept.ready (ap (λ (x : Seen). x.running) stays.beside))
 
 module _ (i : Image) (e new : Seen) (r : SchedRow) (k : DeviceStates) (pending : Bool) (time : ℕ) (c : Counts) (t : ℕ)
-    (kept : IsKept i e r) (runs : e.running ≡ Some t) (none : pending ≡ false) (goes : GoesOnce t e new) where
+    (kept : IsKept i e r) (runs : e.running ≡ Some t) (goes : GoesOnce t e new) where
   abbrev board : Platform
   board = record { image = i; bases = k.bases }
 
-  -- with one step more
-  abbrev stepped : Seen → State
-  stepped x = state_by x r pending k.states time (record c { steps = c.steps + 1 })
+  abbrev stood : Seen → State
+  stood x = state_by x r pending k.states time c
 
   quiet : WentQuietly (decision i.entries e t k time) t e k new
   quiet = goes_quietly e new t goes i.entries k time
 
-  quietly_run : (stepped new, None) ≡ run_on board (stepped e)
+  -- the thread carries on so
+  pub quietly_run : (stood new, None) ≡ run_on board (stood e)
   quietly_run =
       let ran : Ran = Went None in
-      let m : MachineRow = record { board = board; state = stepped e } in
-      let n : MachineRow = record { board = board; state = stepped new } in
-      carried_so m n t (actor_of (thread (stepped e) t).frames) ran (stepped new) None runs refl
-      (came i i.entries e r k pending time (record c { steps = c.steps + 1 }) t kept refl new k ran (quietly_decided (decision i.entries e t k time) t e k new quiet) refl tt)
-      (quietly_left n t (actor_of (thread (stepped e) t).frames) ran refl)
+      let m : MachineRow = record { board = board; state = stood e } in
+      let n : MachineRow = record { board = board; state = stood new } in
+      carried_so m n t (actor_of (thread (stood e) t).frames) ran (stood new) None runs refl
+      (came i i.entries e r k pending time c t kept refl new k ran (quietly_decided (decision i.entries e t k time) t e k new quiet) refl tt)
+      (quietly_left n t (actor_of (thread (stood e) t).frames) ran refl)
 
-  still_posture : (thread (stepped new) t).posture ≡ (thread (state_by e r pending k.states time c) t).posture
+  still_posture : (thread (stood new) t).posture ≡ (thread (stood e) t).posture
   still_posture =
       posture_with new.threads r.statuses t
       ∙ same_posture (decision i.entries e t k time) t e k new quiet
       ∙ sym (posture_with e.threads r.statuses t)
 
-  -- its step tells nothing
-  pub quietly_is : (one_more_step (state_by new r pending k.states time c), silence) ≡ happens board (state_by e r pending k.states time c) Step
-  quietly_is =
-      still_told board (state_by e r pending k.states time c) (stepped new) t none runs
-      (ap (λ (x : Seen). x.running) (goes_stays e new t goes).beside ∙ runs) still_posture quietly_run
+-- its step, which counts first, tells nothing where no tick is pending
+pub quietly_is : (i : Image) (e new : Seen) (r : SchedRow) (k : DeviceStates) (pending : Bool) (time : ℕ) (c : Counts) (t : ℕ) → IsKept i e r → e.running ≡ Some t → pending ≡ false → GoesOnce t e new
+    → (one_more_step (state_by new r pending k.states time c), silence) ≡ happens (record { image = i; bases = k.bases }) (state_by e r pending k.states time c) Step
+quietly_is i e new r k pending time c t kept runs none goes =
+    let counted : Counts = record c { steps = c.steps + 1 } in
+    still_told (record { image = i; bases = k.bases }) (state_by e r pending k.states time c) (state_by new r pending k.states time counted) t none runs
+    (ap (λ (x : Seen). x.running) (goes_stays e new t goes).beside ∙ runs)
+    (still_posture i e new r k pending time counted t kept runs goes) (quietly_run i e new r k pending time counted t kept runs goes)
 
 -- ---- beside it
 

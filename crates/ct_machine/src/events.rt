@@ -34,10 +34,11 @@ impl<M: Memory + Drop> Parts<M> {
         ensures board { self.new.board ≡ self.old.board }
     {
         let before = self.holder();
+        let rests = self.engine.running().is_none();
         self.count_step();
         self.preempt();
         self.schedule();
-        let deed = self.carry_on();
+        let deed = self.carry_on(rests);
         let off = self.begun(before);
         Happened { deed, off }
     }

@@ -1,6 +1,6 @@
 //! The running thread carries on.
 
-ghost use Rattle.std.specs.Prelude.{◌≡◌, ◌≤◌, ◌<◌, Some, length, false, nat_lt};
+ghost use Rattle.std.specs.Prelude.{◌≡◌, ◌≤◌, ◌<◌, Some, None, length, true, false, nat_lt};
 ghost use Rattle.def_step.specs.Events.{run_on, noted};
 ghost use Rattle.def_step.specs.Instructions.{executed};
 ghost use Rattle.ct_engine.specs.Seen.{thread};
@@ -174,8 +174,40 @@ impl<M: Memory + Drop> Parts<M> {
         deed
     }
 
+    /// The running thread carries on by a burst of one: `true` where that carries its instruction out, which tells
+    /// nothing; else `false`, and nothing changes.
+    fn goes_by_burst(&mut self) -> bool
+        requires may { MayGoOn self.old }
+        ensures is { result ≡ true
+            → (self.new.state, None) ≡ run_on self.old.board self.old.state }
+        ensures same { result ≡ false → self.new.state ≡ self.old.state }
+        ensures board { self.new.board ≡ self.old.board }
+    {
+        match self.engine.running() {
+            Some(t) => {
+                let mut window = self.engine.window(t);
+                self.engine.burst(t, &mut self.decoded, &mut window, 1) == 1
+            }
+            None => false,
+        }
+    }
+
+    /// The running thread carries on. Where it was picked just now a burst of one is tried first, since most go on so.
+    pub(crate) fn carry_on(&mut self, picked: bool) -> Option<Deed>
+        requires may { MayGoOn self.old }
+        requires deeds { deeds_of self.old.state.counts < self.old.state.counts.steps }
+        requires made { self.old.state.next ≤ self.old.state.counts.steps }
+        ensures is { (self.new.state, result) ≡ run_on self.old.board self.old.state }
+        ensures board { self.new.board ≡ self.old.board }
+    {
+        if picked && self.goes_by_burst() {
+            return None;
+        }
+        self.go_on()
+    }
+
     /// The running thread carries on, by one instruction or native routine.
-    pub(crate) fn carry_on(&mut self) -> Option<Deed>
+    fn go_on(&mut self) -> Option<Deed>
         requires may { MayGoOn self.old }
         requires deeds { deeds_of self.old.state.counts < self.old.state.counts.steps }
         requires made { self.old.state.next ≤ self.old.state.counts.steps }

@@ -51,7 +51,7 @@ impl<M: Memory + Drop> Parts<M> {
         ensures still { end_of self.new.state ≡ None }
         ensures window { IsThreadWindow self.new t window.new }
     {
-        self.engine.once(t, &mut self.decoded, window) == 1
+        self.engine.burst(t, &mut self.decoded, window, 1) == 1
     }
 
     /// Whether a sweep runs, or is to begin.

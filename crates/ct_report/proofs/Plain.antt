@@ -12,35 +12,37 @@ use Rattle.serde_json.specs.Written.{has_float, items_have_float}
 use Rattle.def_image.specs.Parts.{CodeRow, CompartmentRow, ThreadRow, PartsRow}
 use Rattle.def_report.specs.Edges.{edges}
 use Rattle.def_report.specs.Labels.{Label, labels_of}
-use Rattle.def_report.specs.Lines.{Line, data_of, export_line_data, line_data, numbered_entries}
+use Rattle.def_report.specs.Lines.{Line, data_of, entry_form, line_data, numbered_entries}
 use Rattle.def_report.specs.Report.{compartment_data, device_data, edge_data, library_data, thread_data, data_over}
 
-export_plain : (o : Owner) (l : Line) → has_float (export_line_data o l) ≡ false
+export_plain : (o : Owner) (l : Line) → has_float (data_of (entry_form o Export) l) ≡ false
+unfolding data_of
 export_plain owner.Trusted l = refl
 export_plain (owner.Compartment n) l = refl
 export_plain (owner.Library n) l = refl
 export_plain (owner.Thread n) l = refl
 
-data_plain : (k : Kind) (l : Line) → has_float (data_of k l) ≡ false
-data_plain Code l = refl
-data_plain Globals l = refl
-data_plain Stack l = refl
-data_plain Device l = refl
-data_plain Shared l = refl
-data_plain Sealed l = refl
-data_plain Call l = refl
-data_plain Library l = refl
-data_plain Service l = refl
-data_plain Quota l = refl
-data_plain Key l = refl
-data_plain Export l = export_plain l.entry.owner l
+data_plain : (o : Owner) (k : Kind) (l : Line) → has_float (data_of (entry_form o k) l) ≡ false
+unfolding data_of
+data_plain o Code l = refl
+data_plain o Globals l = refl
+data_plain o Stack l = refl
+data_plain o Device l = refl
+data_plain o Shared l = refl
+data_plain o Sealed l = refl
+data_plain o Call l = refl
+data_plain o Library l = refl
+data_plain o Service l = refl
+data_plain o Quota l = refl
+data_plain o Key l = refl
+data_plain o Export l = export_plain o l
 
 numbered_plain : (n : ℕ) (rs : List Entry) (ls : List Label) → items_have_float (items_of (numbered_entries n rs ls)) ≡ false
 numbered_plain n [] ls = refl
 numbered_plain n (r ∷ rs) [] = refl
 numbered_plain n (r ∷ rs) (l ∷ ls) =
     let line : Line = record { number = n; entry = r; label = l } in
-    or_from (has_float (line_data line)) (items_have_float (items_of (numbered_entries (n + 1) rs ls))) (data_plain r.kind line) (numbered_plain (n + 1) rs ls)
+    or_from (has_float (line_data line)) (items_have_float (items_of (numbered_entries (n + 1) rs ls))) (data_plain r.owner r.kind line) (numbered_plain (n + 1) rs ls)
 
 compartments_plain : (cs : List CompartmentRow) → items_have_float (items_of (map compartment_data cs)) ≡ false
 compartments_plain [] = refl

@@ -1,8 +1,9 @@
 //! Entries as JSON values.
 
-ghost use Rattle.std.specs.Prelude.{◌≡◌, ◌+◌, map, IfOk, OnOk, codes, string_bytes};
+ghost use Rattle.std.specs.Prelude.{◌≡◌, ◌+◌, [], ◌∷◌, map, IfOk, OnOk, codes, string_bytes};
 ghost use Rattle.serde_json.specs.Data.{put, string};
 ghost use Rattle.serde_json.specs.View.{members_view, view};
+ghost use Rattle.ct_entry.specs.declared.rows.Kind.TheVariants as kind;
 ghost use Rattle.def_desc.specs.References.{export_name};
 ghost use Rattle.def_report.specs.Lines as spec;
 ghost use Rattle.def_report.specs.Rights.{rights_text};
@@ -100,23 +101,28 @@ fn named_members(alloc: Global, kind: &str, line: &Line) -> Result<Map<String, V
     Ok(members)
 }
 
+#[tactic(auto, unfolding(def_report::specs::Lines::data_of))]
 fn plain_value(alloc: Global, kind: &str, line: &Line) -> Result<Value, AllocError>
-    ensures { IfOk result (λ v. view v ≡ spec.plain_data kind.now (line_of line.now)) }
+    ensures { IfOk result (λ v. view v ≡ spec.data_of (kind.now, []) (line_of line.now)) }
 {
     let mut members = Map::new(alloc);
     add_plain(&mut members, alloc, kind, line)?;
     Ok(Value::Object(members))
 }
 
+#[tactic(auto, unfolding(def_report::specs::Lines::data_of))]
 fn key_value(alloc: Global, line: &Line) -> Result<Value, AllocError>
-    ensures { IfOk result (λ v. view v ≡ spec.key_data (line_of line.now)) }
+    ensures { IfOk result
+        (λ v. view v ≡ spec.data_of (codes "key", codes "name" ∷ []) (line_of line.now)) }
 {
     let members = named_members(alloc, "key", line)?;
     Ok(Value::Object(members))
 }
 
+#[tactic(auto, unfolding(def_report::specs::Lines::data_of))]
 fn quota_value(alloc: Global, line: &Line) -> Result<Value, AllocError>
-    ensures { IfOk result (λ v. view v ≡ spec.quota_data (line_of line.now)) }
+    ensures { IfOk result (λ v. view v
+        ≡ spec.data_of (codes "quota", codes "limit" ∷ codes "name" ∷ []) (line_of line.now)) }
 {
     let mut members = named_members(alloc, "quota", line)?;
     add_number(&mut members, alloc, "limit", u64::from(line.entry.limit))?;
@@ -152,15 +158,19 @@ fn slot_members(alloc: Global, kind: &str, line: &Line) -> Result<Map<String, Va
     Ok(members)
 }
 
+#[tactic(auto, unfolding(def_report::specs::Lines::data_of))]
 fn slot_value(alloc: Global, kind: &str, line: &Line) -> Result<Value, AllocError>
-    ensures { IfOk result (λ v. view v ≡ spec.slot_data kind.now (line_of line.now)) }
+    ensures { IfOk result (λ v. view v
+        ≡ spec.data_of (kind.now, codes "name" ∷ codes "of" ∷ []) (line_of line.now)) }
 {
     let members = slot_members(alloc, kind, line)?;
     Ok(Value::Object(members))
 }
 
+#[tactic(auto, unfolding(def_report::specs::Lines::data_of))]
 fn sealed_value(alloc: Global, line: &Line) -> Result<Value, AllocError>
-    ensures { IfOk result (λ v. view v ≡ spec.sealed_data (line_of line.now)) }
+    ensures { IfOk result (λ v. view v ≡ spec.data_of
+        (codes "sealed", codes "name" ∷ codes "of" ∷ codes "type" ∷ []) (line_of line.now)) }
 {
     let mut members = slot_members(alloc, "sealed", line)?;
     add_number(&mut members, alloc, "type", u64::from(line.label.seal))?;
@@ -194,8 +204,10 @@ fn export_members(alloc: Global, line: &Line) -> Result<Map<String, Value>, Allo
 }
 
 /// An export of a library.
+#[tactic(auto, unfolding(def_report::specs::Lines::data_of))]
 fn library_export_value(alloc: Global, line: &Line) -> Result<Value, AllocError>
-    ensures { IfOk result (λ v. view v ≡ spec.library_export_data (line_of line.now)) }
+    ensures { IfOk result (λ v. view v
+        ≡ spec.data_of (codes "export", codes "name" ∷ codes "posture" ∷ []) (line_of line.now)) }
 {
     let members = export_members(alloc, line)?;
     Ok(Value::Object(members))
@@ -213,8 +225,13 @@ fn add_call(members: &mut Map<String, Value>, alloc: Global, line: &Line) -> Res
 }
 
 /// An export of a compartment.
+#[tactic(auto, unfolding(def_report::specs::Lines::data_of))]
 fn export_value(alloc: Global, line: &Line) -> Result<Value, AllocError>
-    ensures { IfOk result (λ v. view v ≡ spec.export_data (line_of line.now)) }
+    ensures { IfOk result (λ v. view v ≡ spec.data_of (
+      codes "export",
+      codes "args" ∷ codes "name"
+          ∷ codes "passes" ∷ codes "posture" ∷ codes "stack" ∷ [],
+    ) (line_of line.now)) }
 {
     let mut members = export_members(alloc, line)?;
     add_call(&mut members, alloc, line)?;
@@ -224,7 +241,7 @@ fn export_value(alloc: Global, line: &Line) -> Result<Value, AllocError>
 /// An export, by its owner.
 fn owned_export(alloc: Global, line: &Line) -> Result<Value, AllocError>
     ensures { IfOk result (λ v. view v
-        ≡ spec.export_line_data line.now.entry.owner (line_of line.now)) }
+        ≡ spec.data_of (spec.entry_form line.now.entry.owner kind.Export) (line_of line.now)) }
 {
     match line.entry.owner {
         Owner::Library(_) => library_export_value(alloc, line),

@@ -10,11 +10,12 @@ use Rattle.ct_areas.specs.declared.thread.Thread as row
 use Rattle.ct_areas.specs.Threads.{thread_of}
 use Rattle.ct_areas.specs.Parts.{register_in, with_frame}
 use Rattle.ct_switch.specs.declared.exports.Export.{Export}
+use Rattle.ct_switch.specs.declared.given.Head.{Head}
 use Rattle.ct_switch.specs.Exports.{AreTogether, HeadLies, IsCallable, row_at, is_export_of, table_of, callee_of, export_of}
 use Rattle.ct_switch.specs.declared.calls.Called.TheVariants as called
 use Rattle.ct_switch.specs.declared.deciding.Decision.{Decision}
 use Rattle.ct_switch.specs.declared.deciding.Decision.TheVariants as decision
-use Rattle.ct_switch.specs.Calls.{TopFits, Enterable, MayEnter, call_outcome, head_of, switch_in, memory_after, thread_after, row_after, given_by, given_in, entered_row, entered_thread}
+use Rattle.ct_switch.specs.Calls.{TopFits, Enterable, MayEnter, call_outcome, head_of, switch_in, memory_after, thread_after, row_after, given_from, given_by, head_at, given_in, entered_row, entered_thread}
 use Rattle.ct_switch.proofs.Threads.{entered_same}
 
 -- ---- the room
@@ -54,10 +55,12 @@ head_inside ram size table h = go ram table size h.low h.high
 pub enterable : (e : Listed) (size : ℕ) (t : row.Thread) (d : Decision) (x : Export) (high : ℕ) → d ≡ decision.Enters x high → MayEnter e size t d → Enterable e size t x high
 enterable e size t d x high is may = subst (λ k. MayEnter e size t k) is may
 
-pub given_same : (gs : List Granule) (e : Listed) (t : row.Thread) (x : Export) (head high : ℕ) (g : Given) → x ≡ export_of e x.number
-    → head ≡ head_of e t.area x.callee → g ≡ given_by gs t head x.code high → g ≡ given_in gs e t x.number high
-given_same gs e t x head high g is place made =
-    made ∙ ap (λ k. given_by gs t k x.code high) place
+pub given_same : (gs : List Granule) (e : Listed) (t : row.Thread) (x : Export) (at high : ℕ) (h : Head) → x ≡ export_of e x.number
+    → at ≡ head_of e t.area x.callee → h ≡ head_at gs at
+    → given_from h t x.code high ≡ given_in gs e t x.number high
+given_same gs e t x at high h is place made =
+    ap (λ k. given_from k t x.code high) made
+    ∙ ap (λ k. given_by gs t k x.code high) place
     ∙ ap (λ (y : Export). given_by gs t (head_of e t.area y.callee) y.code high) is
 
 pub call_told : (gs : List Granule) (e : Listed) (t : row.Thread) (export high : ℕ) → Enters export high ≡ switch_in gs e t

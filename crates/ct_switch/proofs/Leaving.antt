@@ -5,6 +5,7 @@ use Rattle.law_granules.proofs.Lists.{zeroed_length}
 use Rattle.ct_entry.specs.Listed.{Listed}
 use Rattle.def_reach.specs.Roots.{root_of}
 use Rattle.def_words.specs.declared.Cap.{Cap}
+use Rattle.def_words.specs.declared.Posture.{Posture}
 use Rattle.def_words.specs.Jumped.{opened}
 use Rattle.def_words.specs.Seals.{cap_seal, posture_through}
 use Rattle.def_memory.specs.declared.Granule.{Granule}
@@ -14,10 +15,9 @@ use Rattle.def_machine.specs.State.{Thread, Frame}
 use Rattle.ct_areas.specs.declared.thread.Area.{Area}
 use Rattle.ct_areas.specs.declared.thread.Thread as row
 use Rattle.ct_areas.specs.Threads.{thread_of}
-use Rattle.ct_areas.specs.Parts.{IsSpan, register_in, without_frame, frame_address, shallower, inner_frame, outer_frames}
-use Rattle.ct_areas.specs.declared.frames.Saved.{Saved}
+use Rattle.ct_areas.specs.Parts.{IsSpan, register_in, caller_row, without_frame, frame_address, shallower, inner_frame, outer_frames, filtered_frame, caller_registers}
 use Rattle.ct_switch.specs.Ready.{IsReady}
-use Rattle.ct_switch.specs.Calls.{handed, returned_by, thread_left, memory_left, row_left, ended_row, restored_row, filtered_frame, caller_registers}
+use Rattle.ct_switch.specs.Calls.{handed, returned_by, thread_left, memory_left, row_left, ended_row, restored_row}
 use Rattle.ct_switch.proofs.Threads.{stack_span, order_back, left_at, left_last, left_is, left_dressed, dressed}
 
 pub popped_size : (gs ms : List Granule) (t : row.Thread) → ms ≡ without_frame gs t → length ms ≡ length gs
@@ -39,7 +39,7 @@ span_after gs ms t q ready popped row_is =
     subst (λ (a : Area). IsSpan a.ram (8 * length ms) a.stack (a.stack + (t.top - t.area.stack))) (sym (area_kept gs t q row_is)) sized
 
 -- the same where the row is the caller's already
-pub span_so : (gs ms : List Granule) (t made q : row.Thread) (kept : Saved) (first second : Cap) → IsReady gs t
+pub span_so : (gs ms : List Granule) (t made q : row.Thread) (kept : Frame) (first second : Cap) → IsReady gs t
     → made ≡ restored_row t (inner_frame gs t) kept first second → ms ≡ without_frame gs made → q ≡ shallower gs made
     → IsSpan q.area.ram (8 * length ms) q.area.stack (q.area.stack + (t.top - t.area.stack))
 span_so gs ms t made q kept first second ready made_is popped row_is =
@@ -51,6 +51,14 @@ cleared_after : (gs ms hs : List Granule) (t q : row.Thread) → IsReady gs t �
 cleared_after gs ms hs t q ready row_is cleared =
     cleared ∙ ap (λ (a : Area). zeroed_from a.stack (a.stack + (t.top - t.area.stack)) a.ram ms) (area_kept gs t q row_is)
     ∙ ap (λ h. zeroed_from t.area.stack h t.area.ram ms) (order_back t.area.stack t.top ready.low)
+
+-- a row that became the caller's, and then its program counter capability opened, and its posture by the saved c1
+pub restored_so : (gs : List Granule) (t q : row.Thread) (pcc : Cap) (link : ℕ × ℕ) (posture : Posture) → q ≡ caller_row gs t
+    → link ≡ (cap_seal (inner_frame gs t).c1, (inner_frame gs t).c1.shadow.source) → pcc ≡ opened q.pcc → posture ≡ posture_through q.posture link.0 0 link.1
+    → record q { pcc = pcc; posture = posture }
+    ≡ restored_row t (inner_frame gs t) (filtered_frame gs t.area.ram (inner_frame gs t)) (register_in t 10) (register_in t 11)
+restored_so gs t q pcc link posture row_is link_is pcc_is posture_is =
+    rw (pcc_is, posture_is, link_is, row_is) refl
 
 -- all that is said of an end with these two results; `goes` tells whether another frame goes on
 pub record Left (gs hs : List Granule) (t new : row.Thread) (first second : Cap) (goes : Bool) : Type 0 where
@@ -96,7 +104,7 @@ left_ends gs ms hs t q new first second ready popped row_is cleared none ended =
           ∙ cond_true (t.depth == 1) (ended_row t) (restored_row (shallower gs t) (inner_frame gs t) (filtered_frame gs t.area.ram (inner_frame gs t)) first second) tests.1;
     }
 
-pub left_goes : (gs ms hs : List Granule) (t q new : row.Thread) (kept : Saved) (first second : Cap) → IsReady gs t → ms ≡ without_frame gs t
+pub left_goes : (gs ms hs : List Granule) (t q new : row.Thread) (kept : Frame) (first second : Cap) → IsReady gs t → ms ≡ without_frame gs t
     → q ≡ shallower gs t → hs ≡ zeroed_from q.area.stack (q.area.stack + (t.top - t.area.stack)) q.area.ram ms
     → (q.depth ≡ 0 → ⊥) → (thread_of ms true q).frames ≡ outer_frames gs t → kept ≡ filtered_frame gs t.area.ram (inner_frame gs t)
     → new ≡ restored_row q (inner_frame gs t) kept first second → Left gs hs t new first second true
@@ -117,7 +125,7 @@ left_goes gs ms hs t q new kept first second ready popped row_is cleared some fr
     }
 
 -- where the row is the caller's already when its frame goes
-pub left_ends_so : (gs ms hs : List Granule) (t made q new : row.Thread) (kept : Saved) (first second : Cap) → IsReady gs t
+pub left_ends_so : (gs ms hs : List Granule) (t made q new : row.Thread) (kept : Frame) (first second : Cap) → IsReady gs t
     → made ≡ restored_row t (inner_frame gs t) kept first second → ms ≡ without_frame gs made → q ≡ shallower gs made
     → hs ≡ zeroed_from q.area.stack (q.area.stack + (t.top - t.area.stack)) q.area.ram ms → q.depth ≡ 0 → new ≡ ended_row q
     → Left gs hs t new first second false
@@ -127,7 +135,7 @@ left_ends_so gs ms hs t made q new kept first second ready made_is popped row_is
     (cleared ∙ ap (λ (r : row.Thread). zeroed_from r.area.stack (r.area.stack + (t.top - t.area.stack)) r.area.ram ms) now)
     (sym (ap (λ (r : row.Thread). r.depth) now) ∙ none) (ended ∙ ap (λ r. ended_row r) now)
 
-pub left_goes_so : (gs ms hs : List Granule) (t made q : row.Thread) (kept : Saved) (first second : Cap) → IsReady gs t
+pub left_goes_so : (gs ms hs : List Granule) (t made q : row.Thread) (kept : Frame) (first second : Cap) → IsReady gs t
     → made ≡ restored_row t (inner_frame gs t) kept first second → ms ≡ without_frame gs made → q ≡ shallower gs made
     → hs ≡ zeroed_from q.area.stack (q.area.stack + (t.top - t.area.stack)) q.area.ram ms → (q.depth ≡ 0 → ⊥)
     → (thread_of ms true q).frames ≡ outer_frames gs made → kept ≡ filtered_frame gs t.area.ram (inner_frame gs t)

@@ -7,3 +7,4 @@ pub mod Threads
 pub mod Entering
 pub mod Leaving
 pub mod Heads
+pub mod ExactStacks

@@ -16,14 +16,14 @@ use Rattle.law_areas.proofs.Frames.{frames_none, frames_count}
 use Rattle.law_areas.proofs.Changes.{zeroed_touches, touches_more}
 use Rattle.ct_areas.specs.declared.thread.Thread as row
 use Rattle.ct_areas.specs.Threads.{HasArea, IsApart, area_begin, area_end, frames_most, living, thread_of}
-use Rattle.ct_areas.specs.Parts.{IsSpan, with_frame, without_frame, deeper, pushed, shallower, inner_place, inner_frame, outer_frames}
+use Rattle.ct_areas.specs.Parts.{IsSpan, with_frame, without_frame, deeper, pushed, shallower, inner_place, inner_frame, outer_frames, filtered_frame, caller_registers}
 use Rattle.ct_areas.proofs.Places.{some_depth}
 use Rattle.ct_areas.proofs.Same.{touched_same, cleared_same}
 use Rattle.ct_areas.proofs.Rows.{frames_are, pushed_touches, popped_touches}
 use Rattle.ct_switch.specs.declared.exports.Export.{Export}
 use Rattle.ct_switch.specs.Exports.{callee_of, export_of}
 use Rattle.ct_switch.specs.Ready.{IsReady, IsOther, stack_begin, stack_end}
-use Rattle.ct_switch.specs.Calls.{registers_in, posture_in, entered_thread, after_frame_end, load_filter, thread_left, memory_left, filtered_frame, caller_registers, restored_row}
+use Rattle.ct_switch.specs.Calls.{registers_in, posture_in, entered_thread, after_frame_end, load_filter, thread_left, memory_left, restored_row}
 
 -- ---- the stack's range
 

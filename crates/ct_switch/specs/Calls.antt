@@ -1,5 +1,5 @@
 -- What a switch, a return and an unwind leave of a thread and of memory.
-use Rattle.std.specs.Prelude.{ℕ, ◌+◌, ◌-◌, ◌/◌, ◌==◌, ◌≡◌, ◌≤◌, ◌<◌, ◌%◌, true, false, Bool, cond, nat_lt, List, [], ◌∷◌, slice_index_or, ◌++◌, Option, if◌then◌else◌}
+use Rattle.std.specs.Prelude.{ℕ, ◌+◌, ◌-◌, ◌*◌, ◌/◌, ◌^◌, ◌==◌, ◌≡◌, ◌≤◌, ◌<◌, ◌%◌, true, false, Bool, cond, nat_lt, List, [], ◌∷◌, slice_index_or, ◌++◌, Option, if◌then◌else◌}
 use Rattle.ct_entry.specs.Listed.{Listed}
 use Rattle.def_profile.specs.declared.layout.TheConstants.{GRANULE}
 use Rattle.def_profile.specs.declared.rights.TheConstants.{STACK_RIGHTS}
@@ -24,13 +24,13 @@ use Rattle.def_step.specs.Switch.{Switched, Trapped, TooDeep, NoStack, Enters, r
 use Rattle.ct_areas.specs.declared.thread.Thread as row
 use Rattle.ct_areas.specs.declared.thread.Area.{Area}
 use Rattle.ct_areas.specs.Threads.{frames_most, thread_of}
-use Rattle.ct_areas.specs.Parts.{register_in, with_frame, without_frame, inner_frame, shallower}
+use Rattle.ct_areas.specs.Parts.{register_in, with_frame, without_frame, inner_frame, filtered_frame, caller_registers, shallower}
 use Rattle.ct_switch.specs.declared.calls.Called.{Called}
 use Rattle.ct_switch.specs.declared.calls.Called.TheVariants as called
 use Rattle.ct_switch.specs.declared.deciding.Decision.{Decision}
 use Rattle.ct_switch.specs.declared.deciding.Decision.TheVariants as decision
-use Rattle.ct_areas.specs.declared.frames.Saved.{Saved}
 use Rattle.ct_switch.specs.declared.exports.Export.{Export}
+use Rattle.ct_switch.specs.declared.given.Head.{Head}
 use Rattle.ct_switch.specs.Exports.{IsCallable, callee_of, export_of, table_of}
 
 -- ---- a call
@@ -44,14 +44,24 @@ head_of e a b = (table_of e b - a.ram) / GRANULE
 abbrev pub stack_cap : ℕ → ℕ → Shadow → Cap
 stack_cap base high from = derive memory_root base (high - base) STACK_RIGHTS high 0 from
 
+-- its high word, by the fields of its bounds: the six bits of its permissions, and no seal
+abbrev pub stack_high : ℕ → ℕ
+stack_high fields = 31 * 2 ^ 25 + fields
+
 -- What the callee is given: its code and its globals stand in the head of its export table.
-abbrev pub given_by : List Granule → row.Thread → ℕ → ℕ → ℕ → Given
-given_by gs t head code high = record {
-  pcc = with_address (cap_in gs head) code;
+abbrev pub given_from : Head → row.Thread → ℕ → ℕ → Given
+given_from h t code high = record {
+  pcc = with_address h.code code;
   back = return_sentry;
   stack = stack_cap t.area.stack high (register_in t 2).shadow;
-  globals = cap_in gs (head + 1);
+  globals = h.globals;
 }
+
+abbrev pub head_at : List Granule → ℕ → Head
+head_at gs k = record { code = cap_in gs k; globals = cap_in gs (k + 1) }
+
+abbrev pub given_by : List Granule → row.Thread → ℕ → ℕ → ℕ → Given
+given_by gs t head code high = given_from (head_at gs head) t code high
 
 abbrev pub given_in : List Granule → Listed → row.Thread → ℕ → ℕ → Given
 given_in gs e t export high =
@@ -142,13 +152,16 @@ abbrev pub argument_in : Export → List Cap → ℕ → Cap
 argument_in x regs n =
     cond (nat_lt n x.args) (handed x.passes (slice_index_or regs (10 + n) (plain 0))) (plain 0)
 
-abbrev pub registers_in : Export → List Cap → Given → List Cap
-registers_in x regs g =
-    plain 0 ∷ g.back ∷ g.stack ∷ g.globals ∷ plain 0 ∷ plain 0 ∷ plain 0 ∷ plain 0 ∷ plain 0
+abbrev pub callee_registers : Export → List Cap → Cap → Cap → Cap → List Cap
+callee_registers x regs back stack globals =
+    plain 0 ∷ back ∷ stack ∷ globals ∷ plain 0 ∷ plain 0 ∷ plain 0 ∷ plain 0 ∷ plain 0
     ∷ plain 0
     ∷ argument_in x regs 0 ∷ argument_in x regs 1 ∷ argument_in x regs 2 ∷ argument_in x regs 3
     ∷ argument_in x regs 4
     ∷ argument_in x regs 5 ∷ []
+
+abbrev pub registers_in : Export → List Cap → Given → List Cap
+registers_in x regs g = callee_registers x regs g.back g.stack g.globals
 
 abbrev pub posture_in : Export → Posture
 posture_in x = cond x.disabled (record { off = true; source = x.number }) interrupts_on
@@ -221,24 +234,8 @@ ended_row t = record t {
   handling = false;
 }
 
--- what a frame keeps, through the load filter
-abbrev pub filtered_frame : List Granule → ℕ → Frame → Saved
-filtered_frame gs ram f = record {
-  export = f.export;
-  c1 = filtered_in ram gs f.c1;
-  c2 = filtered_in ram gs f.c2;
-  c3 = filtered_in ram gs f.c3;
-  c8 = filtered_in ram gs f.c8;
-  c9 = filtered_in ram gs f.c9;
-}
-
-abbrev pub caller_registers : Saved → Cap → Cap → List Cap
-caller_registers kept first second =
-    plain 0 ∷ plain 0 ∷ kept.c2 ∷ kept.c3 ∷ plain 0 ∷ plain 0 ∷ plain 0 ∷ plain 0 ∷ kept.c8
-    ∷ kept.c9 ∷ first ∷ second
-    ∷ plain 0 ∷ plain 0 ∷ plain 0 ∷ plain 0 ∷ []
-
-abbrev pub restored_row : row.Thread → Frame → Saved → Cap → Cap → row.Thread
+-- with what its frame kept, filtered, and two results
+abbrev pub restored_row : row.Thread → Frame → Frame → Cap → Cap → row.Thread
 restored_row t f kept first second = record t {
   pcc = opened kept.c1;
   regs = caller_registers kept first second;

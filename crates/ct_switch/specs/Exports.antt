@@ -55,6 +55,12 @@ AreTogether rows b =
     → is_export_of b (row_at rows k) ≡ true
     → is_export_of b (row_at rows j) ≡ true
 
+-- a row at or before an index is an export of a compartment, and the one before it isn't
+pub record IsFirstUpTo (index : ℕ) (rows : List Entry) (b first : ℕ) : Type 0 where
+  pub back : first ≤ index
+  pub export : is_export_of b (row_at rows first) ≡ true
+  pub start : 0 < first → is_export_of b (row_at rows (first - 1)) ≡ false
+
 abbrev pub callee_of : Listed → ℕ → ℕ
 callee_of e export = compartment_of (root_of e export).owner
 

@@ -7,13 +7,13 @@ ghost use Rattle.ct_areas.specs.Threads.{frames_most, thread_of};
 ghost use Rattle.ct_areas.specs.Parts.{register_in, with_frame};
 ghost use Rattle.ct_switch.specs.Exports.{IsCallable, callee_of};
 ghost use Rattle.ct_switch.specs.Ready.{IsReady, IsOther, MayCall};
-ghost use Rattle.ct_switch.specs.Calls.{head_of, switch_in, call_outcome, memory_after, thread_after, row_after, registers_in, posture_in, entered_row, entered_thread};
+ghost use Rattle.ct_switch.specs.Calls.{head_of, switch_in, call_outcome, memory_after, thread_after, row_after, given_from, registers_in, posture_in, entered_row, entered_thread};
 
 use crate::deciding::{Decision, decide, entry_of, register};
-use crate::given::{Start, dress_registers, given, posture};
+use crate::given::{Head, dress_registers, head_in, posture};
 use crate::{Export, table_at};
 use ct_areas::{Thread, clear, push};
-use ct_cap::Trap;
+use ct_cap::{Trap, expand, turn};
 use ct_entry::Entries;
 use ct_mem::Memory;
 
@@ -45,20 +45,23 @@ pub fn head_of<M: Memory>(t: &Thread, mem: &M, e: &Entries, x: &Export) -> u32
 }
 
 /// A thread is dressed as a callee: program counter, registers and posture.
-fn dress(t: &mut Thread, x: &Export, start: &Start)
+fn dress(t: &mut Thread, x: &Export, head: &Head, high: u32)
+    requires { t.old.area.stack ≤ high }
     ensures { t.new ≡ record t.old {
-      pcc = start.now.pcc;
-      regs = registers_in x.now t.old.regs start.now;
+      pcc = (given_from head.now t.old x.now.code high).pcc;
+      regs = registers_in x.now t.old.regs (given_from head.now t.old x.now.code high);
       posture = posture_in x.now;
     } }
 {
-    t.pcc = start.pcc;
-    dress_registers(x, &mut t.regs, start);
+    t.pcc = expand(head.code);
+    turn(&mut t.pcc, x.code);
+    let base = t.area.stack;
+    dress_registers(x, &mut t.regs, base, high, head.globals);
     t.posture = posture(x);
 }
 
 /// The callee is entered: its stack is zeroed, the caller's frame is kept, and the thread is the callee's.
-fn enter<M: Memory>(t: &mut Thread, mem: &mut M, x: &Export, start: &Start, high: u32)
+fn enter<M: Memory>(t: &mut Thread, mem: &mut M, x: &Export, head: &Head, high: u32)
     requires ready { IsReady (M.granules mem.old) t.old }
     requires room { t.old.depth < frames_most t.old.area }
     requires low { t.old.area.stack ≤ high }
@@ -68,12 +71,14 @@ fn enter<M: Memory>(t: &mut Thread, mem: &mut M, x: &Export, start: &Start, high
         ≡ with_frame (zeroed_from t.old.area.stack high t.old.area.ram (M.granules mem.old)) t.old
         x.now.number }
     ensures thread { thread_of (M.granules mem.new) true t.new
-        ≡ entered_thread (thread_of (M.granules mem.old) true t.old) x.now high start.now }
-    ensures row { t.new ≡ entered_row t.old x.now high start.now }
+        ≡ entered_thread (thread_of (M.granules mem.old) true t.old) x.now high
+        (given_from head.now t.old x.now.code high) }
+    ensures row { t.new
+        ≡ entered_row t.old x.now high (given_from head.now t.old x.now.code high) }
 {
     clear(mem, t.area.ram, t.area.stack, high - t.area.stack);
     push(t, mem, x.callee, x.number, high);
-    dress(t, x, start);
+    dress(t, x, head, high);
 }
 
 /// The call of the export whose capability stands in c6.
@@ -103,9 +108,9 @@ pub fn call<M: Memory>(t: &mut Thread, mem: &mut M, e: &Entries) -> Called
         Decision::Enters { export, high } => {
             let import = register(&t.regs, 6);
             let entry = entry_of(import);
-            let head = head_of(t, mem, e, &export);
-            let start = given(t, mem, head, export.code, high);
-            enter(t, mem, &export, &start, high);
+            let at = head_of(t, mem, e, &export);
+            let head = head_in(mem, at);
+            enter(t, mem, &export, &head, high);
             Called::Entered {
                 entry,
                 export: export.number,

@@ -9,6 +9,7 @@ use def_profile::seals::{EXPORT_TYPE, RETURN_DISABLE, RETURN_ENABLE};
 use def_profile::traps::{BOUNDS_CODE, SEAL_CODE, STORE_CODE, TAG_CODE};
 
 /// The first check of c1 that fails, in every native routine but the return: it is a return sentry.
+#[inline(always)]
 pub fn return_trap(c: Live) -> Option<Trap>
     ensures { result ≡ first_failed (return_checks c) }
 {
@@ -23,8 +24,8 @@ pub fn return_trap(c: Live) -> Option<Trap>
 }
 
 /// The first check of c6 that fails: it is a call import.
-fn gate_trap(c: Live) -> Option<Trap>
-    ensures { result ≡ first_failed (gate_checks c) }
+fn gate_trap(c: &Live) -> Option<Trap>
+    ensures { result ≡ first_failed (gate_checks c.now) }
 {
     if !c.cap.tag {
         return Some(Trap::capability(TAG_CODE, 6));
@@ -37,6 +38,7 @@ fn gate_trap(c: Live) -> Option<Trap>
 
 /// The first check of c2 that fails: it is the thread's stack from its base, at an address up to the frame's top.
 #[tactic(auto, using(ct_perm::proofs::Tests::has_sl))]
+#[inline(always)]
 pub fn stack_trap(base: u32, top: u32, c: Live) -> Option<Trap>
     ensures { result ≡ first_failed (stack_checks base top c) }
 {
@@ -58,15 +60,15 @@ pub fn stack_trap(base: u32, top: u32, c: Live) -> Option<Trap>
 }
 
 /// The first check of c1, then of c6, then of c2 that fails.
-pub fn first_trap(base: u32, top: u32, c1: Live, c6: Live, c2: Live) -> Option<Trap>
-    ensures { result
-        ≡ first_failed (return_checks c1 ++ gate_checks c6 ++ stack_checks base top c2) }
+pub fn first_trap(base: u32, top: u32, c1: &Live, c6: &Live, c2: &Live) -> Option<Trap>
+    ensures { result ≡ first_failed
+        (return_checks c1.now ++ gate_checks c6.now ++ stack_checks base top c2.now) }
 {
-    if let Some(trap) = return_trap(c1) {
+    if let Some(trap) = return_trap(*c1) {
         return Some(trap);
     }
     if let Some(trap) = gate_trap(c6) {
         return Some(trap);
     }
-    stack_trap(base, top, c2)
+    stack_trap(base, top, *c2)
 }

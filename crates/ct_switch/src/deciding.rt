@@ -43,16 +43,17 @@ fn room(base: u32, address: u32, export: Export) -> Decision
 }
 
 /// A register; c0 to c15 are 0 to 15.
-pub(crate) fn register(regs: &[Live; 16], n: usize) -> Live
+#[inline(always)]
+pub(crate) fn register(regs: &[Live; 16], n: usize) -> &Live
     requires { n < 16 }
-    ensures { result ≡ slice_index_or regs.now n (plain 0) }
+    ensures { result.now ≡ slice_index_or regs.now n (plain 0) }
 {
-    regs[n]
+    &regs[n]
 }
 
 /// The number of the entry from which a capability comes.
-pub(crate) fn entry_of(c: Live) -> u32
-    ensures { result ≡ c.shadow.root }
+pub(crate) fn entry_of(c: &Live) -> u32
+    ensures { result ≡ c.now.shadow.root }
 {
     c.cap.shadow.root
 }

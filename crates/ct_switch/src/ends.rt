@@ -1,72 +1,64 @@
 //! A frame's end: the return, and the end with a value, by which a frame is unwound and an error handler ends.
 
-ghost use Rattle.std.specs.Prelude.{◌≡◌, ◌*◌, ◌<◌, Bool, true, nat_lt, length, slice_index_or};
+ghost use Rattle.std.specs.Prelude.{◌≡◌, ◌+◌, ◌*◌, ◌/◌, ◌%◌, ◌^◌, ◌<◌, Bool, true, if◌then◌else◌, nat_lt, length, slice_index_or};
+ghost use Rattle.def_words.specs.Authority.{word_of};
+ghost use Rattle.def_words.specs.Capability.{nowhere, with_seal_field};
+ghost use Rattle.def_words.specs.Jumped.{opened};
 ghost use Rattle.def_memory.specs.Granules.{plain};
-ghost use Rattle.def_machine.specs.Memory.{filtered_in};
-ghost use Rattle.def_machine.specs.State.{Frame};
 ghost use Rattle.ct_areas.specs.declared.thread.Thread as row;
 ghost use Rattle.ct_areas.specs.Threads.{thread_of};
-ghost use Rattle.ct_areas.specs.Parts.{inner_frame, register_in, saved_in};
+ghost use Rattle.ct_areas.specs.Parts.{filtered_frame, inner_frame, register_in};
 ghost use Rattle.ct_switch.specs.Exports.{AreSorted};
 ghost use Rattle.ct_switch.specs.Ready.{IsReady, IsOther};
-ghost use Rattle.ct_switch.specs.Calls.{handed, returned_by, thread_left, memory_left, row_left, no_registers, ended_row, restored_row, filtered_frame, caller_registers};
+ghost use Rattle.ct_switch.specs.Calls.{handed, returned_by, thread_left, memory_left, row_left, no_registers, ended_row, restored_row};
 
 use crate::export_of;
 use crate::given::pass;
-use ct_areas::{Saved, Thread, clear, innermost, pop};
-use ct_cap::{Live, Posture, open};
+use ct_areas::{Thread, clear, innermost_export, pop, take_back};
+use ct_cap::{Live, Posture, Shadow};
 use ct_entry::Entries;
 use ct_flow::posture_through;
-use ct_loadstore::filter;
 use ct_mem::Memory;
 
-/// A register gets what a frame keeps, through the load filter.
-#[inline(always)]
-fn take<M: Memory>(register: &mut Live, mem: &M, ram: u32, kept: &Live)
-    ensures { register.new ≡ filtered_in ram (M.granules mem.now) kept.now }
+/// A word without its seal.
+fn unsealed(word: u64) -> u64
+    ensures { result ≡ word_of (with_seal_field (word / 2 ^ 32) 0) (word % 2 ^ 32) }
 {
-    *register = *kept;
-    if kept.cap.tag {
-        *register = filter(mem, ram, *kept);
-    }
+    (word >> 57 << 57) + word % (1 << 54)
 }
 
-/// The registers become those of a caller: those that its frame kept, filtered, and the two results, which stand in c10
-/// and c11.
-fn restore_registers<M: Memory>(regs: &mut [Live; 16], mem: &M, ram: u32, saved: &Saved)
-    ensures { (f : Frame) → saved.now ≡ saved_in f
-        → regs.new
-        ≡ caller_registers (filtered_frame (M.granules mem.now) ram f)
-        (slice_index_or regs.old 10 (plain 0)) (slice_index_or regs.old 11 (plain 0)) }
+/// The shadow of an opened capability.
+fn opened_shadow(tag: bool, root: u32) -> Shadow
+    ensures { result ≡ (if tag then record { root = root; source = 0 } else nowhere) }
 {
-    let none = Live::integer(0);
-    regs[0] = none;
-    regs[1] = none;
-    take(&mut regs[2], mem, ram, &saved.c2);
-    take(&mut regs[3], mem, ram, &saved.c3);
-    regs[4] = none;
-    regs[5] = none;
-    regs[6] = none;
-    regs[7] = none;
-    take(&mut regs[8], mem, ram, &saved.c8);
-    take(&mut regs[9], mem, ram, &saved.c9);
-    regs[12] = none;
-    regs[13] = none;
-    regs[14] = none;
-    regs[15] = none;
+    if tag {
+        return Shadow { root, source: 0 };
+    }
+    Shadow { root: 0, source: 0 }
+}
+
+/// A capability is opened where it stands.
+#[inline(always)]
+fn open_in_place(l: &mut Live)
+    ensures { l.new ≡ opened l.old }
+{
+    l.cap.shadow = opened_shadow(l.cap.tag, l.cap.shadow.root);
+    l.cap.word = unsealed(l.cap.word);
+    l.seal = 0;
 }
 
 /// A caller goes on with the results that stand in c10 and c11: its program counter and its other registers are those
 /// that its frame kept, filtered, and its posture is by the saved c1.
-fn restore<M: Memory>(t: &mut Thread, mem: &M, saved: &Saved)
-    ensures { (f : Frame) → saved.now ≡ saved_in f
-        → t.new
-        ≡ restored_row t.old f (filtered_frame (M.granules mem.now) t.old.area.ram f)
+fn restore<M: Memory>(t: &mut Thread, mem: &M)
+    requires { IsReady (M.granules mem.now) t.old }
+    ensures { t.new ≡ restored_row t.old (inner_frame (M.granules mem.now) t.old)
+        (filtered_frame (M.granules mem.now) t.old.area.ram
+        (inner_frame (M.granules mem.now) t.old))
         (register_in t.old 10) (register_in t.old 11) }
 {
-    t.pcc = open(filter(mem, t.area.ram, saved.c1));
-    restore_registers(&mut t.regs, mem, t.area.ram, saved);
-    t.posture = posture_through(t.posture, saved.c1.seal, 0, saved.c1.cap.shadow.source);
+    let link = take_back(t, mem);
+    open_in_place(&mut t.pcc);
+    t.posture = posture_through(t.posture, link.0, 0, link.1);
 }
 
 /// Registers that hold nothing.
@@ -92,11 +84,9 @@ fn end(t: &mut Thread)
     t.handling = false;
 }
 
-/// The innermost frame, which keeps this, ends with the results that stand in c10 and c11. `false` exactly where it was
-/// the thread's last.
-fn leave<M: Memory>(t: &mut Thread, mem: &mut M, saved: &Saved) -> bool
-    requires ready { IsReady (M.granules mem.old) t.old }
-    requires saved { saved.now ≡ saved_in (inner_frame (M.granules mem.old) t.old) }
+/// The innermost frame ends with the results that stand in c10 and c11. `false` exactly where it was the thread's last.
+fn leave<M: Memory>(t: &mut Thread, mem: &mut M) -> bool
+    requires { IsReady (M.granules mem.old) t.old }
     ensures result { result ≡ nat_lt 1 t.old.depth }
     ensures thread { thread_of (M.granules mem.new) true t.new
         ≡ thread_left (M.granules mem.old) t.old (λ f. register_in t.old 10)
@@ -107,7 +97,7 @@ fn leave<M: Memory>(t: &mut Thread, mem: &mut M, saved: &Saved) -> bool
         (λ f. register_in t.old 11) }
 {
     let bytes = t.top - t.area.stack;
-    restore(t, mem, saved);
+    restore(t, mem);
     pop(t, mem);
     clear(mem, t.area.ram, t.area.stack, bytes);
     let depth = t.depth;
@@ -157,10 +147,10 @@ pub fn return_to_caller<M: Memory>(t: &mut Thread, mem: &mut M, e: &Entries) -> 
         → IsOther t.old u (8 * length (M.granules mem.old))
         → thread_of (M.granules mem.new) runs u ≡ thread_of (M.granules mem.old) runs u }
 {
-    let saved = innermost(t, mem);
-    let passes = export_of(e, saved.export).passes;
+    let number = innermost_export(t, mem);
+    let passes = export_of(e, number).passes;
     pass_results(passes, &mut t.regs);
-    leave(t, mem, &saved)
+    leave(t, mem)
 }
 
 /// The end of a frame with a value, as its error handler says, or -1 where it is unwound: the return with c10 = the
@@ -176,7 +166,6 @@ pub fn end_with<M: Memory>(t: &mut Thread, mem: &mut M, value: u32) -> bool
         → IsOther t.old u (8 * length (M.granules mem.old))
         → thread_of (M.granules mem.new) runs u ≡ thread_of (M.granules mem.old) runs u }
 {
-    let saved = innermost(t, mem);
     put_results(value, &mut t.regs);
-    leave(t, mem, &saved)
+    leave(t, mem)
 }

@@ -1,6 +1,6 @@
 //! What a callee is given.
 
-ghost use Rattle.std.specs.Prelude.{◌≡◌, ◌+◌, ◌*◌, ◌/◌, ◌%◌, ◌≤◌, ◌<◌, ℕ, true, List, length, cond, nat_lt};
+ghost use Rattle.std.specs.Prelude.{◌≡◌, ◌+◌, ◌*◌, ◌/◌, ◌%◌, ◌≤◌, ◌<◌, ℕ, true, List, length, slice_index_or, cond, nat_lt};
 ghost use Rattle.ct_entry.specs.Listed.{Listed};
 ghost use Rattle.def_words.specs.Capability.{untagged};
 ghost use Rattle.def_memory.specs.declared.Granule.{Granule};
@@ -11,43 +11,28 @@ ghost use Rattle.def_machine.specs.Frames.{callee_start};
 ghost use Rattle.ct_areas.specs.declared.thread.Thread as row;
 ghost use Rattle.ct_areas.specs.Threads.{thread_of};
 ghost use Rattle.ct_switch.specs.Exports.{callee_of};
-ghost use Rattle.ct_switch.specs.Calls.{given_by, given_in, registers_in, handed, posture_in, stack_cap, HoldsHeads};
+ghost use Rattle.ct_switch.specs.Calls.{callee_registers, given_in, handed, head_at, posture_in, stack_cap, HoldsHeads};
 
 use crate::Export;
-use ct_areas::Thread;
-use ct_cap::{Bounds, Cap, Live, Perms, Posture, Shadow, derive, expand, turn};
+use crate::stacks::put_stack;
+use ct_cap::{Bounds, Cap, Live, Perms, Posture, Shadow, expand};
 use ct_mem::Memory;
 use def_profile::native::{NATIVE_LENGTH, RETURN_ENTRY};
-use def_profile::rights::{MEMORY_ROOT, SERVICE_RIGHTS, STACK_RIGHTS};
+use def_profile::rights::SERVICE_RIGHTS;
 use def_profile::seals::RETURN_ENABLE;
-use std::marker::Model;
 
-/// The four capabilities that the switcher makes for a callee.
-#[derive(Drop)]
-pub(crate) struct Start {
-    pub(crate) pcc: Live,
-    pub(crate) back: Live,
-    pub(crate) stack: Live,
-    pub(crate) globals: Live,
-}
-
-impl Model for Start {
-    ghost use Rattle.def_machine.specs.Frames.{Given};
-
-    ghost Value = { Given };
-
-    ghost view = { λ s. record {
-      pcc = s.pcc;
-      back = s.back;
-      stack = s.stack;
-      globals = s.globals;
-    } };
+/// The head of an export table: the capabilities of its compartment's code and of its globals.
+#[derive(Clone, Copy, Drop)]
+pub(crate) struct Head {
+    pub(crate) code: Cap,
+    pub(crate) globals: Cap,
 }
 
 /// The word of the return sentry.
 const SENTRY_WORD: u64 = 0x5140_2018_0001_0010;
 
 /// The return sentry: the return's native entry, of type 5, with the trusted part's number.
+#[inline(always)]
 pub fn return_sentry() -> Live
     ensures { result ≡ return_sentry }
 {
@@ -67,32 +52,16 @@ pub fn return_sentry() -> Live
     }
 }
 
-/// A stack from its base to a new top, at that top.
-#[tactic(auto, unfolding(def_words::specs::Derive::memory_root))]
-fn stack_of(base: u32, high: u32, from: Shadow) -> Live
-    requires { base ≤ high }
-    ensures { result ≡ stack_cap base high from }
-{
-    derive(MEMORY_ROOT, base, high - base, STACK_RIGHTS, high, 0, from)
-}
-
-/// What the switcher gives: code and globals from the head of the export table at an offset, code at the export's
-/// address, the return sentry, and the stack up to the new top.
-pub(crate) fn given<M: Memory>(t: &Thread, mem: &M, head: u32, code: u32, high: u32) -> Start
-    requires even { head % 8 ≡ 0 }
-    requires inside { head + 16 ≤ 8 * length (M.granules mem.now) }
-    requires order { t.now.area.stack ≤ high }
-    ensures { result ≡ given_by (M.granules mem.now) t.now (head / 8) code high }
+/// The head of an export table, at an offset.
+pub(crate) fn head_in<M: Memory>(mem: &M, at: u32) -> Head
+    requires even { at % 8 ≡ 0 }
+    requires inside { at + 16 ≤ 8 * length (M.granules mem.now) }
+    ensures { result ≡ head_at (M.granules mem.now) (at / 8) }
 {
     let _size = mem.size();
-    let caller = t.regs[2];
-    let mut pcc = expand(mem.load_cap(head));
-    turn(&mut pcc, code);
-    Start {
-        pcc,
-        back: return_sentry(),
-        stack: stack_of(t.area.stack, high, caller.cap.shadow),
-        globals: expand(mem.load_cap(head + 8)),
+    Head {
+        code: mem.load_cap(at),
+        globals: mem.load_cap(at + 8),
     }
 }
 
@@ -128,10 +97,14 @@ fn argument(x: &Export, register: &mut Live, n: u32)
     }
 }
 
-/// The registers of the caller become those of the callee.
-pub(crate) fn dress_registers(x: &Export, regs: &mut [Live; 16], start: &Start)
-    ensures { regs.new ≡ registers_in x.now regs.old start.now }
+/// The registers of the caller become those of the callee: with them the return sentry, its stack from the base to the
+/// new top, and its globals.
+pub(crate) fn dress_registers(x: &Export, regs: &mut [Live; 16], base: u32, high: u32, globals: Cap)
+    requires { base ≤ high }
+    ensures { regs.new ≡ callee_registers x.now regs.old return_sentry
+        (stack_cap base high (slice_index_or regs.old 2 (plain 0)).shadow) globals }
 {
+    put_stack(&mut regs[2], base, high);
     argument(x, &mut regs[10], 0);
     argument(x, &mut regs[11], 1);
     argument(x, &mut regs[12], 2);
@@ -140,9 +113,8 @@ pub(crate) fn dress_registers(x: &Export, regs: &mut [Live; 16], start: &Start)
     argument(x, &mut regs[15], 5);
     let none = Live::integer(0);
     regs[0] = none;
-    regs[1] = start.back;
-    regs[2] = start.stack;
-    regs[3] = start.globals;
+    regs[1] = return_sentry();
+    regs[3] = expand(globals);
     regs[4] = none;
     regs[5] = none;
     regs[6] = none;

@@ -14,6 +14,7 @@ mod exports;
 mod given;
 mod looking;
 mod room;
+mod stacks;
 
 pub use calls::{Called, call, head_of};
 pub use checks::{first_trap, return_trap, stack_trap};

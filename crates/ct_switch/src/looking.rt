@@ -1,12 +1,15 @@
 //! Searches among the entries.
 
-ghost use Rattle.std.specs.Prelude.{◌≡◌, ◌<◌, ◌≤◌, ◌-◌, ℕ, true, false, length, slice_get, slice_index_or};
+ghost use Rattle.std.specs.Prelude.{◌≡◌, ◌<◌, ◌≤◌, ◌+◌, ◌-◌, ◌/◌, ℕ, true, false, length, slice_get, slice_index_or};
 ghost use Rattle.ct_entry.specs.declared.rows.Gate.{Gate};
 ghost use Rattle.def_reach.specs.Roots.{gate_for};
-ghost use Rattle.ct_switch.specs.Exports.{AreSorted, AreTogether, no_row, row_named, is_export_of, table_in};
+ghost use Rattle.ct_switch.specs.Exports.{AreSorted, AreTogether, IsFirstUpTo, no_row, row_named, is_export_of, table_in};
 
 use ct_entry::{Entry, Gate, Kind, NO_GATE, Owner};
 use def_profile::layout::TABLE_HEAD;
+
+/// How many rows are looked at one after another.
+const NEAR_ROWS: usize = 8;
 
 /// How many gates have a lesser number.
 fn place_of(gates: &[Gate], number: u32) -> usize
@@ -61,23 +64,42 @@ pub fn is_export_of(home: u32, row: Entry) -> bool
     }
 }
 
-/// The index of the first of the exports of a compartment that stand together up to an index.
+/// The index of the first of the exports of a compartment that stand together up to an index, by halves.
+#[inline(never)]
+fn first_far(rows: &[Entry], home: u32, index: usize) -> usize
+    requires inside { index < length rows.now }
+    requires is { is_export_of home (slice_index_or rows.now index no_row) ≡ true }
+    ensures { IsFirstUpTo index rows.now home result }
+{
+    let mut low = 0;
+    let mut high = index;
+    while low < high {
+        let middle = low + (high - low) / 2;
+        if is_export_of(home, rows[middle]) {
+            high = middle;
+        } else {
+            low = middle + 1;
+        }
+    }
+    high
+}
+
+/// The index of the first of the exports of a compartment that stand together up to an index: a few rows back one after
+/// another, and from there by halves.
 fn first_of(rows: &[Entry], home: u32, index: usize) -> usize
     requires inside { index < length rows.now }
     requires is { is_export_of home (slice_index_or rows.now index no_row) ≡ true }
-    ensures back { result ≤ index }
-    ensures export { is_export_of home (slice_index_or rows.now result no_row) ≡ true }
-    ensures first { 0 < result
-        → is_export_of home (slice_index_or rows.now (result - 1) no_row) ≡ false }
+    ensures { IsFirstUpTo index rows.now home result }
 {
+    let near = index.saturating_sub(NEAR_ROWS);
     let mut first = index;
-    while first > 0 {
+    while first > near {
         if !is_export_of(home, rows[first - 1]) {
             return first;
         }
         first -= 1;
     }
-    0
+    first_far(rows, home, first)
 }
 
 /// Where the export table begins of the compartment that the export at an index is of.

@@ -11,10 +11,10 @@ use Rattle.def_machine.specs.State.{nobody, Thread, Frame}
 use Rattle.def_areas.specs.Touches.{Touches}
 use Rattle.ct_areas.specs.declared.thread.Thread as row
 use Rattle.ct_areas.specs.Threads.{area_begin, area_end, thread_of}
-use Rattle.ct_areas.specs.Parts.{register_in, without_frame, shallower, inner_frame}
+use Rattle.ct_areas.specs.Parts.{register_in, without_frame, shallower, inner_frame, filtered_frame}
 use Rattle.ct_areas.proofs.Rows.{popped_touches}
 use Rattle.ct_switch.specs.Ready.{IsReady}
-use Rattle.ct_switch.specs.Calls.{thread_left, memory_left, row_left, ended_row, restored_row, filtered_frame}
+use Rattle.ct_switch.specs.Calls.{thread_left, memory_left, row_left, ended_row, restored_row}
 use Rattle.ct_threads.specs.Kept.{IsKept}
 use Rattle.ct_threads.specs.Rows.{Ends}
 use Rattle.ct_threads.proofs.Clean.{popped_kept}

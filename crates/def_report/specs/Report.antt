@@ -50,28 +50,18 @@ edges_data e n = list (map edge_data (edges e n))
 abbrev pub entries_data : PartsRow → Listed → Data
 entries_data p e = list (numbered_entries 1 e.rows (labels_of p))
 
-abbrev pub object_of : PartsRow → Data → Data → Data → Data → Data → Data → Data → Data
-object_of p compartments devices edges entries heap libraries threads = object
-    (member (codes "compartments") compartments
-    (member (codes "devices") devices
-    (member (codes "edges") edges
-    (member (codes "entries") entries
-    (member (codes "firmware") (string p.name)
-    (member (codes "heap") heap
-    (member (codes "libraries") libraries
-    (member (codes "quantum") (num p.quantum)
-    (member (codes "threads") threads no_members)))))))))
-
 -- over the image's parts and a list of entries
 unfoldable pub data_over : PartsRow → Listed → Data
-data_over p e = object_of p
-    (list (map compartment_data p.compartments))
-    (list (map device_data p.devices))
-    (edges_data e (length p.compartments))
-    (entries_data p e)
-    (heap_data p)
-    (list (map library_data p.libraries))
-    (list (map (thread_data p) p.threads))
+data_over p e = object
+    (member (codes "compartments") (list (map compartment_data p.compartments))
+    (member (codes "devices") (list (map device_data p.devices))
+    (member (codes "edges") (edges_data e (length p.compartments))
+    (member (codes "entries") (entries_data p e)
+    (member (codes "firmware") (string p.name)
+    (member (codes "heap") (heap_data p)
+    (member (codes "libraries") (list (map library_data p.libraries))
+    (member (codes "quantum") (num p.quantum)
+    (member (codes "threads") (list (map (thread_data p) p.threads)) no_members)))))))))
 
 -- the entries are the image's own
 unfoldable pub report_data : PartsRow → Data

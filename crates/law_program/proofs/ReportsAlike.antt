@@ -1,5 +1,5 @@
 -- What the report says of an image doesn't depend on the version.
-use Rattle.std.proofs.Common.{ℕ, ◌≡◌, List, [], ◌∷◌, ◌++◌, length, map, refl, ap, ◌∙◌}
+use Rattle.std.proofs.Common.{ℕ, ◌≡◌, List, [], ◌∷◌, ◌++◌, length, map, codes, refl, ap, ◌∙◌}
 use Rattle.std.specs.List.{flat_map}
 use Rattle.ct_entry.specs.Listed.{Listed}
 use Rattle.def_image.specs.declared.ImportRow.{ImportRow}
@@ -8,9 +8,9 @@ use Rattle.def_image.specs.declared.SlotKind.TheVariants as slot
 use Rattle.def_image.specs.Parts.{SlotRow, CodeRow, CompartmentRow, ThreadRow, PartsRow, upgraded}
 use Rattle.def_boot.specs.Gates.{entries_of}
 use Rattle.def_report.specs.Labels.{Label, owner_label, of_name, seal_of, slot_label, export_label, slots_and_exports, compartment_labels, library_labels, labels_of}
-use Rattle.def_report.specs.Lines.{numbered_entries}
-use Rattle.def_report.specs.Report.{object_of, list, compartment_data, device_data, edges_data, heap_data, library_data, thread_data, data_over, report_data, report_line}
-use Rattle.serde_json.specs.Data.{Data}
+use Rattle.def_report.specs.Lines.{num, numbered_entries}
+use Rattle.def_report.specs.Report.{list, compartment_data, device_data, edges_data, heap_data, library_data, thread_data, data_over, report_data, report_line}
+use Rattle.serde_json.specs.Data.{Data, string, object, no_members, member}
 use Rattle.serde_json.specs.Written.{compact_text}
 use Rattle.law_image.proofs.Alike.{alike}
 
@@ -81,14 +81,16 @@ labels_alike p =
 data_alike : (p : PartsRow) (e : Listed) → data_over (upgraded p) e ≡ data_over p e
 unfolding data_over
 data_alike p e =
-    ap (λ (l : List Label). object_of p
-    (list (map compartment_data p.compartments))
-    (list (map device_data p.devices))
-    (edges_data e (length p.compartments))
-    (list (numbered_entries 1 e.rows l))
-    (heap_data p)
-    (list (map library_data p.libraries))
-    (list (map (thread_data p) p.threads))) (labels_alike p)
+    ap (λ (l : List Label). object
+    (member (codes "compartments") (list (map compartment_data p.compartments))
+    (member (codes "devices") (list (map device_data p.devices))
+    (member (codes "edges") (edges_data e (length p.compartments))
+    (member (codes "entries") (list (numbered_entries 1 e.rows l))
+    (member (codes "firmware") (string p.name)
+    (member (codes "heap") (heap_data p)
+    (member (codes "libraries") (list (map library_data p.libraries))
+    (member (codes "quantum") (num p.quantum)
+    (member (codes "threads") (list (map (thread_data p) p.threads)) no_members)))))))))) (labels_alike p)
 
 report_alike : (p : PartsRow) → report_data (upgraded p) ≡ report_data p
 unfolding report_data

@@ -5,7 +5,7 @@ ghost use Rattle.std.specs.Prelude.{◌≡◌, ◌⊎◌, length, false};
 
 use crate::seen;
 use ct_cap::{Cap, Live, Shadow, expand};
-use ct_loadstore::{filter, load_capability, load_number, store_quietly};
+use ct_loadstore::{filter, load_number, load_register, store_quietly};
 use ct_mem::{Memory, Plain};
 use ct_planes::Planes;
 use def_step::Access;
@@ -127,10 +127,13 @@ fn capability<M: Memory>(mem: &M, x: Through, immediate: u32) -> Option<Cap> {
         by: 3,
         immediate,
     };
-    match load_capability(&access, &through(x), mem, RAM) {
-        Some(value) => Some(value.cap),
-        None => None,
+    let mut registers = [Live::integer(0); 16];
+    registers[3] = through(x);
+    if load_register(&mut registers, 4, &access, mem, RAM) {
+        let value = registers[4];
+        return Some(value.cap);
     }
+    None
 }
 
 /// A quiet store of a number.

@@ -13,7 +13,7 @@ const SUM: u32 = 0x0031_00B3;
 
 /// What a word at an address says, by its shape.
 fn says(rt: &impl Abort, decoded: &mut Decoded, at: u32, word: u32, instruction: Instr) {
-    assert!(rt; shape(*decoded.instruction(at, word)) == shape(instruction));
+    assert!(rt; shape(decoded.reading(at, word).instruction) == shape(instruction));
 }
 
 #[test]

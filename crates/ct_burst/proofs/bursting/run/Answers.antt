@@ -1,24 +1,30 @@
-use Rattle.std.proofs.Common.{ap}
-use Rattle.ct_burst.specs.Carrying.{went}
+use Rattle.std.proofs.Common.{rules}
 use Rattle.ct_burst.specs.Going.{running_thread}
-use Rattle.ct_burst.proofs.Onward.{further, stays_both}
+use Rattle.ct_burst.proofs.Onward.{both_for, stays_both}
 use Rattle.ct_burst.proofs.Windows.{window_kept}
 use Rattle.ct_burst.proofs.bursting.run.Goals as goal
 
-pub returns-in-Turned-clause-goes : goal.returns-in-Turned-clause-goes
-returns-in-Turned-clause-goes g c fs =
-    further c.args.ram c.loop-count.count (running_thread c.args.row.now fs) (running_thread c.loop-count.row fs) (running_thread c.step.new.row fs) (g.M.Memory.granules c.args.mem.now) (g.M.Memory.granules c.loop-count.mem)
-    (g.M.Memory.granules c.step.new.mem) (c.loop-count.invariant.0 fs) (c.step.ensures.goes (ap went c.in-Turned.is) fs)
-
-pub loop-count-preserved : goal.loop-count-preserved
-loop-count-preserved g c =
+pub loop-made-preserved : goal.loop-made-preserved
+loop-made-preserved g c =
     let gs = g.M.Memory.granules c.args.mem.now in
-    let between = g.M.Memory.granules c.loop-count.mem in
-    let after = g.M.Memory.granules c.step.new.mem in
-    let kept = c.loop-count.invariant in
-    let on = c.step.ensures.on c.in-Went.is in (
-      λ fs. further c.args.ram c.loop-count.count (running_thread c.args.row.now fs) (running_thread c.loop-count.row fs) (running_thread c.step.new.row fs) gs between after (kept.0 fs) (c.step.ensures.goes (ap went c.in-Went.is) fs),
-      stays_both c.args.row.now c.loop-count.row c.step.new.row gs between after kept.1 c.step.ensures.stays,
+    let between = g.M.Memory.granules c.loop-made.mem in
+    let after = g.M.Memory.granules c.run_line-line.new.mem in
+    let new = c.run_line-line.new.row in
+    let kept = c.loop-made.invariant in
+    let on = c.run_line-line.ensures.on c.if-line.false in (
+      search rules,
+      λ fs. both_for c.args.ram c.loop-made.made c.run_line-line.result.count (running_thread c.args.row.now fs) (running_thread c.loop-made.row fs) (running_thread new fs) gs between after (kept.1 fs) (c.run_line-line.ensures.goes fs),
+      stays_both c.args.row.now c.loop-made.row new gs between after kept.2 c.run_line-line.ensures.stays,
       on,
-      window_kept c.args.ram c.loop-count.row c.step.new.row between after c.args.window kept.3 c.step.ensures.stays.size on.suits,
+      window_kept c.args.ram c.loop-made.row new between after c.args.window kept.4 c.run_line-line.ensures.stays.size on.suits,
     )
+
+pub returns-then-line-clause-goes : goal.returns-then-line-clause-goes
+returns-then-line-clause-goes g c fs =
+    both_for c.args.ram c.loop-made.made c.run_line-line.result.count (running_thread c.args.row.now fs) (running_thread c.loop-made.row fs) (running_thread c.run_line-line.new.row fs) (g.M.Memory.granules c.args.mem.now)
+    (g.M.Memory.granules c.loop-made.mem) (g.M.Memory.granules c.run_line-line.new.mem) (c.loop-made.invariant.1 fs) (c.run_line-line.ensures.goes fs)
+
+pub returns-then-line-2-clause-goes : goal.returns-then-line-2-clause-goes
+returns-then-line-2-clause-goes g c fs =
+    both_for c.args.ram c.loop-made.made c.run_line-line.result.count (running_thread c.args.row.now fs) (running_thread c.loop-made.row fs) (running_thread c.run_line-line.new.row fs) (g.M.Memory.granules c.args.mem.now)
+    (g.M.Memory.granules c.loop-made.mem) (g.M.Memory.granules c.run_line-line.new.mem) (c.loop-made.invariant.1 fs) (c.run_line-line.ensures.goes fs)

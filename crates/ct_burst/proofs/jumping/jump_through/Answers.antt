@@ -1,13 +1,7 @@
-use Rattle.std.proofs.Common.{unwrap_or, ap, sym, subst, ◌∙◌}
-use Rattle.def_step.specs.Jumps.{Flowed}
-use Rattle.ct_burst.specs.Carrying.{LeadsTo}
 use Rattle.ct_burst.proofs.Carrying.{through_quiet}
 use Rattle.ct_burst.proofs.jumping.jump_through.Goals as goal
 
-pub returns-in-Some-clause-carries : goal.returns-in-Some-clause-carries
-returns-in-Some-clause-carries c told =
-    let r = c.args.row.now in
-    let f : Flowed = record { link = c.went.inside.link; pcc = c.went.inside.pcc; posture = c.went.inside.posture } in
-    through_quiet r c.jump_row.new.t c.args.to c.args.at c.args.immediate c.read-x.result f c.unwrap_or-link.result
-    c.read-x.ensures (subst (λ (h : Flowed). LeadsTo c.args.to c.args.at c.read-x.result c.args.immediate r.pcc r.posture h) (sym c.went.view_is) c.in-Some.ensures)
-    (c.unwrap_or-link.ensures ∙ ap (unwrap_or c.went.inside.link) c.integer.ensures) c.jump_row.ensures
+pub returns-clause-carries : goal.returns-clause-carries
+returns-clause-carries c told =
+    through_quiet c.args.row.now c.go_by_register.new.row c.args.to c.args.at c.args.immediate c.read_ref-x.result.now c.read_ref-x.ensures
+    (c.jumps_on.ensures c.if-not-jumps_on.false) c.go_by_register.ensures

@@ -9,7 +9,7 @@ pub leave-requires : goal.leave-requires
 leave-requires g c =
     let there = stands (g.M.Memory.granules c.args.mem.now) c.args.t.now c.put_results.new.regs (plain c.args.value) (plain 0) c.requires
     c.put_results.ensures.first c.put_results.ensures.second in
-    record { ready = there.ready; saved = c.innermost-saved.ensures }
+    there.ready
 
 pub returns : goal.returns
 returns g c =

@@ -4,7 +4,6 @@ use Rattle.def_reach.specs.Roots.{root_of}
 use Rattle.ct_areas.specs.Parts.{inner_frame, register_in}
 use Rattle.ct_areas.specs.Threads.{thread_of}
 use Rattle.ct_switch.specs.declared.exports.Export.{Export}
-use Rattle.ct_areas.specs.declared.frames.Saved.{Saved}
 use Rattle.ct_switch.specs.Calls.{handed}
 use Rattle.ct_switch.proofs.Leaving.{Answers, answers_are, answered_thread, answered_row, stands}
 use Rattle.ct_switch.proofs.Threads.{left_others}
@@ -16,7 +15,7 @@ leave-requires g c =
     let t = c.args.t.now in
     let there = stands (g.M.Memory.granules c.args.mem.now) t c.pass_results.new.regs (handed passes (register_in t 10)) (handed passes (register_in t 11))
     c.requires.ready c.pass_results.ensures.first c.pass_results.ensures.second in
-    record { ready = there.ready; saved = c.innermost-saved.ensures }
+    there.ready
 
 pub returns : goal.returns
 returns g c =
@@ -27,9 +26,8 @@ returns g c =
     let first : Cap = handed passes (register_in t 10) in
     let second : Cap = handed passes (register_in t 11) in
     let there = stands gs t c.pass_results.new.regs first second c.requires.ready c.pass_results.ensures.first c.pass_results.ensures.second in
-    let number : c.innermost-saved.result.export ≡ (inner_frame gs t).export = ap (λ (k : Saved). k.export) c.innermost-saved.ensures in
     let is : passes ≡ (root_of e (inner_frame gs t).export).passes =
-    ap (λ (x : Export). x.passes) c.export_of-passes.ensures ∙ ap (λ n. (root_of e n).passes) number in
+    ap (λ (x : Export). x.passes) c.export_of-passes.ensures ∙ ap (λ n. (root_of e n).passes) c.innermost_export-number.ensures in
     let both : Answers gs e t first second = answers_are gs e t passes first second is refl refl in
     record {
       result = c.leave.ensures.result;

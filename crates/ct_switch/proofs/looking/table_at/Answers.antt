@@ -4,4 +4,4 @@ use Rattle.ct_switch.proofs.looking.table_at.Goals as goal
 
 pub returns : goal.returns
 returns c = c.saturating_sub.ensures
-    ∙ table_found c.args.rows.now c.args.home c.first_of.result c.requires.together (omega arith) c.first_of.ensures.export c.first_of.ensures.first
+    ∙ table_found c.args.rows.now c.args.home c.first_of.result c.requires.together (omega arith) c.first_of.ensures.export c.first_of.ensures.start

@@ -24,13 +24,13 @@ stands : (g : given.Over) (c : goal.After-self-1 g)
     → Stands (engine_view (g.M.Memory.granules c.self.inside.mem) c.self.inside.rows) c.args.t c.burst.result (running_thread c.burst.new.row (living (g.M.Memory.granules c.self.inside.mem) true c.index_mut.result.now).frames)
     (g.M.Memory.granules c.burst.new.mem) (put_row c.self.inside.rows c.args.t c.burst.new.row)
 stands g c =
-    burst_ends (g.M.Memory.granules c.self.inside.mem) c.self.inside.rows c.args.t c.index_mut.result.now c.burst.result c.burst.new.row (g.M.Memory.granules c.burst.new.mem)
+    burst_ends (g.M.Memory.granules c.self.inside.mem) c.self.inside.rows c.args.t c.index_mut.result.now c.args.most c.burst.result c.burst.new.row (g.M.Memory.granules c.burst.new.mem)
     (record {
       holds = c.self.invariant;
       runs = ap (λ (s : Seen). s.running) c.self.view_is ∙ c.requires.runs;
       is = c.index_mut.ensures.value;
-      opened = subst (λ (s : Seen). StaysOpen c.args.t s) (sym c.self.view_is) c.requires.opened;
-    }) c.burst.ensures.goes c.burst.ensures.stays.beside
+      opened = subst (λ (s : Seen). StaysOpen c.args.t c.args.most s) (sym c.self.view_is) c.requires.opened;
+    }) c.burst.ensures.most c.burst.ensures.goes c.burst.ensures.stays.beside
 
 pub invariant_of-self : goal.invariant_of-self
 invariant_of-self g c = (stands g c).holds

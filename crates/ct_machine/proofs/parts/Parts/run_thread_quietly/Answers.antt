@@ -14,7 +14,7 @@ pub burst-made-requires-clause-opened : goal.burst-made-requires-clause-opened
 burst-made-requires-clause-opened g c =
     let i = c.self.inside in
     stays_open i.plan i.engine i.sched c.args.t c.self.invariant.0 i.bus i.pending i.time i.counts (runs_seen _ c.args.self.now c.args.t c.self.view_is c.requires.runs)
-    (none_seen _ c.args.self.now c.self.view_is c.requires.pending) (subst Guarded (sym c.self.view_is) c.requires.guarded)
+    (none_seen _ c.args.self.now c.self.view_is c.requires.pending) (subst Guarded (sym c.self.view_is) c.requires.guarded) c.args.most
 
 pub burst-made-requires-clause-window : goal.burst-made-requires-clause-window
 burst-made-requires-clause-window g c =

@@ -4,7 +4,7 @@ use Rattle.def_machine.specs.Platform.{MachineRow}
 use Rattle.def_step.specs.Instructions.{actor_of}
 use Rattle.ct_machine.specs.Going.{Runs}
 use Rattle.ct_machine.proofs.Stepping.{runs_by, acts_by, ends_by, carried_so, quietly_left}
-use Rattle.ct_machine.proofs.parts.Parts.carry_on.Goals as goal
+use Rattle.ct_machine.proofs.parts.Parts.go_on.Goals as goal
 
 pub run-ran-requires-clause-runs : goal.run-ran-requires-clause-runs
 run-ran-requires-clause-runs g c =

@@ -1,0 +1,101 @@
+//! Registers that come back from granules, through the load filter.
+
+ghost use Rattle.std.specs.Prelude.{◌≡◌, ◌&&◌, ◌+◌, ◌*◌, ◌/◌, ◌%◌, ◌≤◌, ◌<◌, ◌^◌, length};
+ghost use Rattle.def_words.specs.Authority.{cap_base};
+ghost use Rattle.def_words.specs.Capability.{untagged};
+ghost use Rattle.def_words.specs.Seals.{cap_seal};
+ghost use Rattle.def_memory.specs.Granules.{cap_in};
+ghost use Rattle.def_machine.specs.Memory.{filtered_in, is_marked_in};
+
+use ct_cap::{Live, clear_tag, expand};
+use ct_mem::Memory;
+use def_words::Cap;
+
+/// A register gets a capability, decoded: a number, as most registers hold one, without looking at its fields.
+#[inline(never)]
+fn put_decoded(register: &mut Live, cap: &Cap)
+    ensures { register.new ≡ cap.now }
+{
+    if !cap.tag && cap.word < 1 << 32 && cap.shadow.root == 0 && cap.shadow.source == 0 {
+        *register = Live::integer(cap.word as u32);
+        return;
+    }
+    *register = expand(*cap);
+}
+
+/// A register gets a capability. Where it holds the same already, that isn't decoded anew.
+#[inline(always)]
+fn hold(register: &mut Live, cap: &Cap)
+    ensures { register.new ≡ cap.now }
+{
+    if register.cap != *cap {
+        put_decoded(register, cap);
+    }
+}
+
+/// A register loses its tag.
+#[inline(never)]
+fn untag(register: &mut Live)
+    ensures { register.new ≡ untagged register.old }
+{
+    *register = clear_tag(*register);
+}
+
+/// Whether a register's base lies in a marked granule; RAM begins at `ram`.
+#[inline(always)]
+fn is_base_marked<M: Memory>(register: &Live, mem: &M, ram: u32) -> bool
+    ensures { result ≡ is_marked_in ram (M.granules mem.now) (cap_base register.now) }
+{
+    let size = mem.size();
+    let base = register.bounds.base;
+    if base < ram as u64 {
+        return false;
+    }
+    let at = base - ram as u64;
+    if at >= size as u64 {
+        return false;
+    }
+    mem.marked(at as u32)
+}
+
+/// The load filter, on a register where it stands.
+#[inline(always)]
+fn sift<M: Memory>(register: &mut Live, mem: &M, ram: u32)
+    ensures { register.new ≡ filtered_in ram (M.granules mem.now) register.old }
+{
+    if register.cap.tag && is_base_marked(register, mem, ram) {
+        untag(register);
+    }
+}
+
+/// A register gets what a granule holds, through the load filter.
+#[inline(always)]
+pub(crate) fn take<M: Memory>(register: &mut Live, mem: &M, ram: u32, at: u32)
+    requires even { at % 8 ≡ 0 }
+    requires inside { at + 8 ≤ 8 * length (M.granules mem.now) }
+    ensures { register.new
+        ≡ filtered_in ram (M.granules mem.now) (cap_in (M.granules mem.now) (at / 8)) }
+{
+    let cap = mem.load_cap(at);
+    hold(register, &cap);
+    sift(register, mem, ram);
+}
+
+/// The same of a saved link: the answer is its type and its source, as they were saved.
+pub(crate) fn take_link<M: Memory>(register: &mut Live, mem: &M, ram: u32, at: u32) -> (u32, u32)
+    requires even { at % 8 ≡ 0 }
+    requires inside { at + 8 ≤ 8 * length (M.granules mem.now) }
+    ensures link { result
+        ≡ (
+          cap_seal (cap_in (M.granules mem.now) (at / 8)),
+          (cap_in (M.granules mem.now) (at / 8)).shadow.source,
+        ) }
+    ensures taken { register.new
+        ≡ filtered_in ram (M.granules mem.now) (cap_in (M.granules mem.now) (at / 8)) }
+{
+    let cap = mem.load_cap(at);
+    put_decoded(register, &cap);
+    let kind = register.seal;
+    sift(register, mem, ram);
+    (kind, cap.shadow.source)
+}
