@@ -28,7 +28,7 @@ MARKED = {
     "ct_cap": {
         "inner":
             "turn raise expand shrink Live::address Live::plain Live::integer Live::covers attenuate open "
-            "link derive add_address",
+            "link derive add_address seal_in_place open_in_place untag",
     },
     "ct_isa": {
         "inner": "instruction one_instruction shape",
@@ -58,7 +58,7 @@ MARKED = {
         "inner": "takes posture_through jumps_on go_through become_link",
     },
     "ct_loadstore": {
-        "inner": "filter load_number load_register store_quietly access",
+        "inner": "filter filter_in_place load_number load_register store_quietly access",
     },
     "ct_decode": {
         "inner": "Decoded::reading operands_of class_of",

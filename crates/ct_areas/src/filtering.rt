@@ -1,13 +1,12 @@
 //! Registers that come back from granules, through the load filter.
 
-ghost use Rattle.std.specs.Prelude.{◌≡◌, ◌&&◌, ◌+◌, ◌*◌, ◌/◌, ◌%◌, ◌≤◌, ◌<◌, ◌^◌, length};
-ghost use Rattle.def_words.specs.Authority.{cap_base};
-ghost use Rattle.def_words.specs.Capability.{untagged};
+ghost use Rattle.std.specs.Prelude.{◌≡◌, ◌+◌, ◌*◌, ◌/◌, ◌%◌, ◌≤◌, ◌<◌, ◌^◌, length};
 ghost use Rattle.def_words.specs.Seals.{cap_seal};
 ghost use Rattle.def_memory.specs.Granules.{cap_in};
-ghost use Rattle.def_machine.specs.Memory.{filtered_in, is_marked_in};
+ghost use Rattle.def_machine.specs.Memory.{filtered_in};
 
-use ct_cap::{Live, clear_tag, expand};
+use ct_cap::{Live, expand};
+use ct_loadstore::filter_in_place;
 use ct_mem::Memory;
 use def_words::Cap;
 
@@ -33,41 +32,6 @@ fn hold(register: &mut Live, cap: &Cap)
     }
 }
 
-/// A register loses its tag.
-#[inline(never)]
-fn untag(register: &mut Live)
-    ensures { register.new ≡ untagged register.old }
-{
-    *register = clear_tag(*register);
-}
-
-/// Whether a register's base lies in a marked granule; RAM begins at `ram`.
-#[inline(always)]
-fn is_base_marked<M: Memory>(register: &Live, mem: &M, ram: u32) -> bool
-    ensures { result ≡ is_marked_in ram (M.granules mem.now) (cap_base register.now) }
-{
-    let size = mem.size();
-    let base = register.bounds.base;
-    if base < ram as u64 {
-        return false;
-    }
-    let at = base - ram as u64;
-    if at >= size as u64 {
-        return false;
-    }
-    mem.marked(at as u32)
-}
-
-/// The load filter, on a register where it stands.
-#[inline(always)]
-fn sift<M: Memory>(register: &mut Live, mem: &M, ram: u32)
-    ensures { register.new ≡ filtered_in ram (M.granules mem.now) register.old }
-{
-    if register.cap.tag && is_base_marked(register, mem, ram) {
-        untag(register);
-    }
-}
-
 /// A register gets what a granule holds, through the load filter.
 #[inline(always)]
 pub(crate) fn take<M: Memory>(register: &mut Live, mem: &M, ram: u32, at: u32)
@@ -78,7 +42,7 @@ pub(crate) fn take<M: Memory>(register: &mut Live, mem: &M, ram: u32, at: u32)
 {
     let cap = mem.load_cap(at);
     hold(register, &cap);
-    sift(register, mem, ram);
+    filter_in_place(register, mem, ram);
 }
 
 /// The same of a saved link: the answer is its type and its source, as they were saved.
@@ -96,6 +60,6 @@ pub(crate) fn take_link<M: Memory>(register: &mut Live, mem: &M, ram: u32, at: u
     let cap = mem.load_cap(at);
     put_decoded(register, &cap);
     let kind = register.seal;
-    sift(register, mem, ram);
+    filter_in_place(register, mem, ram);
     (kind, cap.shadow.source)
 }

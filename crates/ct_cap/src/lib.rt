@@ -1,4 +1,4 @@
-//! Operations on capabilities, and a capability's address changed where it stands.
+//! Operations on capabilities, some of them where a capability stands.
 //!
 //! A register holds a capability decoded (`Live`); contracts see it as the capability alone, and
 //! each operation equals its equation in *Capability* of def_words. None of them traps: where one is
@@ -13,6 +13,7 @@ mod passing;
 mod pointing;
 mod rights;
 mod seals;
+mod standing;
 mod words;
 
 pub use bounding::{set_bounds, set_bounds_exact};
@@ -26,3 +27,4 @@ pub use passing::{attenuate, derive, link, open};
 pub use pointing::{add_address, set_address};
 pub use rights::{and_perms, clear_tag};
 pub use seals::{seal, unseal};
+pub use standing::{open_in_place, seal_in_place, untag};

@@ -140,7 +140,8 @@ impl Live {
 }
 
 /// The type that a seal field stands for, 0 where it is unsealed.
-fn type_of(executes: bool, field: u32) -> u32
+#[inline(always)]
+pub(crate) fn type_of(executes: bool, field: u32) -> u32
     requires { field < 8 }
     ensures { result ≡ seal_type executes field }
 {

@@ -1,7 +1,7 @@
 //! Chunks of a heap in modelled memory: the first free one with room is found along the list of free
 //! chunks, one is carved for an object, used ones are marked and painted, and those that leave are joined
 //! with the free ones that they touch. Every call's contract says what becomes of the list of chunks that
-//! memory stands for, and that nothing but heads of the new list was written. docs/use/machine.md tells how
+//! memory stands for, and that nothing but heads of the new list was written. docs/build/inside.md tells how
 //! a heap lies in memory.
 #![tactic(auto)]
 

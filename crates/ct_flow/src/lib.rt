@@ -1,7 +1,8 @@
 //! Branches and jumps: where execution goes on, with which posture, and the link that is left.
 //!
 //! `flow` equals the written step of each branch, of `jal` and of the register jump, whose checks
-//! are a list and whose trap is the first that fails. docs/use/machine.md tells the same in prose.
+//! are a list and whose trap is the first that fails. `jumps_on`, `go_through` and `become_link` are a
+//! register jump that leaves the posture, by parts and in place. docs/use/machine.md tells the rules.
 #![tactic(auto)]
 
 mod branches;

@@ -107,7 +107,8 @@ pub(crate) fn register_jump(
     })
 }
 
-/// Whether a jump or a return through a type leaves the posture, whatever export the target's root entry names.
+/// Where `true`, a jump or a return through a type leaves the posture, whatever export the target's root entry names.
+/// `false` says nothing: what isn't known here is left, which costs time alone.
 #[inline(always)]
 fn keeps_posture(before: Posture, kind: u32, kept: u32) -> bool
     ensures { result ≡ true → (named : ℕ) → posture_through before kind named kept ≡ before }
@@ -120,8 +121,8 @@ fn keeps_posture(before: Posture, kind: u32, kept: u32) -> bool
     }
 }
 
-/// Whether no check refuses a jump to the capability x in register `at`, with the link in register `to`, and it leaves
-/// the posture, whatever export x's root entry names.
+/// Where `true`, no check refuses a jump to the capability x in register `at`, with the link in register `to`, and it
+/// leaves the posture, whatever export x's root entry names. `false` says nothing: what is left is for speed alone.
 #[tactic(auto, using(crate::proofs::Through::goes_through))]
 #[inline(always)]
 pub fn jumps_on(to: u32, at: u32, x: &Live, immediate: u32, before: Posture) -> bool

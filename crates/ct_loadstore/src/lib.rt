@@ -15,7 +15,7 @@ mod quiet;
 mod registers;
 mod shapes;
 
-pub use marks::filter;
+pub use marks::{filter, filter_in_place};
 pub use moving::{Map, Moved, loadstore};
 pub use quiet::{load_number, store_quietly};
 pub use registers::load_register;

@@ -3,11 +3,12 @@
 ghost use Rattle.std.specs.Prelude.{◌≡◌, ◌&&◌, ◌+◌, ◌*◌, ◌≤◌, ◌<◌, ◌^◌, length};
 ghost use Rattle.def_machine.specs.Memory.{filtered_in, is_marked_in};
 
-use ct_cap::{Live, clear_tag};
+use ct_cap::{Live, untag};
 use ct_mem::Memory;
 
 /// Whether an address lies in a marked granule; RAM begins at `ram`.
-pub(crate) fn is_marked<M: Memory>(mem: &M, ram: u32, address: u64) -> bool
+#[inline(always)]
+fn is_marked<M: Memory>(mem: &M, ram: u32, address: u64) -> bool
     ensures { result ≡ is_marked_in ram (M.granules mem.now) address }
 {
     let size = mem.size();
@@ -21,12 +22,22 @@ pub(crate) fn is_marked<M: Memory>(mem: &M, ram: u32, address: u64) -> bool
     mem.marked(at as u32)
 }
 
+/// The load filter on a capability where it stands: it loses its tag where its base lies in a marked granule. RAM begins
+/// at `ram`.
+#[inline(always)]
+pub fn filter_in_place<M: Memory>(c: &mut Live, mem: &M, ram: u32)
+    ensures { c.new ≡ filtered_in ram (M.granules mem.now) c.old }
+{
+    if c.cap.tag && is_marked(mem, ram, c.bounds.base) {
+        untag(c);
+    }
+}
+
 /// The capability, without its tag where its base lies in a marked granule; RAM begins at `ram`.
 pub fn filter<M: Memory>(mem: &M, ram: u32, c: Live) -> Live
     ensures { result ≡ filtered_in ram (M.granules mem.now) c }
 {
-    if c.cap.tag && is_marked(mem, ram, c.bounds.base) {
-        return clear_tag(c);
-    }
-    c
+    let mut filtered = c;
+    filter_in_place(&mut filtered, mem, ram);
+    filtered
 }

@@ -2,7 +2,7 @@
 
 ghost use Rattle.std.specs.Prelude.{◌≡◌, ◌+◌, ◌-◌, ◌*◌, ◌%◌, ◌&&◌, ◌≤◌, ◌<◌, Some, length, slice_index_or, true, false};
 ghost use Rattle.def_words.specs.declared.Cap.{Cap};
-ghost use Rattle.def_words.specs.Capability.{cap_of, untagged};
+ghost use Rattle.def_words.specs.Capability.{cap_of};
 ghost use Rattle.def_words.specs.Loaded.{attenuated};
 ghost use Rattle.def_memory.specs.Accesses.{loaded_cap, IsPlace};
 ghost use Rattle.def_memory.specs.Granules.{plain};
@@ -11,10 +11,10 @@ ghost use Rattle.def_machine.specs.Registers.{written};
 ghost use Rattle.ct_loadstore.specs.Shapes.{IsShape};
 ghost use Rattle.ct_loadstore.specs.Quiet.{is_quiet_load, loaded_by, passes_all, value_by, Quiet};
 
-use crate::marks::{filter, is_marked};
+use crate::marks::{filter, filter_in_place};
 use crate::moving::in_ram;
 use crate::quiet::{may_load, place};
-use ct_cap::{Cap, Flags, Live, Perms, Shadow, attenuate, clear_tag, expand};
+use ct_cap::{Cap, Flags, Live, Perms, Shadow, attenuate, expand};
 use ct_mem::Memory;
 use def_step::Access;
 
@@ -41,14 +41,6 @@ fn decoded(cap: Cap) -> Live
     Live::plain(cap.word)
 }
 
-/// A register loses its tag.
-#[inline(never)]
-fn untag(register: &mut Live)
-    ensures { register.new ≡ untagged register.old }
-{
-    *register = clear_tag(*register);
-}
-
 /// A register gets what a granule holds, through the load filter; RAM begins at `ram`.
 #[inline(always)]
 fn load_whole<M: Memory>(register: &mut Live, offset: u32, mem: &M, ram: u32)
@@ -58,9 +50,7 @@ fn load_whole<M: Memory>(register: &mut Live, offset: u32, mem: &M, ram: u32)
         (loaded_cap (M.granules mem.now) offset).shadow) }
 {
     *register = decoded(mem.load_cap(offset));
-    if register.cap.tag && is_marked(mem, ram, register.bounds.base) {
-        untag(register);
-    }
+    filter_in_place(register, mem, ram);
 }
 
 /// A register gets what a load of a granule through another gives that has each right to pass it on.
@@ -101,6 +91,9 @@ fn load_part<M: Memory>(
 
 /// A load of a capability through a register into a register, which register 0 drops, where its checks pass and it lies
 /// in RAM, which begins at `ram`; else `false`, and nothing changes.
+///
+/// Conditions: RAM begins at a multiple of 16, the access is a load of a whole capability of a shape that instructions
+/// have, and both registers' numbers are below 16.
 #[tactic(auto, using(crate::proofs::Unrefused::quiet_load, crate::proofs::Unrefused::none_failed))]
 #[inline(always)]
 pub fn load_register<M: Memory>(

@@ -1,9 +1,6 @@
 //! A frame's end: the return, and the end with a value, by which a frame is unwound and an error handler ends.
 
-ghost use Rattle.std.specs.Prelude.{◌≡◌, ◌+◌, ◌*◌, ◌/◌, ◌%◌, ◌^◌, ◌<◌, Bool, true, if◌then◌else◌, nat_lt, length, slice_index_or};
-ghost use Rattle.def_words.specs.Authority.{word_of};
-ghost use Rattle.def_words.specs.Capability.{nowhere, with_seal_field};
-ghost use Rattle.def_words.specs.Jumped.{opened};
+ghost use Rattle.std.specs.Prelude.{◌≡◌, ◌*◌, ◌<◌, Bool, true, nat_lt, length, slice_index_or, slice_set};
 ghost use Rattle.def_memory.specs.Granules.{plain};
 ghost use Rattle.ct_areas.specs.declared.thread.Thread as row;
 ghost use Rattle.ct_areas.specs.Threads.{thread_of};
@@ -15,37 +12,10 @@ ghost use Rattle.ct_switch.specs.Calls.{handed, returned_by, thread_left, memory
 use crate::export_of;
 use crate::given::pass;
 use ct_areas::{Thread, clear, innermost_export, pop, take_back};
-use ct_cap::{Live, Posture, Shadow};
+use ct_cap::{Live, Posture, open_in_place};
 use ct_entry::Entries;
 use ct_flow::posture_through;
 use ct_mem::Memory;
-
-/// A word without its seal.
-fn unsealed(word: u64) -> u64
-    ensures { result ≡ word_of (with_seal_field (word / 2 ^ 32) 0) (word % 2 ^ 32) }
-{
-    (word >> 57 << 57) + word % (1 << 54)
-}
-
-/// The shadow of an opened capability.
-fn opened_shadow(tag: bool, root: u32) -> Shadow
-    ensures { result ≡ (if tag then record { root = root; source = 0 } else nowhere) }
-{
-    if tag {
-        return Shadow { root, source: 0 };
-    }
-    Shadow { root: 0, source: 0 }
-}
-
-/// A capability is opened where it stands.
-#[inline(always)]
-fn open_in_place(l: &mut Live)
-    ensures { l.new ≡ opened l.old }
-{
-    l.cap.shadow = opened_shadow(l.cap.tag, l.cap.shadow.root);
-    l.cap.word = unsealed(l.cap.word);
-    l.seal = 0;
-}
 
 /// A caller goes on with the results that stand in c10 and c11: its program counter and its other registers are those
 /// that its frame kept, filtered, and its posture is by the saved c1.
@@ -115,6 +85,9 @@ fn pass_results(passes: bool, regs: &mut [Live; 16])
         ≡ handed passes (slice_index_or regs.old 10 (plain 0)) }
     ensures second { slice_index_or regs.new 11 (plain 0)
         ≡ handed passes (slice_index_or regs.old 11 (plain 0)) }
+    ensures all { regs.new ≡ slice_set (slice_set regs.old 10
+        (handed passes (slice_index_or regs.old 10 (plain 0)))) 11
+        (handed passes (slice_index_or regs.old 11 (plain 0))) }
 {
     pass(passes, &mut regs[10]);
     pass(passes, &mut regs[11]);
@@ -125,6 +98,7 @@ fn pass_results(passes: bool, regs: &mut [Live; 16])
 fn put_results(value: u32, regs: &mut [Live; 16])
     ensures first { slice_index_or regs.new 10 (plain 0) ≡ plain value }
     ensures second { slice_index_or regs.new 11 (plain 0) ≡ plain 0 }
+    ensures all { regs.new ≡ slice_set (slice_set regs.old 10 (plain value)) 11 (plain 0) }
 {
     regs[10] = Live::integer(value);
     regs[11] = Live::integer(0);

@@ -2,7 +2,6 @@
 
 ghost use Rattle.std.specs.Prelude.{◌≡◌, ◌+◌, ◌*◌, ◌/◌, ◌%◌, ◌≤◌, ◌<◌, ℕ, true, List, length, slice_index_or, cond, nat_lt};
 ghost use Rattle.ct_entry.specs.Listed.{Listed};
-ghost use Rattle.def_words.specs.Capability.{untagged};
 ghost use Rattle.def_memory.specs.declared.Granule.{Granule};
 ghost use Rattle.def_memory.specs.Granules.{plain};
 ghost use Rattle.def_boot.specs.Made.{return_sentry};
@@ -15,7 +14,7 @@ ghost use Rattle.ct_switch.specs.Calls.{callee_registers, given_in, handed, head
 
 use crate::Export;
 use crate::stacks::put_stack;
-use ct_cap::{Bounds, Cap, Live, Perms, Posture, Shadow, expand};
+use ct_cap::{Bounds, Cap, Live, Perms, Posture, Shadow, expand, untag};
 use ct_mem::Memory;
 use def_profile::native::{NATIVE_LENGTH, RETURN_ENTRY};
 use def_profile::rights::SERVICE_RIGHTS;
@@ -63,15 +62,6 @@ pub(crate) fn head_in<M: Memory>(mem: &M, at: u32) -> Head
         code: mem.load_cap(at),
         globals: mem.load_cap(at + 8),
     }
-}
-
-/// A register loses its tag.
-#[tactic(auto, unfolding(def_words::specs::Authority::cap_bounds, def_words::specs::Permissions::cap_perms, def_words::specs::Seals::cap_seal))]
-fn untag(register: &mut Live)
-    ensures { register.new ≡ untagged register.old }
-{
-    register.cap.tag = false;
-    register.cap.shadow = Shadow { root: 0, source: 0 };
 }
 
 /// A register as it is passed: untagged where only plain values are.

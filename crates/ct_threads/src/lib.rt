@@ -3,7 +3,7 @@
 //!
 //! A row that is kept (specs/Kept) has its area in RAM, where nothing but what was saved isn't a plain word. Contracts
 //! say what a start, a stop, a pick, a call, a frame's end and an error handler's begin make of the row, of the thread
-//! of the machine's state and of memory, of which nothing is hidden. docs/use/machine.md tells the layout in prose.
+//! of the machine's state and of memory, of which nothing is hidden. docs/build/inside.md tells the layout in prose.
 #![tactic(auto)]
 
 mod accesses;

@@ -9,7 +9,7 @@ ghost use Rattle.ct_threads.specs.Rows.{row_gone};
 
 use ct_areas::Thread;
 use ct_cap::{Live, Posture, turn};
-use ct_loadstore::filter;
+use ct_loadstore::filter_in_place;
 use ct_mem::Memory;
 
 /// A register gets a value, which register 0 drops.
@@ -59,22 +59,12 @@ pub fn branch_row(t: &mut Thread, target: u32)
     turn(&mut t.pcc, target);
 }
 
-/// A register passes the load filter, where it stands: one that is untagged stays.
-#[inline(always)]
-fn pass<M: Memory>(register: &mut Live, mem: &M, ram: u32)
-    ensures { register.new ≡ filtered_in ram (M.granules mem.now) register.old }
-{
-    if register.cap.tag {
-        *register = filter(mem, ram, *register);
-    }
-}
-
 /// Each register passes the load filter.
 fn filter_each<M: Memory>(registers: &mut [Live; 16], mem: &M, ram: u32)
     ensures { registers.new ≡ map (filtered_in ram (M.granules mem.now)) registers.old }
 {
     for number in 0..16usize {
-        pass(&mut registers[number], mem, ram);
+        filter_in_place(&mut registers[number], mem, ram);
     }
 }
 

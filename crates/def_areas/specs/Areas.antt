@@ -1,6 +1,6 @@
 -- What stands in a thread's area of the trusted region. All places count granules from RAM's begin. An area begins with
--- the program counter capability and registers c1 to c15 of a thread that isn't running; its frames stand after its
--- head, the outermost first.
+-- the program counter capability and registers c1 to c15 of a thread that doesn't stand in its row; its frames stand
+-- after its head, the outermost first.
 use Rattle.std.specs.Prelude.{ℕ, zero, suc, ◌+◌, ◌*◌, ◌/◌, ◌%◌, ◌^◌, ◌==◌, ◌++◌, Bool, true, false, List, [], ◌∷◌}
 use Rattle.def_profile.specs.declared.layout.TheConstants.{GRANULE, AREA_HEAD, FRAME_SIZE}
 use Rattle.def_words.specs.declared.Cap.{Cap}

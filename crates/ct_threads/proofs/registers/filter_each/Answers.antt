@@ -7,8 +7,8 @@ pub loop-number-preserved : goal.loop-number-preserved
 loop-number-preserved g c =
     let f = filtered_in c.args.ram (g.M.Memory.granules c.args.mem.now) in
     let lt : c.loop-number.number < length c.args.registers.now = omega (arith, c.told-registers) in
-    passed_step f c.loop-number.number c.args.registers.now c.loop-number.registers c.index-registers-number.result c.pass.new.register lt c.loop-number.invariant
-    c.pass.ensures
+    passed_step f c.loop-number.number c.args.registers.now c.loop-number.registers c.index-registers-number.result c.filter_in_place.new.c lt c.loop-number.invariant
+    c.filter_in_place.ensures
 
 pub returns : goal.returns
 returns g c =

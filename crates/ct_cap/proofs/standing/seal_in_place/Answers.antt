@@ -7,12 +7,12 @@ use Rattle.def_words.specs.Seals.{seal_type}
 use Rattle.law_words.proofs.Words.{bounds_same, seal_low, seal_seal}
 use Rattle.ct_perm.proofs.Tests.{has_ex}
 use Rattle.ct_cap.proofs.Parts.{perms_of, seal_of, sealed_rights}
-use Rattle.ct_flow.proofs.standing.seal_as.Goals as goal
+use Rattle.ct_cap.proofs.standing.seal_in_place.Goals as goal
 
 pub invariant_of-l : goal.invariant_of-l
 invariant_of-l c =
     let old : Cap = c.l.inside.cap in
-    let new : Cap = record { tag = old.tag; word = c.sealed_word-l-inside.result; shadow = c.sourced-l-inside.result } in
+    let new : Cap = record { tag = old.tag; word = c.sealed_word-l-inside.result; shadow = c.shadow_from-l-inside.result } in
     let field = c.args.field in
     let high = with_seal_field (cap_high old) field in
     let is : new.word ≡ word_of high (cap_address old) = c.sealed_word-l-inside.ensures in
