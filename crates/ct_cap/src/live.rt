@@ -21,9 +21,9 @@ use std::marker::Model;
 #[derive(Clone, Copy)]
 pub struct Live {
     pub cap: Cap,
-    pub bounds: Bounds,
     pub perms: Perms,
     pub seal: u32,
+    pub bounds: Bounds,
 }
 
 impl Model for Live {
