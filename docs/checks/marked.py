@@ -162,7 +162,7 @@ MARKED = {
             "branch_row filter_row begin stop_row pick_row Window::empty Window::holds window_of",
     },
     "ct_burst": {
-        "inner": "burst",
+        "inner": "burst once",
     },
     "ct_engine": {
         "inner":
@@ -170,7 +170,7 @@ MARKED = {
             "Engine::register Engine::pcc Engine::posture Engine::actor Engine::jump_to Engine::stop "
             "Engine::pick Engine::call Engine::return_to_caller Engine::unwind Engine::handle "
             "Engine::is_handling Engine::end_handler Engine::next Engine::loadstore Engine::allocate "
-            "Engine::free Engine::made Engine::remaining Engine::quarantined Engine::window Engine::burst "
+            "Engine::free Engine::made Engine::remaining Engine::quarantined Engine::window Engine::burst Engine::once "
             "Engine::find Engine::is_key Engine::opens Engine::allocate_sealed Engine::has_sweep Engine::sweep "
             "calls_written ends_written handlers_written grants_written sweeps_written",
     },

@@ -13,7 +13,7 @@ use Rattle.def_step.specs.declared.Class.TheVariants as kinds
 use Rattle.def_step.specs.Jumps.{flow_result, is_taken, jump_target, jumped_to, branched, register_jumped, register_target}
 use Rattle.def_step.specs.Operands.{class_of, operands_of}
 use Rattle.ct_areas.specs.declared.thread.Thread as row
-use Rattle.ct_burst.specs.Carrying.{value_in, offset_of, takes, jal_offset, jump_by, jump_distance, linked_to, through, CarriesAlone}
+use Rattle.ct_burst.specs.Carrying.{value_in, offset_of, takes, jal_offset, jump_by, jump_distance, linked_to, row_through, CarriesAlone}
 use Rattle.ct_burst.specs.Going.{running_thread, Carries}
 
 -- ---- branches and jumps
@@ -98,10 +98,10 @@ GoesThrough to at x n before =
     (here : Cap) (named : ℕ) → register_jumped to at x n here before named
     ≡ Ok (record { link = Some (return_link here before); pcc = with_address (opened x) (register_target x n); posture = before })
 
-through_goes : (r new : row.Thread) (to at n : ℕ) → GoesThrough to at (value_in r at) n r.posture → new ≡ through r to at n → Goes r (CJalr to at n) new
+through_goes : (r new : row.Thread) (to at n : ℕ) → GoesThrough to at (value_in r at) n r.posture → new ≡ row_through r to at n → Goes r (CJalr to at n) new
 unfolding flow_result
 through_goes r new to at n goes is ram gs fs named k time =
     rw (goes r.pcc named) (ap (λ (q : row.Thread). running_thread q fs) is, refl, refl, refl, refl)
 
-pub through_quiet : (r new : row.Thread) (to at n : ℕ) (x : Cap) → x ≡ value_in r at → GoesThrough to at x n r.posture → new ≡ through r to at n → CarriesAlone r (CJalr to at n) new
+pub through_quiet : (r new : row.Thread) (to at n : ℕ) (x : Cap) → x ≡ value_in r at → GoesThrough to at x n r.posture → new ≡ row_through r to at n → CarriesAlone r (CJalr to at n) new
 through_quiet r new to at n x here goes is = record { each = through_goes r new to at n (subst (λ (c : Cap). GoesThrough to at c n r.posture) here goes) is }

@@ -1,5 +1,5 @@
 -- A tagged capability that moves to an address of a window that suits it, and the row whose program counter that is.
-use Rattle.std.proofs.Common.{ℕ, ◌+◌, ◌%◌, ◌^◌, ◌<◌, ◌≡◌, true, arith, refl, sym, ap, ◌∙◌}
+use Rattle.std.proofs.Common.{ℕ, ◌+◌, ◌%◌, ◌^◌, ◌<◌, ◌≡◌, true, arith, refl, sym, ap, ◌∙◌, subst}
 use Rattle.std.proofs.lemmas.Bool.{eqb-true}
 use Rattle.def_words.specs.declared.Cap.{Cap}
 use Rattle.def_words.specs.declared.Posture.{Posture}
@@ -70,7 +70,7 @@ at_is w c a fits tagged within = turned c (record c { word = word_at c a }) a (s
 whole_at : (c : Cap) (a : ℕ) → a < 2 ^ 32 → a % 4 ≡ 0 → word_at c a % 2 ^ 32 % 4 ≡ 0
 whole_at c a small whole = omega (arith, small, whole)
 
-pub turned_on : (r new : row.Thread) (w : Window) (a : ℕ) (posture : Posture) (to : ℕ) (value : Cap) → new ≡ row_gone r (with_address r.pcc a) posture to value → IsOn r w
+turned_on : (r new : row.Thread) (w : Window) (a : ℕ) (posture : Posture) (to : ℕ) (value : Cap) → new ≡ row_gone r (with_address r.pcc a) posture to value → IsOn r w
     → window_holds w a ≡ true → a % 4 ≡ 0 → IsOn new w
 turned_on r new w a posture to value is on within whole =
     let there = at_is w r.pcc a on.suits on.tagged within in
@@ -79,4 +79,18 @@ turned_on r new w a posture to value is on within whole =
       suits = moved_suits w r new a posture to value is small on.suits;
       tagged = ap (λ (q : row.Thread). q.pcc.tag) is ∙ ap (λ (d : Cap). d.tag) (sym there) ∙ on.tagged;
       whole = ap (λ (q : row.Thread). cap_address q.pcc % 4) is ∙ ap (λ (d : Cap). cap_address d % 4) (sym there) ∙ whole_at r.pcc a small whole;
+    }
+
+address_at : (c : Cap) (a : ℕ) → a < 2 ^ 32 → word_at c a % 2 ^ 32 ≡ a
+address_at c a small = omega (arith, small)
+
+pub turned_held : (r new : row.Thread) (w : Window) (a : ℕ) (posture : Posture) (to : ℕ) (value : Cap) → new ≡ row_gone r (with_address r.pcc a) posture to value → IsOn r w
+    → window_holds w a ≡ true → a % 4 ≡ 0 → IsHeld new w
+turned_held r new w a posture to value is on within whole =
+    let there = at_is w r.pcc a on.suits on.tagged within in
+    let small : a < 2 ^ 32 = (stays_at w r.pcc a on.suits on.tagged within).small in
+    let at : cap_address new.pcc ≡ a = ap (λ (q : row.Thread). cap_address q.pcc) is ∙ ap (λ (d : Cap). cap_address d) (sym there) ∙ address_at r.pcc a small in
+    record {
+      on = turned_on r new w a posture to value is on within whole;
+      held = subst (λ n. window_holds w n ≡ true) (sym at) within;
     }

@@ -54,7 +54,7 @@ pub record IsHeld (r : row.Thread) (w : Window) : Type 0 where
   pub on : IsOn r w
   pub held : window_holds w (cap_address r.pcc) ≡ true
 
--- the same, where it came from row r by going past an instruction
+-- the window suits the row as before, and it is at the address past that of row r
 pub record IsPast (r new : row.Thread) (w : Window) : Type 0 where
   pub on : IsOn new w
   pub next : cap_address new.pcc ≡ cap_address r.pcc + 4
@@ -76,8 +76,8 @@ abbrev pub linked_to : row.Thread → ℕ → ℕ → row.Thread
 linked_to r at to = row_gone r (with_address r.pcc at) r.posture to (return_link r.pcc r.posture)
 
 -- a row goes on through register `at` with its posture, and a register gets the link
-abbrev pub through : row.Thread → ℕ → ℕ → ℕ → row.Thread
-through r to at n =
+abbrev pub row_through : row.Thread → ℕ → ℕ → ℕ → row.Thread
+row_through r to at n =
     row_gone r (with_address (opened (value_in r at)) (register_target (value_in r at) n)) r.posture
     to (return_link r.pcc r.posture)
 
@@ -125,13 +125,20 @@ went Went = true
 went Led = true
 went Turned = true
 
+-- whether the row is where the window is known to suit it
+abbrev pub stays_inside : Quietly → Bool
+stays_inside Loud = true
+stays_inside Went = true
+stays_inside Led = true
+stays_inside Turned = false
+
 -- memory staying, whatever it is
 pub record CarriedAlone (r : row.Thread) (w : Window) (i : Instr) (how : Quietly) (new : row.Thread) : Type 0 where
   pub carries : went how ≡ true → CarriesAlone r i new
   pub same : went how ≡ false → new ≡ r
   pub beside : IsBeside r new
   pub past : how ≡ Went → IsPast r new w
-  pub led : how ≡ Led → IsOn new w
+  pub led : how ≡ Led → IsHeld new w
 
 -- memory included
 pub record Carried (ram : ℕ) (r : row.Thread) (gs : List Granule) (w : Window) (i : Instr)
@@ -140,5 +147,5 @@ pub record Carried (ram : ℕ) (r : row.Thread) (gs : List Granule) (w : Window)
   pub same : went how ≡ false → new ≡ r
   pub stays : Stays r new gs after
   pub past : how ≡ Went → IsPast r new w
-  pub led : how ≡ Led → IsOn new w
+  pub led : how ≡ Led → IsHeld new w
   pub memory : went how ≡ false → after ≡ gs

@@ -7,11 +7,11 @@ ghost use Rattle.def_words.specs.Authority.{cap_address};
 ghost use Rattle.ct_loadstore.specs.Shapes.{space_of};
 ghost use Rattle.ct_threads.specs.Steps.{no_bank};
 ghost use Rattle.ct_threads.specs.Windows.{Suits};
-ghost use Rattle.ct_burst.specs.Carrying.{went, HasWindow, IsHeld, IsOn, IsPast, Stays};
+ghost use Rattle.ct_burst.specs.Carrying.{stays_inside, went, HasWindow, IsHeld, IsOn, IsPast, Stays};
 ghost use Rattle.ct_burst.specs.declared.going.Quietly.TheVariants.{Led, Went};
 ghost use Rattle.ct_burst.specs.Going.{running_thread, GoesFor, GoesOnce};
 
-use crate::dispatching::carry;
+use crate::dispatching::{Alone, InBurst, carry};
 use crate::going::Quietly;
 use ct_areas::Thread;
 use ct_decode::Decoded;
@@ -32,7 +32,7 @@ fn word_at<M: Memory>(row: &Thread, mem: &M, ram: u32, window: Window) -> u32
 
 /// The instruction at a row's program counter, which the window holds, is carried out, or left.
 #[inline(always)]
-fn step<M: Memory>(
+fn step<M: Memory, Who>(
     row: &mut Thread,
     mem: &mut M,
     ram: u32,
@@ -49,20 +49,18 @@ fn step<M: Memory>(
     ensures memory { went result ≡ false → M.granules mem.new ≡ M.granules mem.old }
     ensures stays { Stays row.old row.new (M.granules mem.old) (M.granules mem.new) }
     ensures past { result ≡ Went → IsPast row.old row.new window }
-    ensures led { result ≡ Led → IsOn row.new window }
+    ensures led { result ≡ Led → IsHeld row.new window }
 {
     let word = word_at(row, mem, ram, window);
     let at = row.pcc.address();
-    carry(row, mem, ram, decoded.reading(at, word), window)
+    carry::<M, Who>(row, mem, ram, decoded.reading(at, word), window)
 }
 
-/// How many instructions were carried out, whether one was left after them, and whether the last of them may have led out
-/// of the window.
+/// Of instructions at one address after another how many were carried out, and what became of the last that was met.
 #[derive(Clone, Copy, Drop)]
-struct Course {
+struct Line {
     count: u32,
-    left: bool,
-    turned: bool,
+    last: Quietly,
 }
 
 /// Instructions at one address after another, all of which the window holds, up to one that is left, one that leads
@@ -75,58 +73,61 @@ fn run_line<M: Memory>(
     decoded: &mut Decoded,
     window: Window,
     most: u32,
-) -> Course
+) -> Line
     requires even { ram % 16 ≡ 0 }
     requires some { 1 ≤ most }
     requires held { IsHeld row.old window }
     requires line { cap_address row.old.pcc + 4 * most ≤ window.last + 4 }
     requires window { HasWindow ram row.old (M.granules mem.old) window }
     ensures most { result.count ≤ most }
-    ensures some { result.left ≡ false → 1 ≤ result.count }
-    ensures turned { result.turned ≡ true → result.left ≡ false }
+    ensures some { went result.last ≡ true → 1 ≤ result.count }
     ensures goes { (fs : List Frame)
         → GoesFor ram result.count (running_thread row.old fs) (M.granules mem.old)
         (running_thread row.new fs) (M.granules mem.new) }
     ensures stays { Stays row.old row.new (M.granules mem.old) (M.granules mem.new) }
-    ensures on { result.turned ≡ false → IsOn row.new window }
+    ensures on { stays_inside result.last ≡ true → IsOn row.new window }
+    ensures led { result.last ≡ Led → IsHeld row.new window }
 {
     let mut to_come = most;
     while to_come != 0 {
-        match step(row, mem, ram, decoded, window) {
+        match step::<M, InBurst>(row, mem, ram, decoded, window) {
             Quietly::Went => {}
             Quietly::Loud => {
-                return Course {
+                return Line {
                     count: most - to_come,
-                    left: true,
-                    turned: false,
+                    last: Quietly::Loud,
                 };
             }
             Quietly::Led => {
-                return Course {
+                return Line {
                     count: most - to_come + 1,
-                    left: false,
-                    turned: false,
+                    last: Quietly::Led,
                 };
             }
             Quietly::Turned => {
-                return Course {
+                return Line {
                     count: most - to_come + 1,
-                    left: false,
-                    turned: true,
+                    last: Quietly::Turned,
                 };
             }
         }
         to_come -= 1;
     }
-    Course {
+    Line {
         count: most,
-        left: false,
-        turned: false,
+        last: Quietly::Went,
     }
 }
 
-/// Instructions of a row that a window suits, up to one that is left, one that leads elsewhere, or the last that is
-/// asked for.
+/// How many instructions were carried out, and whether the last of them may have led out of the window.
+#[derive(Clone, Copy, Drop)]
+struct Course {
+    count: u32,
+    turned: bool,
+}
+
+/// Instructions of a row whose address a window holds, up to one that is left, one that leads out of the window, or the
+/// last that is asked for.
 fn run<M: Memory>(
     row: &mut Thread,
     mem: &mut M,
@@ -136,7 +137,7 @@ fn run<M: Memory>(
     most: u32,
 ) -> Course
     requires even { ram % 16 ≡ 0 }
-    requires on { IsOn row.old window }
+    requires held { IsHeld row.old window }
     requires window { HasWindow ram row.old (M.granules mem.old) window }
     ensures most { result.count ≤ most }
     ensures some { result.turned ≡ true → 1 ≤ result.count }
@@ -148,46 +149,40 @@ fn run<M: Memory>(
 {
     let mut made = 0;
     while made < most {
-        let at = row.pcc.address();
-        if !window.holds(at) {
-            return Course {
-                count: made,
-                left: true,
-                turned: false,
-            };
-        }
-        let words = (window.last - at) / 4 + 1;
+        let words = (window.last - row.pcc.address()) / 4 + 1;
         let line = run_line(row, mem, ram, decoded, window, words.min(most - made));
         made += line.count;
-        if line.turned {
-            return Course {
-                count: made,
-                left: false,
-                turned: true,
-            };
-        }
-        if line.left {
-            return Course {
-                count: made,
-                left: true,
-                turned: false,
-            };
+        match line.last {
+            Quietly::Led => {}
+            Quietly::Turned => {
+                return Course {
+                    count: made,
+                    turned: true,
+                };
+            }
+            Quietly::Loud | Quietly::Went => {
+                return Course {
+                    count: made,
+                    turned: false,
+                };
+            }
         }
     }
     Course {
         count: most,
-        left: false,
         turned: false,
     }
 }
 
-/// Whether a row is tagged, at a multiple of 4.
+/// Where `true`, a row that a window suits is tagged, at a multiple of 4 that the window holds. Where `false`, its
+/// instruction is left.
 #[inline(always)]
-fn is_on(row: &Thread, window: Window) -> bool
+fn is_held(row: &Thread, window: Window) -> bool
     requires { Suits window row.now.pcc }
-    ensures { result ≡ true → IsOn row.now window }
+    ensures { result ≡ true → IsHeld row.now window }
 {
-    row.pcc.cap.tag && row.pcc.address() % 4 == 0
+    let at = row.pcc.address();
+    row.pcc.cap.tag && at % 4 == 0 && window.holds(at)
 }
 
 /// Instructions of a row's thread, which runs, up to one that is left or the last that is asked for: how many were
@@ -215,7 +210,7 @@ pub fn burst<M: Memory>(
 {
     let mut made = 0;
     while made < most {
-        if !is_on(row, *window) {
+        if !is_held(row, *window) {
             return made;
         }
         let some = run(row, mem, ram, decoded, *window, most - made);
@@ -226,4 +221,39 @@ pub fn burst<M: Memory>(
         *window = window_of(&row.pcc, mem, ram);
     }
     made
+}
+
+/// One instruction of a row's thread, which runs: 1 where it was carried out, else 0. It is for who has something to do
+/// after each.
+///
+/// Conditions and what stays: as of `burst`.
+#[inline(always)]
+pub fn once<M: Memory>(
+    row: &mut Thread,
+    mem: &mut M,
+    ram: u32,
+    decoded: &mut Decoded,
+    window: &mut Window,
+) -> u32
+    requires even { ram % 16 ≡ 0 }
+    requires window { HasWindow ram row.old (M.granules mem.old) window.old }
+    ensures most { result ≤ 1 }
+    ensures goes { (fs : List Frame)
+        → GoesFor ram result (running_thread row.old fs) (M.granules mem.old)
+        (running_thread row.new fs) (M.granules mem.new) }
+    ensures stays { Stays row.old row.new (M.granules mem.old) (M.granules mem.new) }
+    ensures window { HasWindow ram row.new (M.granules mem.new) window.new }
+{
+    if !is_held(row, *window) {
+        return 0;
+    }
+    match step::<M, Alone>(row, mem, ram, decoded, *window) {
+        Quietly::Loud => 0,
+        Quietly::Went => 1,
+        Quietly::Led => 1,
+        Quietly::Turned => {
+            *window = window_of(&row.pcc, mem, ram);
+            1
+        }
+    }
 }

@@ -65,6 +65,8 @@ fn copy_at(registers: &mut [Live; 16], to: u32, first: u32, address: u32)
 }
 
 /// A register gets what an instruction of capabilities gives, which register 0 drops.
+///
+/// What `derived` says of the four that loops are full of is made where it belongs; the others' by value.
 #[tactic(auto, unfolding(def_capstep::specs::Results::capability_result))]
 #[inline(always)]
 fn give(

@@ -16,9 +16,16 @@ use ct_mem::Memory;
 use ct_threads::Window;
 use def_instr::Instr;
 
-/// An instruction is carried out, or left.
+/// Who carries an instruction out: `burst`.
+pub(crate) struct InBurst;
+
+/// Who carries an instruction out: `once`.
+pub(crate) struct Alone;
+
+/// An instruction is carried out, or left. Each of who carries it out has a copy of this code, which so is laid out
+/// where it stands.
 #[inline(always)]
-pub(crate) fn carry<M: Memory>(
+pub(crate) fn carry<M: Memory, Who>(
     row: &mut Thread,
     mem: &mut M,
     ram: u32,

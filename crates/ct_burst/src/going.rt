@@ -12,9 +12,11 @@ use ct_areas::Thread;
 use ct_cap::Live;
 use ct_threads::{Window, branch_row, read_ref};
 
-/// What became of an instruction: it was left, and nothing changed (`Loud`); it was carried out, and the row is at the
-/// next address (`Went`) or at another (`Led`), tagged, at a multiple of 4, and the window suits it as before; or it was
-/// carried out (`Turned`).
+/// What became of an instruction.
+///
+/// `Loud`: it was left, and nothing changed. `Went`, `Led` and `Turned`: it was carried out. After `Went` the row is at the
+/// next address, after `Led` at one that the window holds; after both it is tagged, at a multiple of 4, and the window
+/// suits it as before. After `Turned` nothing more is known.
 #[derive(Clone, Copy, PartialEq, Eq, Drop)]
 pub(crate) enum Quietly {
     Loud,
@@ -72,7 +74,7 @@ fn go_inside(l: &mut Live, target: u32, window: Window)
     l.cap.word = (l.cap.word >> 32 << 32) + target as u64;
 }
 
-/// A row goes on at an address, a multiple of 4.
+/// A row goes on at an address, a multiple of 4: `Led` where the window holds it, else `Turned`.
 #[inline(always)]
 pub(crate) fn go_to(row: &mut Thread, target: u32, window: Window) -> Quietly
     requires on { IsOn row.old window }
@@ -80,7 +82,7 @@ pub(crate) fn go_to(row: &mut Thread, target: u32, window: Window) -> Quietly
     ensures came { result ≡ (if window_holds window target then Led else Turned) }
     ensures gone { row.new
         ≡ row_gone row.old (with_address row.old.pcc target) row.old.posture 0 (integer 0) }
-    ensures on { window_holds window target ≡ true → IsOn row.new window }
+    ensures held { window_holds window target ≡ true → IsHeld row.new window }
 {
     if window.holds(target) {
         go_inside(&mut row.pcc, target, window);

@@ -9,7 +9,7 @@ ghost use Rattle.def_step.specs.Operands.{operands_of};
 ghost use Rattle.def_words.specs.Jumped.{return_link};
 ghost use Rattle.ct_decode.specs.Reading.{AreRegisters};
 ghost use Rattle.ct_burst.specs.declared.going.Quietly.TheVariants.{Loud, Turned};
-ghost use Rattle.ct_burst.specs.Carrying.{jump_distance, linked_to, offset_of, takes, through, CarriedAlone, CarriesAlone, IsBeside, IsHeld, HasOperands};
+ghost use Rattle.ct_burst.specs.Carrying.{jump_distance, linked_to, offset_of, takes, row_through, CarriedAlone, CarriesAlone, IsBeside, IsHeld, HasOperands};
 
 use crate::going::{Quietly, address_in, go_to, put};
 use ct_areas::Thread;
@@ -47,14 +47,14 @@ pub(crate) fn branch(
     ensures { CarriedAlone row.old window instruction result row.new }
 {
     if !is_branch_taken(row, instruction, first, second) {
-        return go_past(row, instruction, window);
+        return go_past_branch(row, instruction, window);
     }
     go_by(row, instruction, offset, window)
 }
 
-/// A branch that isn't taken.
+/// A row goes past a branch that isn't taken.
 #[inline(always)]
-fn go_past(row: &mut Thread, instruction: Instr, window: Window) -> Quietly
+fn go_past_branch(row: &mut Thread, instruction: Instr, window: Window) -> Quietly
     requires held { IsHeld row.old window }
     requires by { Some 4 ≡ jump_distance row.old instruction }
     requires to { (operands_of instruction).to ≡ 0 }
@@ -157,12 +157,12 @@ fn link_by(row: &mut Thread, to: u32, offset: u32) -> bool
     true
 }
 
-/// A row goes on through a register, and a register gets the link.
+/// A row goes on through a register with its posture, and a register gets the link, which register 0 drops.
 #[inline(always)]
 fn go_by_register(row: &mut Thread, to: u32, at: u32, immediate: u32)
     requires to { to < 16 }
     requires at { at < 16 }
-    ensures { row.new ≡ through row.old to at immediate }
+    ensures { row.new ≡ row_through row.old to at immediate }
 {
     let here = row.pcc;
     go_through(&mut row.pcc, read_ref(&row.regs, at), immediate);

@@ -14,4 +14,4 @@ mod going;
 mod integers;
 mod jumping;
 
-pub use bursting::burst;
+pub use bursting::{burst, once};

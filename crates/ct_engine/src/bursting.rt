@@ -8,7 +8,7 @@ ghost use Rattle.ct_engine.specs.Steps.{HasWindow};
 
 use crate::engine::Engine;
 use crate::steps;
-use ct_burst::burst;
+use ct_burst::{burst, once};
 use ct_decode::Decoded;
 use ct_mem::Memory;
 use ct_threads::Window;
@@ -49,5 +49,23 @@ impl<M: Memory + Drop> Engine<M> {
             window,
             most,
         )
+    }
+
+    /// One instruction of the running thread: 1 where it was carried out, which tells nothing, else 0.
+    ///
+    /// Conditions: as of `burst`, of one instruction.
+    #[inline(always)]
+    pub fn once(&mut self, t: u32, decoded: &mut Decoded, window: &mut Window) -> u32
+        requires runs { self.old.running ≡ Some t }
+        requires even { self.old.region.ram % 16 ≡ 0 }
+        requires window { HasWindow self.old t window.old }
+        requires opened { StaysOpen t 1 self.old }
+        ensures most { result ≤ 1 }
+        ensures goes { GoesFor t result self.old self.new }
+        ensures window { HasWindow self.new t window.new }
+    {
+        let ram = self.rows.region.ram;
+        let row = &mut self.rows.list[t as usize];
+        once(row, &mut self.mem, ram, decoded, window)
     }
 }

@@ -34,9 +34,9 @@ impl<M: Memory + Drop> Parts<M> {
         ensures board { self.new.board ≡ self.old.board }
     {
         let before = self.holder();
-        let rests = self.engine.running().is_none();
         self.count_step();
         self.preempt();
+        let rests = self.engine.running().is_none();
         self.schedule();
         let deed = self.carry_on(rests);
         let off = self.begun(before);

@@ -174,9 +174,9 @@ impl<M: Memory + Drop> Parts<M> {
         deed
     }
 
-    /// The running thread carries on by a burst of one: `true` where that carries its instruction out, which tells
-    /// nothing; else `false`, and nothing changes.
-    fn goes_by_burst(&mut self) -> bool
+    /// The running thread carries on by one instruction that tells nothing: `true` where that is carried out; else
+    /// `false`, and nothing changes.
+    fn goes_quietly_once(&mut self) -> bool
         requires may { MayGoOn self.old }
         ensures is { result ≡ true
             → (self.new.state, None) ≡ run_on self.old.board self.old.state }
@@ -186,13 +186,14 @@ impl<M: Memory + Drop> Parts<M> {
         match self.engine.running() {
             Some(t) => {
                 let mut window = self.engine.window(t);
-                self.engine.burst(t, &mut self.decoded, &mut window, 1) == 1
+                self.engine.once(t, &mut self.decoded, &mut window) == 1
             }
             None => false,
         }
     }
 
-    /// The running thread carries on. Where it was picked just now a burst of one is tried first, since most go on so.
+    /// The running thread carries on. Where it was picked just now an instruction that tells nothing is tried first, for
+    /// speed alone, since most go on so.
     pub(crate) fn carry_on(&mut self, picked: bool) -> Option<Deed>
         requires may { MayGoOn self.old }
         requires deeds { deeds_of self.old.state.counts < self.old.state.counts.steps }
@@ -200,7 +201,7 @@ impl<M: Memory + Drop> Parts<M> {
         ensures is { (self.new.state, result) ≡ run_on self.old.board self.old.state }
         ensures board { self.new.board ≡ self.old.board }
     {
-        if picked && self.goes_by_burst() {
+        if picked && self.goes_quietly_once() {
             return None;
         }
         self.go_on()

@@ -33,8 +33,8 @@ impl<M: Memory + Drop> Parts<M> {
         self.engine.window(t)
     }
 
-    /// A step of the running thread that isn't counted yet, where no tick is pending: `true` where a burst of one
-    /// carries its instruction out, and the step tells nothing, whatever was counted; else `false`, and nothing
+    /// A step of the running thread that isn't counted yet, where no tick is pending: `true` where its
+    /// instruction is carried out alone, and the step tells nothing, whatever was counted; else `false`, and nothing
     /// changes.
     #[inline(always)]
     pub(crate) fn goes_quietly(&mut self, t: u32, window: &mut Window) -> bool
@@ -51,7 +51,7 @@ impl<M: Memory + Drop> Parts<M> {
         ensures still { end_of self.new.state ≡ None }
         ensures window { IsThreadWindow self.new t window.new }
     {
-        self.engine.burst(t, &mut self.decoded, window, 1) == 1
+        self.engine.once(t, &mut self.decoded, window) == 1
     }
 
     /// Whether a sweep runs, or is to begin.

@@ -18,4 +18,4 @@ returns c =
     let gone : new ≡ linked_to r (jump_target r.pcc c.args.by) 0 = subst (λ n. new ≡ linked_to r n 0) target c.go_to.ensures.gone in
     led_jump r c.args.window c.args.instruction (window_holds c.args.window ((c.address.result + c.args.by) % 2 ^ 32)) c.go_to.result new c.go_to.ensures.came
     (jump_quiet r new c.args.instruction c.args.by c.requires.by whole (subst (λ n. new ≡ linked_to r (jump_target r.pcc c.args.by) n) (sym c.requires.to) gone))
-    (beside_gone r new _ 0 (integer 0) c.go_to.ensures.gone) c.go_to.ensures.on
+    (beside_gone r new _ 0 (integer 0) c.go_to.ensures.gone) c.go_to.ensures.held

@@ -11,17 +11,17 @@ use Rattle.ct_machine.proofs.Keeping.{counted_so}
 use Rattle.ct_machine.proofs.Quietly.{none_ended, quietly_is, sweep_stays, window_in, window_out}
 use Rattle.ct_machine.proofs.parts.Parts.goes_quietly.Goals as goal
 
-pub burst-requires-clause-runs : goal.burst-requires-clause-runs
-burst-requires-clause-runs g c = runs_seen _ c.args.self.now c.args.t c.self.view_is c.requires.runs
+pub once-requires-clause-runs : goal.once-requires-clause-runs
+once-requires-clause-runs g c = runs_seen _ c.args.self.now c.args.t c.self.view_is c.requires.runs
 
-pub burst-requires-clause-opened : goal.burst-requires-clause-opened
-burst-requires-clause-opened g c =
+pub once-requires-clause-opened : goal.once-requires-clause-opened
+once-requires-clause-opened g c =
     let i = c.self.inside in
     stays_open i.plan i.engine i.sched c.args.t c.self.invariant.0 i.bus i.pending i.time i.counts (runs_seen _ c.args.self.now c.args.t c.self.view_is c.requires.runs)
     (none_seen _ c.args.self.now c.self.view_is c.requires.pending) (subst Guarded (sym c.self.view_is) c.requires.guarded) 1
 
-pub burst-requires-clause-window : goal.burst-requires-clause-window
-burst-requires-clause-window g c =
+pub once-requires-clause-window : goal.once-requires-clause-window
+once-requires-clause-window g c =
     let i = c.self.inside in
     window_in i.plan i.engine i.sched i.bus i.pending i.time i.counts c.args.t c.args.window.now c.self.invariant.0
     (subst (λ (m : MachineRow). IsThreadWindow m c.args.t c.args.window.now) (sym c.self.view_is) c.requires.window)
@@ -29,30 +29,30 @@ burst-requires-clause-window g c =
 pub invariant_of-self : goal.invariant_of-self
 invariant_of-self g c =
     let i = c.self.inside in
-    let after = burst_kept i.plan i.engine i.sched c.args.t c.self.invariant.0 c.burst.result c.burst.new.self c.burst.ensures.goes in
-    (after.0, counted_so i.counts i.time i.engine c.burst.new.self _ after.1.beside refl c.self.invariant.1)
+    let after = burst_kept i.plan i.engine i.sched c.args.t c.self.invariant.0 c.once.result c.once.new.self c.once.ensures.goes in
+    (after.0, counted_so i.counts i.time i.engine c.once.new.self _ after.1.beside refl c.self.invariant.1)
 
 pub returns-clause-is : goal.returns-clause-is
 returns-clause-is g c told counts =
     let i = c.self.inside in
-    quietly_is i.plan i.engine c.burst.new.self i.sched i.bus i.pending i.time counts c.args.t c.self.invariant.0 (runs_seen _ c.args.self.now c.args.t c.self.view_is c.requires.runs)
-    (none_seen _ c.args.self.now c.self.view_is c.requires.pending) (one_goes c.args.t c.burst.result i.engine c.burst.new.self c.burst.ensures.goes told)
+    quietly_is i.plan i.engine c.once.new.self i.sched i.bus i.pending i.time counts c.args.t c.self.invariant.0 (runs_seen _ c.args.self.now c.args.t c.self.view_is c.requires.runs)
+    (none_seen _ c.args.self.now c.self.view_is c.requires.pending) (one_goes c.args.t c.once.result i.engine c.once.new.self c.once.ensures.goes told)
     ∙ ap (λ (m : MachineRow). happens m.board (with_counts m.state counts) Step) c.self.view_is
 
 pub returns-clause-same : goal.returns-clause-same
 returns-clause-same g c told =
     let i = c.self.inside in
-    ap (λ (x : Seen). state_by x i.sched i.pending i.bus.states i.time i.counts) (none_goes c.args.t c.burst.result i.engine c.burst.new.self c.burst.ensures.goes c.burst.ensures.most told)
+    ap (λ (x : Seen). state_by x i.sched i.pending i.bus.states i.time i.counts) (none_goes c.args.t c.once.result i.engine c.once.new.self c.once.ensures.goes c.once.ensures.most told)
     ∙ ap (λ (m : MachineRow). m.state) c.self.view_is
 
 pub returns-clause-aside : goal.returns-clause-aside
 returns-clause-aside g c =
     let i = c.self.inside in
-    let stays = (burst_kept i.plan i.engine i.sched c.args.t c.self.invariant.0 c.burst.result c.burst.new.self c.burst.ensures.goes).1 in
+    let stays = (burst_kept i.plan i.engine i.sched c.args.t c.self.invariant.0 c.once.result c.once.new.self c.once.ensures.goes).1 in
     record {
       board = ap (λ (m : MachineRow). m.board) c.self.view_is;
       counts = ap (λ (m : MachineRow). m.state.counts) c.self.view_is;
-      sweep = sweep_stays i.engine c.burst.new.self i.sched i.pending i.bus.states i.time i.counts stays ∙ ap (λ (m : MachineRow). has_sweep m.state) c.self.view_is;
+      sweep = sweep_stays i.engine c.once.new.self i.sched i.pending i.bus.states i.time i.counts stays ∙ ap (λ (m : MachineRow). has_sweep m.state) c.self.view_is;
       pending = ap (λ (m : MachineRow). m.state.pending) c.self.view_is;
       running = ap (λ (x : Seen). x.running) stays.beside ∙ ap (λ (m : MachineRow). m.state.running) c.self.view_is;
     }
@@ -66,12 +66,12 @@ returns-clause-going g c =
 pub returns-clause-still : goal.returns-clause-still
 returns-clause-still g c =
     let i = c.self.inside in
-    let after = burst_kept i.plan i.engine i.sched c.args.t c.self.invariant.0 c.burst.result c.burst.new.self c.burst.ensures.goes in
-    none_ended i.plan c.burst.new.self i.sched i.pending i.bus.states i.time i.counts c.args.t after.0
+    let after = burst_kept i.plan i.engine i.sched c.args.t c.self.invariant.0 c.once.result c.once.new.self c.once.ensures.goes in
+    none_ended i.plan c.once.new.self i.sched i.pending i.bus.states i.time i.counts c.args.t after.0
     (ap (λ (x : Seen). x.running) after.1.beside ∙ runs_seen _ c.args.self.now c.args.t c.self.view_is c.requires.runs)
 
 pub returns-clause-window : goal.returns-clause-window
 returns-clause-window g c =
     let i = c.self.inside in
-    window_out i.plan c.burst.new.self i.sched i.bus i.pending i.time i.counts c.args.t c.burst.new.window
-    (burst_kept i.plan i.engine i.sched c.args.t c.self.invariant.0 c.burst.result c.burst.new.self c.burst.ensures.goes).0 c.burst.ensures.window
+    window_out i.plan c.once.new.self i.sched i.bus i.pending i.time i.counts c.args.t c.once.new.window
+    (burst_kept i.plan i.engine i.sched c.args.t c.self.invariant.0 c.once.result c.once.new.self c.once.ensures.goes).0 c.once.ensures.window

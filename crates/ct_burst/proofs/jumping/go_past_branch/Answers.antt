@@ -5,7 +5,7 @@ use Rattle.def_step.specs.Jumps.{jump_target}
 use Rattle.ct_burst.specs.Carrying.{linked_to}
 use Rattle.ct_burst.proofs.Carrying.{jump_quiet}
 use Rattle.ct_burst.proofs.Turns.{beside_gone, past_jump}
-use Rattle.ct_burst.proofs.jumping.go_past.Goals as goal
+use Rattle.ct_burst.proofs.jumping.go_past_branch.Goals as goal
 
 pub returns : goal.returns
 returns c =
