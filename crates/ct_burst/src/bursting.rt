@@ -1,6 +1,6 @@
 //! One instruction after another.
 
-ghost use Rattle.std.specs.Prelude.{◌≡◌, ◌≤◌, ◌+◌, ◌*◌, ◌%◌, List, true, false};
+ghost use Rattle.std.specs.Prelude.{◌≡◌, ◌≤◌, ◌<◌, ◌+◌, ◌-◌, ◌*◌, ◌%◌, List, true, false};
 ghost use Rattle.def_machine.specs.State.{Frame};
 ghost use Rattle.def_step.specs.Instructions.{fetched};
 ghost use Rattle.def_words.specs.Authority.{cap_address};
@@ -56,10 +56,10 @@ fn step<M: Memory, Who>(
     carry::<M, Who>(row, mem, ram, decoded.reading(at, word), window)
 }
 
-/// Of instructions at one address after another how many were carried out, and what became of the last that was met.
+/// Of instructions at one address after another how many are still to come, and what became of the last that was met.
 #[derive(Clone, Copy, Drop)]
 struct Line {
-    count: u32,
+    to_come: u32,
     last: Quietly,
 }
 
@@ -79,10 +79,10 @@ fn run_line<M: Memory>(
     requires held { IsHeld row.old window }
     requires line { cap_address row.old.pcc + 4 * most ≤ window.last + 4 }
     requires window { HasWindow ram row.old (M.granules mem.old) window }
-    ensures most { result.count ≤ most }
-    ensures some { went result.last ≡ true → 1 ≤ result.count }
+    ensures most { result.to_come ≤ most }
+    ensures some { went result.last ≡ true → result.to_come < most }
     ensures goes { (fs : List Frame)
-        → GoesFor ram result.count (running_thread row.old fs) (M.granules mem.old)
+        → GoesFor ram (most - result.to_come) (running_thread row.old fs) (M.granules mem.old)
         (running_thread row.new fs) (M.granules mem.new) }
     ensures stays { Stays row.old row.new (M.granules mem.old) (M.granules mem.new) }
     ensures on { stays_inside result.last ≡ true → IsOn row.new window }
@@ -94,19 +94,19 @@ fn run_line<M: Memory>(
             Quietly::Went => {}
             Quietly::Loud => {
                 return Line {
-                    count: most - to_come,
+                    to_come,
                     last: Quietly::Loud,
                 };
             }
             Quietly::Led => {
                 return Line {
-                    count: most - to_come + 1,
+                    to_come: to_come - 1,
                     last: Quietly::Led,
                 };
             }
             Quietly::Turned => {
                 return Line {
-                    count: most - to_come + 1,
+                    to_come: to_come - 1,
                     last: Quietly::Turned,
                 };
             }
@@ -114,7 +114,7 @@ fn run_line<M: Memory>(
         to_come -= 1;
     }
     Line {
-        count: most,
+        to_come: 0,
         last: Quietly::Went,
     }
 }
@@ -149,9 +149,9 @@ fn run<M: Memory>(
 {
     let mut made = 0;
     while made < most {
-        let words = (window.last - row.pcc.address()) / 4 + 1;
-        let line = run_line(row, mem, ram, decoded, window, words.min(most - made));
-        made += line.count;
+        let words = ((window.last - row.pcc.address()) / 4 + 1).min(most - made);
+        let line = run_line(row, mem, ram, decoded, window, words);
+        made += words - line.to_come;
         match line.last {
             Quietly::Led => {}
             Quietly::Turned => {

@@ -1,5 +1,5 @@
 -- What a word of code says, and the slots that hold it.
-use Rattle.std.specs.Prelude.{ℕ, ◌≡◌, ◌<◌, List, unwrap_or, length, slice_index_or}
+use Rattle.std.specs.Prelude.{ℕ, ◌≡◌, ◌<◌, ◌/◌, ◌%◌, List, unwrap_or, length, slice_index_or}
 use Rattle.def_instr.specs.declared.Instr.{Instr}
 use Rattle.def_instr.specs.declared.Instr.TheVariants.{Ebreak}
 use Rattle.def_instr.specs.Reading.{instruction_in}
@@ -20,6 +20,10 @@ pub record AreRegisters (o : Operands) : Type 0 where
   pub to : o.to < 16
   pub first : o.first < 16
   pub second : o.second < 16
+
+-- the slot of an address
+abbrev pub slot_at : ℕ → ℕ
+slot_at at = at / 4 % SLOTS
 
 -- what stands in a slot is what its word says
 pub record IsRead (r : Reading) : Type 0 where

@@ -3,7 +3,7 @@
 ghost use Rattle.std.specs.Prelude.{◌≡◌, ◌<◌, slice_index_or, true};
 ghost use Rattle.def_step.specs.Operands.{operands_of};
 ghost use Rattle.ct_decode.specs.declared.decoded.TheConstants.{SLOTS};
-ghost use Rattle.ct_decode.specs.Reading.{reading_of, AreRegisters, IsRead};
+ghost use Rattle.ct_decode.specs.Reading.{reading_of, slot_at, AreRegisters, IsRead};
 
 use crate::reading::{Reading, read};
 use def_refusals::NoMemory;
@@ -39,7 +39,8 @@ impl Model for Decoded {
 /// The slot of an address.
 #[inline(always)]
 fn slot_of(at: u32) -> usize
-    ensures { result < SLOTS }
+    ensures is { result ≡ slot_at at }
+    ensures small { result < SLOTS }
 {
     (at / 4) as usize % SLOTS
 }
@@ -63,47 +64,46 @@ impl Decoded {
         Ok(Decoded { rows, beside })
     }
 
-    /// What a word says comes into a slot, and what stood there beside it.
+    /// What the word at an address says comes into its slot, and what stood there beside it.
     ///
-    /// Each is written once, and no other slot: for speed alone, since a slot that holds another word is filled anew.
+    /// Each is written once, and no other slot: for speed alone, since a slot that holds another word is filled anew. The
+    /// slot is found again here, so that who calls it needn't keep its number.
     #[inline(never)]
-    fn fill(&mut self, slot: usize, word: u32)
-        requires { slot < SLOTS }
-        ensures { slice_index_or self.new slot (reading_of 0) ≡ reading_of word }
+    fn fill(&mut self, at: u32, word: u32)
+        ensures { slice_index_or self.new (slot_at at) (reading_of 0) ≡ reading_of word }
     {
+        let slot = slot_of(at);
         let reading = reading_beside(&self.beside[slot], word);
         self.beside[slot] = self.rows[slot];
         self.rows[slot] = reading;
     }
 
-    /// Whether a slot holds what this word says.
+    /// Whether the slot of an address holds what this word says.
     #[inline(always)]
-    fn holds(&self, slot: usize, word: u32) -> bool
-        requires { slot < SLOTS }
-        ensures { result ≡ true → slice_index_or self.now slot (reading_of 0) ≡ reading_of word }
+    fn holds(&self, at: u32, word: u32) -> bool
+        ensures { result ≡ true
+            → slice_index_or self.now (slot_at at) (reading_of 0) ≡ reading_of word }
     {
-        self.rows[slot].word == word
+        self.rows[slot_of(at)].word == word
     }
 
-    /// After it a slot holds what a word says.
+    /// After it the slot of an address holds what a word says.
     #[inline(always)]
-    fn keep(&mut self, slot: usize, word: u32)
-        requires { slot < SLOTS }
-        ensures { slice_index_or self.new slot (reading_of 0) ≡ reading_of word }
+    fn keep(&mut self, at: u32, word: u32)
+        ensures { slice_index_or self.new (slot_at at) (reading_of 0) ≡ reading_of word }
     {
-        if !self.holds(slot, word) {
-            self.fill(slot, word);
+        if !self.holds(at, word) {
+            self.fill(at, word);
         }
     }
 
-    /// The reading that a slot holds.
+    /// The reading that the slot of an address holds.
     #[inline(always)]
-    fn held(&self, slot: usize) -> &Reading
-        requires { slot < SLOTS }
-        ensures is { result.now ≡ slice_index_or self.now slot (reading_of 0) }
+    fn held(&self, at: u32) -> &Reading
+        ensures is { result.now ≡ slice_index_or self.now (slot_at at) (reading_of 0) }
         ensures registers { AreRegisters (operands_of result.now.instruction) }
     {
-        &self.rows[slot]
+        &self.rows[slot_of(at)]
     }
 
     /// What the word at an address says; a word that is no instruction's reads as the breakpoint. Where the address's
@@ -113,8 +113,7 @@ impl Decoded {
         ensures is { result.now ≡ reading_of word }
         ensures registers { AreRegisters (operands_of result.now.instruction) }
     {
-        let slot = slot_of(at);
-        self.keep(slot, word);
-        self.held(slot)
+        self.keep(at, word);
+        self.held(at)
     }
 }

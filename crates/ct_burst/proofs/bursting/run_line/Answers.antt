@@ -8,13 +8,21 @@ use Rattle.ct_burst.proofs.bursting.run_line.Goals as goal
 
 pub returns-in-Led-clause-goes : goal.returns-in-Led-clause-goes
 returns-in-Led-clause-goes g c fs =
-    further c.args.ram (c.args.most - c.loop-to_come.to_come) (running_thread c.args.row.now fs) (running_thread c.loop-to_come.row fs) (running_thread c.step.new.row fs) (g.M.Memory.granules c.args.mem.now)
-    (g.M.Memory.granules c.loop-to_come.mem) (g.M.Memory.granules c.step.new.mem) (c.loop-to_come.invariant.1 fs) (c.step.ensures.goes (ap went c.in-Led.is) fs)
+    let few = c.loop-to_come.invariant.0 in
+    let some = c.loop-to_come-test in
+    let next : (c.args.most - c.loop-to_come.to_come) + 1 ≡ c.args.most - (c.loop-to_come.to_come - 1) = omega (arith, few, some) in
+    subst (λ k. GoesFor c.args.ram k (running_thread c.args.row.now fs) (g.M.Memory.granules c.args.mem.now) (running_thread c.step.new.row fs) (g.M.Memory.granules c.step.new.mem)) next
+    (further c.args.ram (c.args.most - c.loop-to_come.to_come) (running_thread c.args.row.now fs) (running_thread c.loop-to_come.row fs) (running_thread c.step.new.row fs) (g.M.Memory.granules c.args.mem.now)
+    (g.M.Memory.granules c.loop-to_come.mem) (g.M.Memory.granules c.step.new.mem) (c.loop-to_come.invariant.1 fs) (c.step.ensures.goes (ap went c.in-Led.is) fs))
 
 pub returns-in-Turned-clause-goes : goal.returns-in-Turned-clause-goes
 returns-in-Turned-clause-goes g c fs =
-    further c.args.ram (c.args.most - c.loop-to_come.to_come) (running_thread c.args.row.now fs) (running_thread c.loop-to_come.row fs) (running_thread c.step.new.row fs) (g.M.Memory.granules c.args.mem.now)
-    (g.M.Memory.granules c.loop-to_come.mem) (g.M.Memory.granules c.step.new.mem) (c.loop-to_come.invariant.1 fs) (c.step.ensures.goes (ap went c.in-Turned.is) fs)
+    let few = c.loop-to_come.invariant.0 in
+    let some = c.loop-to_come-test in
+    let next : (c.args.most - c.loop-to_come.to_come) + 1 ≡ c.args.most - (c.loop-to_come.to_come - 1) = omega (arith, few, some) in
+    subst (λ k. GoesFor c.args.ram k (running_thread c.args.row.now fs) (g.M.Memory.granules c.args.mem.now) (running_thread c.step.new.row fs) (g.M.Memory.granules c.step.new.mem)) next
+    (further c.args.ram (c.args.most - c.loop-to_come.to_come) (running_thread c.args.row.now fs) (running_thread c.loop-to_come.row fs) (running_thread c.step.new.row fs) (g.M.Memory.granules c.args.mem.now)
+    (g.M.Memory.granules c.loop-to_come.mem) (g.M.Memory.granules c.step.new.mem) (c.loop-to_come.invariant.1 fs) (c.step.ensures.goes (ap went c.in-Turned.is) fs))
 
 pub loop-to_come-preserved : goal.loop-to_come-preserved
 loop-to_come-preserved g c =
