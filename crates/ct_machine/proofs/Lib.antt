@@ -8,6 +8,7 @@ pub mod Guards
 pub mod Keeping
 pub mod Onward
 pub mod Opened
+pub mod Picking
 pub mod Quietly
 pub mod Ready
 pub mod Resting

@@ -137,7 +137,7 @@ module _ (i : Image) (e new : Seen) (r : SchedRow) (k : DeviceStates) (pending :
       (came i i.entries e r k pending time c t kept refl new k ran (quietly_decided (decision i.entries e t k time) t e k new quiet) refl tt)
       (quietly_left n t (actor_of (thread (stood e) t).frames) ran refl)
 
-  still_posture : (thread (stood new) t).posture ≡ (thread (stood e) t).posture
+  pub still_posture : (thread (stood new) t).posture ≡ (thread (stood e) t).posture
   still_posture =
       posture_with new.threads r.statuses t
       ∙ same_posture (decision i.entries e t k time) t e k new quiet

@@ -29,7 +29,7 @@ idle_swept i s idle =
     ∙ ap (λ (b : Bool). let x : State = cond b (record s { objects = painted s.objects; front = Some 0 }) s in heap.sweep_on i x x.front) parts.1
     ∙ ap (λ (o : Option ℕ). heap.sweep_on i s o) parts.0
 
-idle_counts : (b : Platform) (s : State) → has_sweep s ≡ false → (happens b s Sweep).0 ≡ one_more_sweep s
+pub idle_counts : (b : Platform) (s : State) → has_sweep s ≡ false → (happens b s Sweep).0 ≡ one_more_sweep s
 idle_counts b s idle = idle_swept b.image (one_more_sweep s) idle
 
 abbrev pub with_silence : State → State × Happened

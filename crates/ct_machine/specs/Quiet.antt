@@ -1,12 +1,13 @@
 -- Rounds that tell nothing: slices of a sweep that has no work, each with a quiet step after it or with one of a
 -- dormant machine.
-use Rattle.std.specs.Prelude.{ℕ, ◌+◌, ◌≡◌, ◌<◌, ◌&&◌, ◌||◌, Bool, is_some, is_none, cond, Option, None}
+use Rattle.std.specs.Prelude.{ℕ, ◌+◌, ◌-◌, ◌≡◌, ◌<◌, ◌&&◌, ◌||◌, Bool, is_some, is_none, cond, Option, None}
+use Rattle.def_events.specs.Guarded.{Guarded}
 use Rattle.def_machine.specs.Objects.{has_quarantined}
 use Rattle.def_machine.specs.Platform.{MachineRow}
 use Rattle.def_machine.specs.State.{State, Counts, thread}
 use Rattle.def_machine.specs.Threads.{statuses_of}
 use Rattle.def_sched.specs.Picks.{pick}
-use Rattle.def_step.specs.Events.{end_of}
+use Rattle.def_step.specs.Events.{end_of, holder, run_on}
 use Rattle.ct_threads.specs.declared.window.Window.{Window}
 use Rattle.ct_threads.specs.Windows.{IsWindowOf}
 use Rattle.ct_machine.specs.Going.{silence}
@@ -56,3 +57,17 @@ pub record StaysAside (m n : MachineRow) : Type 0 where
 pub record WentRounds (m n : MachineRow) (count : ℕ) : Type 0 where
   pub ran : RanOn m n count silence
   pub going : 0 < count → end_of m.state ≡ None
+
+-- Where one instruction of the running thread that tells nothing leaves a machine guarded, whatever it leaves.
+pub record GuardsNext (m : MachineRow) : Type 0 where
+  pub each : (s : State) → (s, None) ≡ run_on m.board m.state → Guarded (record { board = m.board; state = s })
+
+-- The running thread of machine m, which holds no interrupts off, carried on by an instruction that told nothing, and
+-- rounds that told nothing followed, so many in all with it: they left machine n.
+pub record CarriedOn (m n : MachineRow) (count : ℕ) : Type 0 where
+  pub after : State
+  pub first : (after, None) ≡ run_on m.board m.state
+  pub on : holder after ≡ None
+  pub going : end_of after ≡ None
+  pub rest : WentRounds (record { board = m.board; state = after }) n (count - 1)
+  pub guarded : Guarded n

@@ -208,7 +208,7 @@ impl<M: Memory + Drop> Parts<M> {
     }
 
     /// The running thread carries on, by one instruction or native routine.
-    fn go_on(&mut self) -> Option<Deed>
+    pub(crate) fn go_on(&mut self) -> Option<Deed>
         requires may { MayGoOn self.old }
         requires deeds { deeds_of self.old.state.counts < self.old.state.counts.steps }
         requires made { self.old.state.next ≤ self.old.state.counts.steps }

@@ -1,13 +1,13 @@
 //! Steps that tell nothing: one, and many with slices of a sweep that has no work, of a thread or of none.
 
-ghost use Rattle.std.specs.Prelude.{◌≡◌, ◌+◌, ◌≤◌, Some, None, true, false};
+ghost use Rattle.std.specs.Prelude.{◌≡◌, ◌+◌, ◌-◌, ◌≤◌, ◌&&◌, not, is_none, Some, None, true, false};
 ghost use Rattle.def_profile.specs.declared.limits.TheConstants.{MOST_STEPS};
 ghost use Rattle.def_events.specs.Guarded.{Guarded};
 ghost use Rattle.def_machine.specs.State.{Counts};
 ghost use Rattle.def_step.specs.Events.{end_of, happens, one_more_step};
 ghost use Rattle.def_step.specs.declared.Event.TheVariants as event;
-ghost use Rattle.ct_machine.specs.Going.{silence};
-ghost use Rattle.ct_machine.specs.Quiet.{has_sweep, is_dormant, none_is_ready, undisturbed, with_counts, with_rounds, IsThreadWindow, StaysAside, WentRounds};
+ghost use Rattle.ct_machine.specs.Going.{silence, MayGoOn};
+ghost use Rattle.ct_machine.specs.Quiet.{has_sweep, is_dormant, none_is_ready, undisturbed, with_counts, with_rounds, CarriedOn, GuardsNext, IsThreadWindow, StaysAside, WentRounds};
 
 use crate::parts::Parts;
 use ct_mem::Memory;
@@ -81,6 +81,64 @@ impl<M: Memory + Drop> Parts<M> {
         let made = self.engine.burst(t, &mut self.decoded, &mut window, most);
         self.count_rounds(made);
         made
+    }
+
+    /// The running thread carries on by instructions that tell nothing, of which each but the first is one of a round
+    /// where no sweep has work, at most `most`: how many. None where it holds interrupts off, or where no thread runs.
+    ///
+    /// The step of the first counts before, and what comes before it.
+    pub(crate) fn run_picked(&mut self, most: u32) -> u32
+        requires may { MayGoOn self.old }
+        requires next { GuardsNext self.old }
+        requires idle { has_sweep self.old.state ≡ false }
+        requires pending { self.old.state.pending ≡ false }
+        requires some { 1 ≤ most }
+        requires steps { self.old.state.counts.steps + (most - 1) ≤ MOST_STEPS }
+        requires sweeps { self.old.state.counts.sweeps + (most - 1) ≤ MOST_STEPS }
+        ensures most { result ≤ most }
+        ensures carried { 1 ≤ result → CarriedOn self.old self.new result }
+        ensures same { result ≡ 0 → self.new.state ≡ self.old.state }
+        ensures board { self.new.board ≡ self.old.board }
+    {
+        match self.engine.running() {
+            Some(t) => self.run_on_quietly(t, most),
+            None => 0,
+        }
+    }
+
+    /// The same of the thread that runs.
+    fn run_on_quietly(&mut self, t: u32, most: u32) -> u32
+        requires may { MayGoOn self.old }
+        requires next { GuardsNext self.old }
+        requires idle { has_sweep self.old.state ≡ false }
+        requires pending { self.old.state.pending ≡ false }
+        requires runs { self.old.state.running ≡ Some t }
+        requires some { 1 ≤ most }
+        requires steps { self.old.state.counts.steps + (most - 1) ≤ MOST_STEPS }
+        requires sweeps { self.old.state.counts.sweeps + (most - 1) ≤ MOST_STEPS }
+        ensures most { result ≤ most }
+        ensures carried { 1 ≤ result → CarriedOn self.old self.new result }
+        ensures same { result ≡ 0 → self.new.state ≡ self.old.state }
+        ensures board { self.new.board ≡ self.old.board }
+    {
+        if self.engine.posture(t).off {
+            return 0;
+        }
+        let mut window = self.window(t);
+        let carried = self.engine.burst(t, &mut self.decoded, &mut window, most);
+        if carried == 0 {
+            return 0;
+        }
+        self.count_rounds(carried - 1);
+        carried
+    }
+
+    /// Whether no sweep has work, no tick is pending and no thread runs.
+    pub(crate) fn is_to_pick(&self) -> bool
+        ensures { result ≡ (not (has_sweep self.now.state) && not self.now.state.pending
+            && is_none self.now.state.running) }
+    {
+        !self.has_sweep() && !self.pending && self.engine.running().is_none()
     }
 
     /// Whether no thread is ready.

@@ -1,11 +1,12 @@
 //! Rounds, each a slice of a sweep and a step, one after another up to one that tells something.
 
-ghost use Rattle.std.specs.Prelude.{◌≡◌, ◌+◌, ◌≤◌, ◌<◌, ◌&&◌, ◌||◌, nat_lt, is_some, Some, true, false};
+ghost use Rattle.std.specs.Prelude.{◌≡◌, ◌+◌, ◌≤◌, ◌<◌, ◌&&◌, ◌||◌, nat_lt, is_some, None, Some, true, false};
 ghost use Rattle.def_profile.specs.declared.limits.TheConstants.{MOST_STEPS};
 ghost use Rattle.def_events.specs.Guarded.{Guarded};
 ghost use Rattle.def_step.specs.Events.{end_of};
 ghost use Rattle.ct_machine.specs.Going.{silence};
 ghost use Rattle.ct_machine.specs.Onward.{tells, RanOn};
+ghost use Rattle.ct_machine.specs.Quiet.{has_sweep};
 
 use crate::parts::Parts;
 use ct_entry::Happened;
@@ -97,6 +98,56 @@ impl<M: Memory + Drop> Parts<M> {
         silent(most)
     }
 
+    /// A round in which a thread is picked, where none runs, no tick is pending and no sweep has work; and where the
+    /// thread goes on quietly, more rounds of it, at most `most` in all.
+    fn picked_rounds(&mut self, most: u32) -> Rounds
+        requires guarded { Guarded self.old }
+        requires idle { has_sweep self.old.state ≡ false }
+        requires pending { self.old.state.pending ≡ false }
+        requires rests { self.old.state.running ≡ None }
+        requires some { 1 ≤ most }
+        requires steps { self.old.state.counts.steps + most ≤ MOST_STEPS }
+        requires sweeps { self.old.state.counts.sweeps + most ≤ MOST_STEPS }
+        ensures some { 1 ≤ result.count }
+        ensures most { result.count ≤ most }
+        ensures ran { RanOn self.old self.new result.count result.told }
+        ensures guarded { Guarded self.new }
+    {
+        self.count_sweep();
+        self.count_step();
+        self.schedule();
+        let made = self.run_picked(most);
+        if made > 0 {
+            return silent(made);
+        }
+        let deed = self.go_on();
+        let off = self.begun(None);
+        Rounds {
+            count: 1,
+            told: Happened { deed, off },
+        }
+    }
+
+    /// One round; and where a thread is picked in it that goes on quietly, more rounds of it, at most `most` in all.
+    fn next_rounds(&mut self, most: u32) -> Rounds
+        requires guarded { Guarded self.old }
+        requires some { 1 ≤ most }
+        requires steps { self.old.state.counts.steps + most ≤ MOST_STEPS }
+        requires sweeps { self.old.state.counts.sweeps + most ≤ MOST_STEPS }
+        ensures some { 1 ≤ result.count }
+        ensures most { result.count ≤ most }
+        ensures ran { RanOn self.old self.new result.count result.told }
+        ensures guarded { Guarded self.new }
+    {
+        if self.is_to_pick() {
+            return self.picked_rounds(most);
+        }
+        Rounds {
+            count: 1,
+            told: self.round(),
+        }
+    }
+
     /// Rounds up to one that isn't quiet, and that one: at least one, and at most `most`.
     fn rounds_and_one(&mut self, most: u32) -> Rounds
         requires guarded { Guarded self.old }
@@ -120,10 +171,10 @@ impl<M: Memory + Drop> Parts<M> {
         if self.is_over(count) {
             return silent(count);
         }
-        let told = self.round();
+        let more = self.next_rounds(most - count);
         Rounds {
-            count: count + 1,
-            told,
+            count: count + more.count,
+            told: more.told,
         }
     }
 
