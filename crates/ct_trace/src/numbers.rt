@@ -9,12 +9,16 @@ use itoa::Buffer;
 /// A line, or two. None is longer than 192 bytes.
 pub type Line = ArrayString<192>;
 
-/// A number in decimal digits.
+/// A number in decimal digits; one digit, as most of a line's numbers have, without a buffer.
 pub(crate) fn add_number(line: &mut Line, number: u32)
     requires { length line.old.bytes + 10 ≤ 192 }
     ensures bytes { line.new.bytes ≡ line.old.bytes ++ decimal number }
     ensures size { length line.new.bytes ≤ length line.old.bytes + 10 }
 {
+    if number < 10 {
+        line.push((b'0' + number as u8) as char);
+        return;
+    }
     let mut buffer = Buffer::new();
     line.push_str(buffer.format(number));
 }
