@@ -24,8 +24,8 @@ pub struct Shadow {
 /// The low 32 bits of `word` are the address, the high 32 the metadata (docs/use/capabilities.md).
 #[derive(Clone, Copy, Debug, PartialEq, Eq, Drop)]
 pub struct Cap {
-    pub tag: bool,
     pub word: u64,
+    pub tag: bool,
     pub shadow: Shadow,
 }
 
