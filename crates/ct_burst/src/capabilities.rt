@@ -14,7 +14,7 @@ ghost use Rattle.ct_burst.specs.Carrying.{CarriedAlone, IsHeld, HasOperands};
 use crate::going::{Quietly, put};
 use ct_areas::Thread;
 use ct_cap::{Live, turn};
-use ct_capstep::derived;
+use ct_capstep::{derived, upper_offset};
 use ct_decode::Reading;
 use ct_threads::{Window, read_ref};
 use def_instr::Instr;
@@ -50,6 +50,17 @@ fn place(register: &mut Live, x: &Live, address: u32)
     turn(register, address);
 }
 
+/// A register gets a capability at an address, which register 0 drops.
+#[inline(always)]
+fn put_at(registers: &mut [Live; 16], to: u32, x: &Live, address: u32)
+    requires to { to < 16 }
+    ensures { registers.new ≡ written registers.old to (with_address x.now address) }
+{
+    if to != 0 {
+        place(&mut registers[to as usize], x, address);
+    }
+}
+
 /// A register gets what another holds at an address, which register 0 drops.
 #[inline(always)]
 fn copy_at(registers: &mut [Live; 16], to: u32, first: u32, address: u32)
@@ -59,14 +70,12 @@ fn copy_at(registers: &mut [Live; 16], to: u32, first: u32, address: u32)
         ≡ written registers.old to (with_address (value_by registers.old first) address) }
 {
     let x = registers[first as usize];
-    if to != 0 {
-        place(&mut registers[to as usize], &x, address);
-    }
+    put_at(registers, to, &x, address);
 }
 
 /// A register gets what an instruction of capabilities gives, which register 0 drops.
 ///
-/// What `derived` says of the four that loops are full of is made where it belongs; the others' by value.
+/// What `derived` says of those that loops are full of is made where it belongs; the others' by value.
 #[tactic(auto, unfolding(def_capstep::specs::Results::capability_result))]
 #[inline(always)]
 fn give(
@@ -98,6 +107,14 @@ fn give(
         }
         Instr::CSetAddr { .. } => {
             let address = y.address();
+            copy_at(registers, to, first, address);
+        }
+        Instr::AuiPcc { immediate, .. } => {
+            let address = pcc.address().wrapping_add(upper_offset(immediate));
+            put_at(registers, to, pcc, address);
+        }
+        Instr::AuiCgp { immediate, .. } => {
+            let address = x.address().wrapping_add(upper_offset(immediate));
             copy_at(registers, to, first, address);
         }
         _ => {

@@ -158,15 +158,22 @@ fn link_by(row: &mut Thread, to: u32, offset: u32) -> bool
 }
 
 /// A row goes on through a register with its posture, and a register gets the link, which register 0 drops.
+///
+/// Where another register than the one that leads on gets the link, it gets it first: so nothing is kept aside.
 #[inline(always)]
 fn go_by_register(row: &mut Thread, to: u32, at: u32, immediate: u32)
     requires to { to < 16 }
     requires at { at < 16 }
     ensures { row.new ≡ row_through row.old to at immediate }
 {
-    let here = row.pcc;
-    go_through(&mut row.pcc, read_ref(&row.regs, at), immediate);
-    leave_link(&mut row.regs, to, &here, row.posture);
+    if to == at {
+        let here = row.pcc;
+        go_through(&mut row.pcc, read_ref(&row.regs, at), immediate);
+        leave_link(&mut row.regs, to, &here, row.posture);
+    } else {
+        leave_link(&mut row.regs, to, &row.pcc, row.posture);
+        go_through(&mut row.pcc, read_ref(&row.regs, at), immediate);
+    }
 }
 
 /// A jump by a register, where no check refuses it and the posture stays; else `false`, and nothing changes.

@@ -10,6 +10,7 @@ use crate::bounding::set_bounds_exact;
 use crate::counter::{raise, turn};
 use crate::live::{Live, made, with_seal};
 use crate::rights::{and_perms, narrowed};
+use crate::standing::open_in_place;
 use crate::words;
 use ct_perm::{Flags, Perms};
 use def_profile::rights::{ALL_RIGHTS, GL, LG, LM, SD};
@@ -63,12 +64,9 @@ fn passed(unsealed: bool, mutable: bool, globals: bool) -> u32
 pub fn open(l: Live) -> Live
     ensures { result ≡ opened l }
 {
-    let from = Shadow {
-        root: l.cap.shadow.root,
-        source: 0,
-    };
-    let tag = l.cap.tag;
-    with_seal(l, tag, 0, from)
+    let mut open = l;
+    open_in_place(&mut open);
+    open
 }
 
 /// A jump's link: the program counter capability after the instruction as a return sentry, of type 4

@@ -33,7 +33,8 @@ fn shadow_from(tag: bool, from: Shadow, source: u32) -> Shadow
     }
 }
 
-/// A capability gets this seal field and this source, where it stands. Condition: the field is below 8.
+/// A capability gets this seal field and this source, where it stands; an untagged one comes from nowhere after it: its
+/// shadow is 0. Condition: the field is below 8.
 #[inline(always)]
 pub fn seal_in_place(l: &mut Live, field: u32, source: u32)
     requires { field < 8 }

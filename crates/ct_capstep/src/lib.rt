@@ -13,7 +13,7 @@ ghost use Rattle.def_words.specs.Traps.{capability_trap};
 ghost use Rattle.def_instr.specs.Shapes.{is_capability, is_system};
 ghost use Rattle.def_capstep.specs.Results.{capability_result};
 
-use crate::numbers::{base, high, length, mask, rounded, top, upper_offset, with_high};
+use crate::numbers::{base, high, length, mask, rounded, top, with_high};
 use ct_cap::{
     Live, add_address, and_perms, clear_tag, same, seal, set_bounds, set_bounds_exact, subset,
     turn, unseal,
@@ -21,6 +21,7 @@ use ct_cap::{
 use def_instr::Instr;
 use def_profile::traps::{PCC_REGISTER, SYSTEM_REGISTER_CODE};
 use def_words::Trap;
+pub use numbers::upper_offset;
 
 /// The result of a capability instruction in rd, from the capabilities x of rs1 and y of rs2 and the
 /// program counter capability.

@@ -18,7 +18,7 @@ pub(crate) fn with_high(l: Live, high: u32) -> Live
 }
 
 /// 2048 times a signed number of 20 bits, modulo 2^32.
-pub(crate) fn upper_offset(n: u32) -> u32
+pub fn upper_offset(n: u32) -> u32
     ensures { result ≡ upper_offset n }
 {
     (extended_wide(20, n) * 2048 % (1 << 32)) as u32

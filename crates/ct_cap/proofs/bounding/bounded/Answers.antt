@@ -1,5 +1,5 @@
 use Rattle.std.proofs.Common.{ℕ, ◌<◌, ◌^◌, ◌≡◌, ◌∙◌, ap, arith, sym}
-use Rattle.def_words.specs.Authority.{cap_address, cap_high, permission_bits, seal_field, word_of}
+use Rattle.def_words.specs.Authority.{cap_high, permission_bits, seal_field, word_of}
 use Rattle.def_words.specs.Capability.{with_fields}
 use Rattle.law_words.proofs.Words.{address_small, bounds_is, perms_same, seal_same}
 use Rattle.ct_cap.proofs.bounding.bounded.Goals as goal
