@@ -43,10 +43,11 @@ heap_stays gs hs rows holds same k is = same k (heap_hidden gs rows k holds is)
 
 pub away_holds : (gs hs : List Granule) (rows : Rows) → IsEngine gs rows → length hs ≡ length gs → HiddenStays gs hs rows → IsEngine hs rows
 away_holds gs hs rows holds size same = record {
-  areas = areas_same rows.region.ram gs hs rows.standing rows.standing 0 rows.region.trusted rows.region.end rows.list.items holds.areas size
+  areas = areas_same rows.region.ram gs hs rows.standing.items rows.standing.items 0 rows.region.trusted rows.region.end rows.list.items holds.areas size
       (λ m lo hi. same m (region_hidden gs rows m (hidden_is rows.region m lo hi))) (λ u lo. refl);
   runs = holds.runs;
-  stands = holds.stands;
+  each = holds.each;
+  settled = holds.settled;
   stacks = subst (λ n. Each (StackLies rows.region rows.heap.range.base (8 * n)) (map (λ (t : row.Thread). t.area) rows.list.items)) (sym size) holds.stacks;
   heap = heap_holds gs hs rows.region rows.heap rows.front holds.heap size (heap_stays gs hs rows holds same);
   room = holds.room;
@@ -56,11 +57,11 @@ pub away_seen : (gs hs : List Granule) (rows : Rows) → IsEngine gs rows → le
 away_seen gs hs rows holds size same =
     let objects : objects_of rows.heap hs ≡ objects_of rows.heap gs =
     (heap_keeps gs hs rows.region rows.heap rows.front holds.heap size (heap_stays gs hs rows holds same)).objects in
-    let threads : threads_of hs rows.standing 0 rows.list.items ≡ threads_of gs rows.standing 0 rows.list.items =
-    threads_same rows.region.ram gs hs rows.standing rows.standing 0 rows.region.trusted rows.region.end rows.list.items holds.areas
+    let threads : threads_of hs rows.standing.items 0 rows.list.items ≡ threads_of gs rows.standing.items 0 rows.list.items =
+    threads_same rows.region.ram gs hs rows.standing.items rows.standing.items 0 rows.region.trusted rows.region.end rows.list.items holds.areas
     (λ m lo hi. same m (region_hidden gs rows m (hidden_is rows.region m lo hi))) (λ u lo. refl) in
-    ap (λ (os : List Object). seen_by os rows hs rows.list.items rows.standing rows.running) objects
-    ∙ ap (λ (ts : List Thread). let s : Seen = record (seen_by (objects_of rows.heap gs) rows hs rows.list.items rows.standing rows.running) { threads = ts } in s) threads
+    ap (λ (os : List Object). seen_by os rows hs rows.list.items rows.standing.items rows.running) objects
+    ∙ ap (λ (ts : List Thread). let s : Seen = record (seen_by (objects_of rows.heap gs) rows hs rows.list.items rows.standing.items rows.running) { threads = ts } in s) threads
 
 pub apart : (h : ℕ → Bool) (k m : ℕ) → h m ≡ false → h k ≡ true → k ≡ m → ⊥
 apart h k m open_ hidden e = let clash : true ≡ false = sym hidden ∙ ap (λ n. h n) e ∙ open_ in cc
@@ -83,7 +84,7 @@ load_is gs rows v at width is open_ =
 -- ---- how many there are
 
 pub count_is : (gs : List Granule) (rows : Rows) (v : Seen) → engine_view gs rows ≡ v → length rows.list.items ≡ length v.threads
-count_is gs rows v is = sym (how_many gs rows.standing 0 rows.list.items) ∙ ap (λ (s : Seen). length s.threads) is
+count_is gs rows v is = sym (how_many gs rows.standing.items 0 rows.list.items) ∙ ap (λ (s : Seen). length s.threads) is
 
 past_end : (ts : List Thread) (t : ℕ) → length ts ≤ t → get_or ts t nobody ≡ nobody
 past_end [] t le = refl

@@ -1,5 +1,5 @@
 -- Threads that start one after another.
-use Rattle.std.proofs.Common.{ℕ, zero, suc, ◌≡◌, ◌+◌, ◌*◌, ◌<◌, ◌≤◌, inl, inr, true, false, List, [], ◌∷◌, ◌++◌, length, map, take, drop, Option, None, refl, sym, ap, ◌∙◌, arith, subst}
+use Rattle.std.proofs.Common.{ℕ, zero, suc, ◌≡◌, ◌+◌, ◌*◌, ◌<◌, ◌≤◌, inl, inr, true, false, List, [], ◌∷◌, ◌++◌, length, map, take, drop, Bool, refl, sym, ap, ◌∙◌, arith, subst}
 use Rattle.std.proofs.Math.ListN.{get_or}
 use Rattle.std.proofs.lemmas.List.{drop_all, take_all, map_push}
 use Rattle.law_lists.proofs.Tests.{lt_tells}
@@ -27,7 +27,7 @@ use Rattle.ct_engine.proofs.Whole.{hidden_is}
 -- ---- one more after others
 
 threads_last : (gs : List Granule) (n : ℕ) (ts : List row.Thread) (t : row.Thread)
-    → threads_of gs None n (ts ++ t ∷ []) ≡ threads_of gs None n ts ++ thread_of gs false t ∷ []
+    → threads_of gs [] n (ts ++ t ∷ []) ≡ threads_of gs [] n ts ++ thread_of gs false t ∷ []
 threads_last gs n [] t = refl
 threads_last gs n (u ∷ us) t = ap (λ xs. thread_of gs false u ∷ xs) (threads_last gs (n + 1) us t)
 
@@ -40,16 +40,16 @@ no_plain ram gs from = λ k lo hi. absurd (omega (arith, lo, hi))
 plain_both : (ram : ℕ) (gs : List Granule) (from mid to : ℕ) → ArePlain ram gs from mid → ArePlain ram gs mid to → ArePlain ram gs from to
 plain_both ram gs from mid to first second = λ k lo hi. elim (lt_tells (ram + 8 * k) mid) [ inl a ↦ first k lo a.1 | inr a ↦ second k a.1 hi ]
 
-areas_last : (ram : ℕ) (gs : List Granule) (n from to : ℕ) (ts : List row.Thread) (t : row.Thread) → AreasFrom ram gs None n from to ts
+areas_last : (ram : ℕ) (gs : List Granule) (n from to : ℕ) (ts : List row.Thread) (t : row.Thread) → AreasFrom ram gs [] n from to ts
     → to ≤ t.area.trusted → t.area.ram ≡ ram → IsKept gs false t → ArePlain ram gs to t.area.trusted
-    → AreasFrom ram gs None n from (t.area.trusted + t.area.trusted_length) (ts ++ t ∷ [])
+    → AreasFrom ram gs [] n from (t.area.trusted + t.area.trusted_length) (ts ++ t ∷ [])
 areas_last ram gs n from to [] t h above base kept between =
     let low = h.0 in
     (omega (arith, low, above), base, kept, (omega arith, no_plain ram gs (t.area.trusted + t.area.trusted_length)), plain_both ram gs from to t.area.trusted h.1 between)
 areas_last ram gs n from to (u ∷ us) t h above base kept between =
     (h.0, h.1, h.2, areas_last ram gs (n + 1) (u.area.trusted + u.area.trusted_length) to us t h.3 above base kept between, h.4)
 
-areas_more : (ram : ℕ) (gs : List Granule) (run : Option ℕ) (n from to more : ℕ) (ts : List row.Thread) → to ≤ more → ArePlain ram gs to more
+areas_more : (ram : ℕ) (gs : List Granule) (run : List Bool) (n from to more : ℕ) (ts : List row.Thread) → to ≤ more → ArePlain ram gs to more
     → AreasFrom ram gs run n from to ts → AreasFrom ram gs run n from more ts
 areas_more ram gs run n from to more [] le past h = (let low = h.0 in omega (arith, low, le), plain_both ram gs from to more h.1 past)
 areas_more ram gs run n from to more (t ∷ ts) le past h =
@@ -75,9 +75,9 @@ end_last from (g ∷ gs) f = end_last (g.area.trusted + g.area.trusted_length) g
 pub record Begun (g : Region) (was gs : List Granule) (ts : List row.Thread) (done todo : List Fresh) : Type 0 where
   pub size : length gs ≡ length was
   pub memory : with_hidden (region_hides g) gs ≡ with_hidden (region_hides g) was
-  pub threads : threads_of gs None 0 ts ≡ map (λ f. first_of f) done
+  pub threads : threads_of gs [] 0 ts ≡ map (λ f. first_of f) done
   pub places : map (λ (t : row.Thread). t.area) ts ≡ map (λ (f : Fresh). f.area) done
-  pub areas : AreasFrom g.ram gs None 0 g.trusted (end_of g.trusted done) ts
+  pub areas : AreasFrom g.ram gs [] 0 g.trusted (end_of g.trusted done) ts
   pub clear : (k : ℕ) → end_of g.trusted done ≤ g.ram + 8 * k → g.ram + 8 * k < g.end → cap_in gs k ≡ plain 0
   pub rest : AreFresh g.ram (8 * length was) (end_of g.trusted done) g.end todo
 
@@ -117,17 +117,17 @@ begun_next g was gs hs ts t done todo f b touches kept place same =
     let base = b.rest.1 in
     let has : HasArea (8 * length was) f.area = b.rest.2.area in
     let high = fresh_ends g.ram (8 * length was) (f.area.trusted + f.area.trusted_length) g.end todo b.rest.3 in
-    let from = ends g.ram gs None 0 g.trusted (end_of g.trusted done) ts b.areas in
+    let from = ends g.ram gs [] 0 g.trusted (end_of g.trusted done) ts b.areas in
     let end : end_of g.trusted (done ++ f ∷ []) ≡ f.area.trusted + f.area.trusted_length = end_last g.trusted done f in
     let before : Same g.ram gs hs g.trusted (end_of g.trusted done) =
     λ m lo hi. outside (8 * length was) f.area gs hs m has touches (inl (omega (arith, hi, low, base))) in
-    let threads : threads_of hs None 0 ts ≡ threads_of gs None 0 ts =
-    threads_same g.ram gs hs None None 0 g.trusted (end_of g.trusted done) ts b.areas before (λ u lo. refl) in
-    let areas : AreasFrom g.ram hs None 0 g.trusted (end_of g.trusted done) ts =
-    areas_same g.ram gs hs None None 0 g.trusted (end_of g.trusted done) ts b.areas touches.size before (λ u lo. refl) in
+    let threads : threads_of hs [] 0 ts ≡ threads_of gs [] 0 ts =
+    threads_same g.ram gs hs [] [] 0 g.trusted (end_of g.trusted done) ts b.areas before (λ u lo. refl) in
+    let areas : AreasFrom g.ram hs [] 0 g.trusted (end_of g.trusted done) ts =
+    areas_same g.ram gs hs [] [] 0 g.trusted (end_of g.trusted done) ts b.areas touches.size before (λ u lo. refl) in
     let between : ArePlain g.ram hs (end_of g.trusted done) f.area.trusted =
     λ m lo hi. plain_zero (cap_in hs m) (outside (8 * length was) f.area gs hs m has touches (inl (omega (arith, hi, base))) ∙ b.clear m lo (omega (arith, hi, high))) in
-    let last : AreasFrom g.ram hs None 0 g.trusted (t.area.trusted + t.area.trusted_length) (ts ++ t ∷ []) =
+    let last : AreasFrom g.ram hs [] 0 g.trusted (t.area.trusted + t.area.trusted_length) (ts ++ t ∷ []) =
     areas_last g.ram hs 0 g.trusted (end_of g.trusted done) ts t areas (rw place low) (rw place base) kept
     (subst (λ (a : Area). ArePlain g.ram hs (end_of g.trusted done) a.trusted) (sym place) between) in
     let to : t.area.trusted + t.area.trusted_length ≡ end_of g.trusted (done ++ f ∷ []) = ap (λ (a : Area). a.trusted + a.trusted_length) place ∙ sym end in
@@ -143,7 +143,7 @@ begun_next g was gs hs ts t done todo f b touches kept place same =
           ∙ ap (λ x. map (λ u. first_of u) done ++ x ∷ []) same ∙ sym (map_push (λ u. first_of u) done f);
       places = map_push (λ (u : row.Thread). u.area) ts t ∙ ap (λ xs. xs ++ t.area ∷ []) b.places
           ∙ ap (λ a. map (λ (u : Fresh). u.area) done ++ a ∷ []) place ∙ sym (map_push (λ (u : Fresh). u.area) done f);
-      areas = subst (λ n. AreasFrom g.ram hs None 0 g.trusted n (ts ++ t ∷ [])) to last;
+      areas = subst (λ n. AreasFrom g.ram hs [] 0 g.trusted n (ts ++ t ∷ [])) to last;
       clear = λ k lo hi. (let after : f.area.trusted + f.area.trusted_length ≤ g.ram + 8 * k = subst (λ n. n ≤ g.ram + 8 * k) end lo in
           outside (8 * length was) f.area gs hs k has touches (inr (omega (arith, after, base)))
           ∙ b.clear k (omega (arith, after, low)) hi);
@@ -195,5 +195,5 @@ have_begun g was gs ts fs i b le =
       memory = all.memory;
       threads = all.threads;
       places = all.places;
-      areas = areas_more g.ram gs None 0 g.trusted (end_of g.trusted fs) g.end ts all.rest (λ k lo hi. plain_zero (cap_in gs k) (all.clear k lo hi)) all.areas;
+      areas = areas_more g.ram gs [] 0 g.trusted (end_of g.trusted fs) g.end ts all.rest (λ k lo hi. plain_zero (cap_in gs k) (all.clear k lo hi)) all.areas;
     }

@@ -1,7 +1,7 @@
 -- Instructions on the running thread's row and on memory, one after another, are the ones of what is seen.
 use Rattle.std.proofs.Common.{ℕ, zero, suc, ◌*◌, ◌≡◌, ◌≤◌, ◌<◌, true, List, [], length, map, Some, refl, sym, ap, ◌∙◌, subst, arith}
 use Rattle.std.proofs.Math.ListN.{get_or, set}
-use Rattle.std.proofs.lemmas.List.{length-set, get_or-set_same, set-set}
+use Rattle.std.proofs.lemmas.List.{get_or-set_same, set-set}
 use Rattle.std.specs.Vec.{with_item}
 use Rattle.def_memory.specs.declared.Granule.{Granule}
 use Rattle.def_machine.specs.State.{Frame, Thread, nobody, register}
@@ -22,7 +22,7 @@ use Rattle.ct_engine.proofs.Lists.{how_many}
 use Rattle.ct_engine.proofs.Outcomes.{once_gone, once_seen, once_size, once_stays, Gone, Sees}
 use Rattle.ct_engine.proofs.Reaching.{fetch_seen, register_seen}
 use Rattle.ct_engine.proofs.Stacks.{stacks_turn}
-use Rattle.ct_engine.proofs.Whole.{set_self}
+use Rattle.ct_engine.proofs.Whole.{set_self, the_runner, each_same}
 
 -- a row while its thread is w
 abbrev pub row_of : row.Thread → Thread → row.Thread
@@ -84,8 +84,9 @@ went_holds gs rows t r w hs g =
     record {
       areas = jump_areas hs rows t r (row_of r w) j.pcc r.posture j.to j.value over g.runs g.is (row_is gs rows t r w hs g j);
       runs = over.runs;
-      stands = λ u e. (let lt = over.stands u e in let size = length-set rows.list.items t (row_of r w) in omega (arith, lt, size));
-      stacks = stacks_turn hs hs rows t r (row_of r w) over (over.stands t (over.runs t g.runs)) g.is refl refl;
+      each = each_same over t (row_of r w);
+      settled = over.settled;
+      stacks = stacks_turn hs hs rows t r (row_of r w) over (the_runner over t g.runs) g.is refl refl;
       heap = over.heap;
       room = over.room;
     }
@@ -110,7 +111,7 @@ went_once gs rows t r w hs g = record {
 
 went_thread : (gs : List Granule) (rows : Rows) (t : ℕ) (r : row.Thread) (w : Thread) (hs : List Granule) → Going gs rows t r w hs → thread (engine_view hs (put_row rows t (row_of r w))) t ≡ w
 went_thread gs rows t r w hs g =
-    let lt : t < length (engine_view gs rows).threads = (let there = g.holds.stands t (g.holds.runs t g.runs) in let many = how_many gs rows.standing 0 rows.list.items in omega (arith, there, many)) in
+    let lt : t < length (engine_view gs rows).threads = (let there = the_runner g.holds t g.runs in let many = how_many gs rows.standing.items 0 rows.list.items in omega (arith, there, many)) in
     ap (λ (s : Seen). thread s t) (went_view gs rows t r w hs g) ∙ get_or-set_same (engine_view gs rows).threads t w nobody lt
 
 -- ---- one after another
@@ -131,12 +132,13 @@ pub record Stands (s : Seen) (t n : ℕ) (w : Thread) (hs : List Granule) (rows 
 -- rows count by their items
 stands_by : (s : Seen) (t n : ℕ) (w : Thread) (hs : List Granule) (rows a b : Rows) → a.list.items ≡ b.list.items → Stands s t n w hs (record rows { list = a.list }) → Stands s t n w hs (record rows { list = b.list })
 stands_by s t n w hs rows a b same h =
-    let view : engine_view hs (record rows { list = a.list }) ≡ engine_view hs (record rows { list = b.list }) = ap (λ (qs : List row.Thread). seen_of hs rows qs rows.standing rows.running) same in
+    let view : engine_view hs (record rows { list = a.list }) ≡ engine_view hs (record rows { list = b.list }) = ap (λ (qs : List row.Thread). seen_of hs rows qs rows.standing.items rows.running) same in
     record {
       holds = record {
-        areas = subst (λ (qs : List row.Thread). AreasFrom rows.region.ram hs rows.standing 0 rows.region.trusted rows.region.end qs) same h.holds.areas;
+        areas = subst (λ (qs : List row.Thread). AreasFrom rows.region.ram hs rows.standing.items 0 rows.region.trusted rows.region.end qs) same h.holds.areas;
         runs = h.holds.runs;
-        stands = λ u e. subst (λ (qs : List row.Thread). u < length qs) same (h.holds.stands u e);
+        each = h.holds.each ∙ ap (λ (qs : List row.Thread). length qs) same;
+        settled = h.holds.settled;
         stacks = subst (λ (qs : List row.Thread). Each (StackLies rows.region rows.heap.range.base (8 * length hs)) (map (λ (q : row.Thread). q.area) qs)) same h.holds.stacks;
         heap = h.holds.heap;
         room = h.holds.room;
@@ -164,7 +166,7 @@ burst_stands gs rows t r most (suc n) w hs b few g =
     let step : Going between there t (row_of r mid) w hs = record {
       holds = before.holds;
       runs = b.runs;
-      is = sym (get_or-set_same rows.list.items t (row_of r mid) (row_of r mid) (b.holds.stands t (b.holds.runs t b.runs)));
+      is = sym (get_or-set_same rows.list.items t (row_of r mid) (row_of r mid) (the_runner b.holds t b.runs));
       opened = b.opened n (engine_view between there) (omega (arith, few)) before.goes;
       goes = subst (λ (u : Thread). raw.GoesOnce rows.region.ram u between w hs) (sym before.is) g.3;
     } in

@@ -1,8 +1,8 @@
 -- The running thread's row changes, and goes on or ends.
-use Rattle.std.proofs.Common.{ℕ, zero, suc, ◌≡◌, ◌<◌, Bool, true, false, cond, List, [], ◌∷◌, length, map, Option, Some, None, refl, sym, ap, ◌∙◌, arith, subst}
+use Rattle.std.proofs.Common.{ℕ, zero, suc, ◌≡◌, ◌<◌, inl, inr, Bool, true, false, cond, List, [], ◌∷◌, length, map, Option, Some, None, refl, sym, ap, ◌∙◌, arith, subst}
 use Rattle.std.proofs.Math.ListN.{get_or, set}
+use Rattle.std.proofs.lemmas.Bool.{cases_eq}
 use Rattle.def_memory.specs.declared.Granule.{Granule}
-use Rattle.def_machine.specs.Slices.{is_number}
 use Rattle.def_areas.specs.Touches.{Touches}
 use Rattle.ct_areas.specs.declared.thread.Area.{Area}
 use Rattle.ct_areas.specs.declared.thread.Thread as row
@@ -11,8 +11,8 @@ use Rattle.ct_threads.specs.Kept.{IsKept}
 use Rattle.ct_engine.specs.declared.rows.Rows.{Rows}
 use Rattle.ct_engine.specs.Kept.{AreasFrom, IsEngine}
 use Rattle.ct_engine.proofs.Lists.{OthersRun}
-use Rattle.ct_engine.proofs.Whole.{other, runs_it, areas_turn, some_is, none_is}
-use Rattle.law_moves.proofs.Slices.{is_itself}
+use Rattle.ct_engine.specs.Seen.{stands}
+use Rattle.ct_engine.proofs.Whole.{the_runner, areas_turn, some_is, none_is, there_in, set_stands, others_stand}
 
 pub area_of_row : (ts : List row.Thread) (t : ℕ) (d : Area) (r : row.Thread) → t < length ts → get_or (map (λ (u : row.Thread). u.area) ts) t d ≡ (get_or ts t r).area
 area_of_row [] t d r lt = absurd (omega (arith, lt))
@@ -21,26 +21,32 @@ area_of_row (u ∷ us) (suc t) d r lt = area_of_row us t d r (omega (arith, lt))
 
 -- ---- the running thread goes on
 
-pub stays_on : (run : Option ℕ) (t : ℕ) → OthersRun run run t
+pub stays_on : (run : List Bool) (t : ℕ) → OthersRun run run t
 stays_on run t = λ u no_. refl
 
 pub call_areas : (gs hs : List Granule) (rows : Rows) (t : ℕ) (r q : row.Thread) → IsEngine gs rows → rows.running ≡ Some t → r ≡ get_or rows.list.items t r
     → Touches (area_begin r.area) (area_end r.area) gs hs → q.area ≡ r.area → IsKept hs true q
-    → AreasFrom rows.region.ram hs rows.standing 0 rows.region.trusted rows.region.end (set rows.list.items t q)
+    → AreasFrom rows.region.ram hs rows.standing.items 0 rows.region.trusted rows.region.end (set rows.list.items t q)
 call_areas gs hs rows t r q holds runs is touches place kept =
-    areas_turn rows.region gs hs rows.list.items rows.standing rows.standing t r q holds.areas (holds.stands t (holds.runs t runs)) is touches (stays_on rows.standing t) place
-    (subst (λ b. IsKept hs b q) (sym (runs_it rows t (holds.runs t runs))) kept)
+    areas_turn rows.region gs hs rows.list.items rows.standing.items rows.standing.items t r q holds.areas (the_runner holds t runs) is touches (stays_on rows.standing.items t) place
+    (subst (λ b. IsKept hs b q) (sym (holds.runs t runs)) kept)
 
 -- ---- the running thread goes on or ends
 
-pub number_is : (more : Bool) (t : ℕ) → is_number (cond more (Some t) None) t ≡ more
-number_is true t = is_itself t
-number_is false t = refl
+pub number_is : {gs : List Granule} {rows : Rows} → IsEngine gs rows → (t : ℕ) (more : Bool) → rows.running ≡ Some t → stands (set rows.standing.items t more) t ≡ more
+number_is {gs} {rows} holds t more runs = set_stands rows.standing.items t more (there_in holds t (the_runner holds t runs))
 
-pub goes_or_ends : (run : Option ℕ) (t : ℕ) (more : Bool) → run ≡ Some t → OthersRun run (cond more (Some t) None) t
-goes_or_ends run t true runs = λ u no_. other t u no_ ∙ sym (ap (λ o. is_number o u) runs ∙ other t u no_)
-goes_or_ends run t false runs = λ u no_. sym (ap (λ o. is_number o u) runs ∙ other t u no_)
+pub end_runs : {gs : List Granule} {rows : Rows} → IsEngine gs rows → (t : ℕ) (more : Bool) → rows.running ≡ Some t
+    → (u : ℕ) → (let o : Option ℕ = cond more (Some t) None in o) ≡ Some u → stands (set rows.standing.items t more) u ≡ true
+end_runs {gs} {rows} holds t true runs u e = subst (λ n. stands (set rows.standing.items t true) n ≡ true) (some_is t u e) (number_is holds t true runs)
+end_runs holds t false runs u e = none_is u e
 
-pub runs_in : (more : Bool) (t u : ℕ) (n : ℕ) → (let o : Option ℕ = cond more (Some t) None in o) ≡ Some u → t < n → u < n
-runs_in true t u n e lt = subst (λ m. m < n) (some_is t u e) lt
-runs_in false t u n e lt = none_is u e
+pub end_settled : {gs : List Granule} {rows : Rows} → IsEngine gs rows → (t : ℕ) (more : Bool) → rows.running ≡ Some t → rows.loose ≡ false
+    → (u : ℕ) → stands (set rows.standing.items t more) u ≡ true → (let o : Option ℕ = cond more (Some t) None in o) ≡ Some u
+end_settled {gs} {rows} holds t more runs tight u stood = elim (cases_eq u t) [
+  | inl e ↦ goes_on more (sym (number_is holds t more runs) ∙ ap (λ n. stands (set rows.standing.items t more) n) (sym e) ∙ stood) ∙ ap (λ n. let o : Option ℕ = Some n in o) (sym e)
+  | inr no_ ↦ absurd (no_ (sym (some_is t u (sym runs ∙ holds.settled tight u (sym (others_stand rows.standing.items t more u no_) ∙ stood)))))
+]
+  where
+    goes_on : (b : Bool) → b ≡ true → (let o : Option ℕ = cond b (Some t) None in o) ≡ Some t
+    goes_on b on = rw on refl

@@ -31,7 +31,7 @@ use Rattle.ct_engine.specs.declared.rows.Rows.{Rows}
 use Rattle.ct_engine.specs.Seen.{Seen, hidden, seen_of, engine_view, thread, area_at}
 use Rattle.ct_engine.specs.Kept.{AreasFrom, HeapHolds, IsEngine}
 use Rattle.ct_engine.specs.Calls.{HeadStands, IsEnterable, MayCall, head_at, switch_at, given_at, switched, after_call}
-use Rattle.ct_engine.proofs.Whole.{runs_it, running_kept, set_self, seen_turn}
+use Rattle.ct_engine.proofs.Whole.{running_kept, set_self, seen_turn, the_runner}
 use Rattle.ct_engine.proofs.Ends.{stays_on, call_areas}
 use Rattle.ct_engine.proofs.Goes.{running_is}
 use Rattle.ct_engine.proofs.Stacks.{running_area, running_thread, running_top, ready_is}
@@ -134,36 +134,36 @@ high_fits gs rows t r e export high holds runs is may enters =
 -- nothing
 pub same_seen : (gs hs : List Granule) (rows : Rows) (t : ℕ) (r q : row.Thread) → IsEngine gs rows → rows.running ≡ Some t → r ≡ get_or rows.list.items t r
     → Touches (area_begin r.area) (area_end r.area) gs hs → q.area ≡ r.area → thread_of hs true q ≡ thread_of gs true r
-    → seen_of hs rows (set rows.list.items t q) rows.standing rows.running ≡ engine_view gs rows
+    → seen_of hs rows (set rows.list.items t q) rows.standing.items rows.running ≡ engine_view gs rows
 same_seen gs hs rows t r q holds runs is touches place same =
-    seen_turn rows gs hs rows.list.items rows.standing rows.standing rows.running t r q (thread (engine_view gs rows) t) holds.areas holds.heap (holds.stands t (holds.runs t runs)) is touches (stays_on rows.standing t) place
-    (subst (λ b. thread_of hs b q ≡ thread (engine_view gs rows) t) (sym (runs_it rows t (holds.runs t runs))) (same ∙ sym (running_thread gs rows t r holds runs is)))
+    seen_turn rows gs hs rows.list.items rows.standing.items rows.standing.items rows.running t r q (thread (engine_view gs rows) t) holds.areas holds.heap (the_runner holds t runs) is touches (stays_on rows.standing.items t) place
+    (subst (λ b. thread_of hs b q ≡ thread (engine_view gs rows) t) (sym (holds.runs t runs)) (same ∙ sym (running_thread gs rows t r holds runs is)))
     ∙ ap (λ (xs : List Thread). let s : Seen = record (engine_view gs rows) { threads = xs } in s) (set_self (engine_view gs rows).threads t nobody)
 
 pub call_sees : (gs hs : List Granule) (rows : Rows) (t : ℕ) (r q : row.Thread) (e : Listed) → IsEngine gs rows → rows.running ≡ Some t → r ≡ get_or rows.list.items t r
     → MayCall (engine_view gs rows) t e → (w : Switched) → switch_in gs e r ≡ w → Touches (area_begin r.area) (area_end r.area) (cleared gs r w) hs → q.area ≡ r.area
     → thread_of hs true q ≡ thread_after gs e r w
-    → seen_of hs rows (set rows.list.items t q) rows.standing rows.running ≡ after_call (engine_view gs rows) e t w
+    → seen_of hs rows (set rows.list.items t q) rows.standing.items rows.running ≡ after_call (engine_view gs rows) e t w
 call_sees gs hs rows t r q e holds runs is may (Trapped why) w touches place same = same_seen gs hs rows t r q holds runs is touches place same
 call_sees gs hs rows t r q e holds runs is may TooDeep w touches place same = same_seen gs hs rows t r q holds runs is touches place same
 call_sees gs hs rows t r q e holds runs is may NoStack w touches place same = same_seen gs hs rows t r q holds runs is touches place same
 call_sees gs hs rows t r q e holds runs is may (Enters export high) w touches place same =
     let callee : ℕ = callee_of e export in
-    switched_seen gs hs rows t r q high rows.standing rows.running (thread_after gs e r (Enters export high)) holds runs is (high_fits gs rows t r e export high holds runs is may w)
-    touches (stays_on rows.standing t) place (subst (λ b. thread_of hs b q ≡ thread_after gs e r (Enters export high)) (sym (runs_it rows t (holds.runs t runs))) same)
+    switched_seen gs hs rows t r q high rows.standing.items rows.running (thread_after gs e r (Enters export high)) holds runs is (high_fits gs rows t r e export high holds runs is may w)
+    touches (stays_on rows.standing.items t) place (subst (λ b. thread_of hs b q ≡ thread_after gs e r (Enters export high)) (sym (holds.runs t runs)) same)
     ∙ ap (λ u. switched (engine_view gs rows) t high (entered_by e u callee export high (given_in gs e r export high)) rows.running) (sym (running_thread gs rows t r holds runs is))
     ∙ ap (λ g. switched (engine_view gs rows) t high (entered_by e (thread (engine_view gs rows) t) callee export high g) rows.running)
     (given_is gs rows t r e export high holds runs is (open_is gs rows t r e export high holds runs is may w))
 
 pub call_areas_by : (gs hs : List Granule) (rows : Rows) (t : ℕ) (r q : row.Thread) (e : Listed) → IsEngine gs rows → rows.running ≡ Some t → r ≡ get_or rows.list.items t r
     → MayCall (engine_view gs rows) t e → (w : Switched) → switch_in gs e r ≡ w → Touches (area_begin r.area) (area_end r.area) (cleared gs r w) hs → q.area ≡ r.area
-    → IsKept hs true q → AreasFrom rows.region.ram hs rows.standing 0 rows.region.trusted rows.region.end (set rows.list.items t q)
+    → IsKept hs true q → AreasFrom rows.region.ram hs rows.standing.items 0 rows.region.trusted rows.region.end (set rows.list.items t q)
 call_areas_by gs hs rows t r q e holds runs is may (Trapped why) w touches place kept = call_areas gs hs rows t r q holds runs is touches place kept
 call_areas_by gs hs rows t r q e holds runs is may TooDeep w touches place kept = call_areas gs hs rows t r q holds runs is touches place kept
 call_areas_by gs hs rows t r q e holds runs is may NoStack w touches place kept = call_areas gs hs rows t r q holds runs is touches place kept
 call_areas_by gs hs rows t r q e holds runs is may (Enters export high) w touches place kept =
-    switched_areas gs hs rows t r q high rows.standing holds runs is (high_fits gs rows t r e export high holds runs is may w) touches (stays_on rows.standing t) place
-    (subst (λ b. IsKept hs b q) (sym (runs_it rows t (holds.runs t runs))) kept)
+    switched_areas gs hs rows t r q high rows.standing.items holds runs is (high_fits gs rows t r e export high holds runs is may w) touches (stays_on rows.standing.items t) place
+    (subst (λ b. IsKept hs b q) (sym (holds.runs t runs)) kept)
 
 pub call_heap_by : (gs hs : List Granule) (rows : Rows) (t : ℕ) (r : row.Thread) (e : Listed) → IsEngine gs rows → rows.running ≡ Some t → r ≡ get_or rows.list.items t r
     → MayCall (engine_view gs rows) t e → (w : Switched) → switch_in gs e r ≡ w → Touches (area_begin r.area) (area_end r.area) (cleared gs r w) hs

@@ -1,6 +1,6 @@
 -- Where none of what is seen is a capability of a painted object, none of memory is: what is hidden is a saved capability
 -- or a plain word in the region, and untagged in the heap.
-use Rattle.std.proofs.Common.{ℕ, zero, suc, ◌≡◌, ◌+◌, ◌-◌, ◌*◌, ◌/◌, ◌%◌, ◌<◌, ◌≤◌, inl, inr, Bool, true, false, List, [], ◌∷◌, length, Option, Some, refl, sym, ap, ◌∙◌, arith, subst}
+use Rattle.std.proofs.Common.{ℕ, zero, suc, ◌≡◌, ◌+◌, ◌-◌, ◌*◌, ◌/◌, ◌%◌, ◌<◌, ◌≤◌, inl, inr, Bool, true, false, List, [], ◌∷◌, length, refl, sym, ap, ◌∙◌, arith, subst}
 use Rattle.std.proofs.Math.ListN.{get_or}
 use Rattle.def_profile.specs.Areas.{area_length}
 use Rattle.law_lists.proofs.Tests.{bool_tells, lt_tells, eq_tells}
@@ -8,7 +8,6 @@ use Rattle.def_words.specs.declared.Cap.{Cap}
 use Rattle.def_memory.specs.declared.Granule.{Granule}
 use Rattle.def_memory.specs.Granules.{plain, cap_in, caps_from}
 use Rattle.def_machine.specs.State.{Thread, Frame, Object, nobody}
-use Rattle.def_machine.specs.Slices.{is_number}
 use Rattle.def_machine.specs.Objects.{Each}
 use Rattle.def_areas.specs.Areas.{frame_place, frames_from, frames_in, caller_actor, caller_top, caller_handling}
 use Rattle.law_hidden.proofs.Granules.{seen_at}
@@ -18,13 +17,12 @@ use Rattle.ct_areas.specs.Threads.{HasArea, area_begin, area_end, frames_most, l
 use Rattle.ct_areas.proofs.Places.{alive_is, frames_of}
 use Rattle.ct_threads.specs.Kept.{IsPlain, IsSaved, IsKept}
 use Rattle.ct_engine.specs.declared.rows.Rows.{Rows}
-use Rattle.ct_engine.specs.Seen.{Seen, threads_of, engine_view, hidden}
+use Rattle.ct_engine.specs.Seen.{Seen, threads_of, engine_view, hidden, stands}
 use Rattle.ct_engine.specs.Kept.{AreasFrom, IsEngine}
 use Rattle.def_confined.specs.Stale.{NotStale, SavedClean, StoppedClean}
 use Rattle.ct_engine.specs.Sweeps.{NoneLeft}
 use Rattle.ct_engine.proofs.Away.{hidden_cases}
 use Rattle.ct_engine.proofs.Stacks.{hidden_place}
-use Rattle.law_moves.proofs.Slices.{is_itself}
 
 -- ---- one granule
 
@@ -116,15 +114,9 @@ begins_by size a k has le = begin_numbers a.ram a.trusted k has.low le
 ends_by : (size : ℕ) (a : Area) (k : ℕ) → HasArea size a → a.ram + 8 * k < a.trusted + a.trusted_length → k < area_end a
 ends_by size a k has lt = end_numbers a.ram a.trusted a.trusted_length (frames_most a) k has.ram has.even has.low has.whole lt
 
-abbrev Stops : Option ℕ → ℕ → Type 0
-Stops run n = run ≡ Some n → ⊥
-
-not_running : (run : Option ℕ) (n : ℕ) → is_number run n ≡ false → Stops run n
-not_running run n e = λ is. let clash : true ≡ false = sym (ap (λ o. is_number o n) is ∙ is_itself n) ∙ e in cc
-
-areas_clean : (objects : List Object) (ram : ℕ) (gs : List Granule) (run : Option ℕ) (n from to : ℕ) (ts : List row.Thread) → AreasFrom ram gs run n from to ts
+areas_clean : (objects : List Object) (ram : ℕ) (gs : List Granule) (run : List Bool) (n from to : ℕ) (ts : List row.Thread) → AreasFrom ram gs run n from to ts
     → ((t : ℕ) → Each (SavedClean objects) (get_or (threads_of gs run n ts) t nobody).frames)
-    → ((t : ℕ) → Stops run (n + t) → StoppedClean objects (get_or (threads_of gs run n ts) t nobody))
+    → ((t : ℕ) → stands run (n + t) ≡ false → StoppedClean objects (get_or (threads_of gs run n ts) t nobody))
     → (k : ℕ) → from ≤ ram + 8 * k → ram + 8 * k < to → NotStale objects (cap_in gs k)
 areas_clean objects ram gs run n from to [] areas frames stopped k lo hi = plain_clean objects (cap_in gs k) (areas.1 k lo hi)
 areas_clean objects ram gs run n from to (t ∷ ts) areas frames stopped k lo hi = elim (lt_tells (ram + 8 * k) t.area.trusted) [
@@ -132,13 +124,13 @@ areas_clean objects ram gs run n from to (t ∷ ts) areas frames stopped k lo hi
   | inr a ↦ elim (lt_tells (ram + 8 * k) (t.area.trusted + t.area.trusted_length)) [
     | inl b ↦ (let base = areas.1 in
         let here : n + zero ≡ n = omega arith in
-        let kept : IsKept gs (is_number run n) t = areas.2 in
+        let kept : IsKept gs (stands run n) t = areas.2 in
         let low = a.1 in
         let high = b.1 in
         let begins = begins_by (8 * length gs) t.area k kept.area (omega (arith, low, base)) in
         let ends = ends_by (8 * length gs) t.area k kept.area (omega (arith, high, base)) in
         elim (kept.clean k begins ends) [
-          | inl s ↦ saved_clean objects gs (is_number run n) t (frames zero) (λ off. stopped zero (rw here (not_running run n off))) k begins s
+          | inl s ↦ saved_clean objects gs (stands run n) t (frames zero) (λ off. stopped zero (rw here off)) k begins s
           | inr p ↦ plain_clean objects (cap_in gs k) p
         ])
     | inr b ↦ areas_clean objects ram gs run (n + 1) (t.area.trusted + t.area.trusted_length) to ts areas.3 (λ u. frames (suc u))
@@ -153,8 +145,8 @@ none_stale objects gs rows v is holds left k =
     elim (bool_tells (hidden gs rows k)) [
       | inl e ↦ elim (hidden_cases gs rows k holds e) [
         | inl region ↦ (let place = hidden_place rows.region k region in
-            areas_clean objects rows.region.ram gs rows.standing 0 rows.region.trusted rows.region.end rows.list.items holds.areas mine.frames
-            (λ t off. mine.stopped t (λ runs. off (let same : 0 + t ≡ t = omega arith in rw same (holds.runs t runs)))) k place.0 place.1)
+            areas_clean objects rows.region.ram gs rows.standing.items 0 rows.region.trusted rows.region.end rows.list.items holds.areas mine.frames
+            (λ t off. mine.stopped t (λ runs. let same : 0 + t ≡ t = omega arith in let clash : true ≡ false = sym (holds.runs t runs) ∙ ap (λ n. stands rows.standing.items n) (sym same) ∙ off in cc)) k place.0 place.1)
         | inr heap ↦ (λ tagged some. absurd (let clash : true ≡ false = sym tagged ∙ holds.heap.clear k heap in cc))
       ]
       | inr e ↦ same_clean objects (cap_in gs k) (cap_in (engine_view gs rows).granules k) (ap (λ (g : Granule). g.cap) (sym (seen_at (hidden gs rows) gs k e))) (mine.granules k)

@@ -30,7 +30,7 @@ use Rattle.ct_engine.specs.Seen.{Seen, engine_view, seen_of, thread, area_at, hi
 use Rattle.ct_engine.specs.Kept.{AreasFrom, HeapHolds, IsEngine}
 use Rattle.ct_engine.specs.Calls.{IsEnterable, head_at}
 use Rattle.ct_engine.specs.Handling.{MayHandle, is_handled_of, is_handled_at, handed_at, handler_begun, after_trap}
-use Rattle.ct_engine.proofs.Whole.{runs_it, running_kept, seen_turn}
+use Rattle.ct_engine.proofs.Whole.{running_kept, seen_turn, the_runner}
 use Rattle.ct_engine.proofs.Ends.{stays_on, call_areas}
 use Rattle.ct_engine.proofs.Goes.{running_is, running_frames}
 use Rattle.ct_engine.proofs.Stacks.{InStack, running_stack, running_area, running_thread, ready_is, words_hold, words_are_seen}
@@ -120,7 +120,7 @@ module _ (gs : List Granule) (rows : Rows) (t : ℕ) (r : row.Thread) (holds : I
     q_kept : IsKept (recorded gs r why) true (handling_row (handed_in gs e r handler) r why)
     q_kept = kept_as (recorded gs r why) true r (handling_row (handed_in gs e r handler) r why) (running_kept (recorded gs r why) rows t r with_record runs is).kept refl refl refl
 
-    pub entered_areas : AreasFrom rows.region.ram (recorded gs r why) rows.standing 0 rows.region.trusted rows.region.end (set rows.list.items t (handling_row (handed_in gs e r handler) r why))
+    pub entered_areas : AreasFrom rows.region.ram (recorded gs r why) rows.standing.items 0 rows.region.trusted rows.region.end (set rows.list.items t (handling_row (handed_in gs e r handler) r why))
     entered_areas = call_areas (recorded gs r why) (recorded gs r why) rows t r (handling_row (handed_in gs e r handler) r why) with_record runs is untouched refl q_kept
 
     pub entered_size : length (recorded gs r why) ≡ length gs
@@ -144,7 +144,7 @@ module _ (gs : List Granule) (rows : Rows) (t : ℕ) (r : row.Thread) (holds : I
     begun_by s h [] same some = absurd (omega (arith, some))
     begun_by s h (f ∷ fs) same some = rw same refl
 
-    entered_seen : seen_of (recorded gs r why) rows (set rows.list.items t (handling_row (handed_in gs e r handler) r why)) rows.standing rows.running
+    entered_seen : seen_of (recorded gs r why) rows (set rows.list.items t (handling_row (handed_in gs e r handler) r why)) rows.standing.items rows.running
         ≡ handler_begun (engine_view gs rows) e t handler why (thread (engine_view gs rows) t).frames
     entered_seen =
         let put : ℕ → Cap → Thread → Seen = λ ram c u. record (engine_view gs rows) {
@@ -152,11 +152,11 @@ module _ (gs : List Granule) (rows : Rows) (t : ℕ) (r : row.Thread) (holds : I
           threads = set (engine_view gs rows).threads t (handled_over (handed_in gs e r handler) (thread (engine_view gs rows) t) why (thread (engine_view gs rows) t).frames);
         } in
         let frames = ap (λ (fs : List Frame). length fs) (running_frames gs rows t r holds runs is) in
-        seen_turn rows (recorded gs r why) (recorded gs r why) rows.list.items rows.standing rows.standing rows.running t r (handling_row (handed_in gs e r handler) r why)
+        seen_turn rows (recorded gs r why) (recorded gs r why) rows.list.items rows.standing.items rows.standing.items rows.running t r (handling_row (handed_in gs e r handler) r why)
         (handled_over (handed_in gs e r handler) (thread (engine_view gs rows) t) why (thread (engine_view gs rows) t).frames)
-        with_record.areas with_record.heap (holds.stands t (holds.runs t runs)) is untouched (stays_on rows.standing t) refl
+        with_record.areas with_record.heap (the_runner holds t runs) is untouched (stays_on rows.standing.items t) refl
         (subst (λ b. thread_of (recorded gs r why) b (handling_row (handed_in gs e r handler) r why) ≡ handled_over (handed_in gs e r handler) (thread (engine_view gs rows) t) why (thread (engine_view gs rows) t).frames)
-        (sym (runs_it rows t (holds.runs t runs))) entered_thread)
+        (sym (holds.runs t runs)) entered_thread)
         ∙ ap (λ (x : Seen). with_running (with_thread x t (handled_over (handed_in gs e r handler) (thread (engine_view gs rows) t) why (thread (engine_view gs rows) t).frames)) rows.running) record_seen
         ∙ ap (λ (u : Thread). put r.area.ram (register u 2) u) (sym (running_is gs rows t r holds runs is))
         ∙ ap (λ n. put n (register (thread (engine_view gs rows) t) 2) (thread (engine_view gs rows) t)) base_is
@@ -166,7 +166,7 @@ module _ (gs : List Granule) (rows : Rows) (t : ℕ) (r : row.Thread) (holds : I
 
   pub trap_areas : (e : Listed) (handler : ℕ) (why : Trap) (b : Bool) (hs : List Granule) (q : row.Thread) → MayHandle (engine_view gs rows) t e handler → b ≡ is_handled_in r handler
       → hs ≡ memory_by b gs r why → q ≡ row_by b gs e r handler why
-      → AreasFrom rows.region.ram hs rows.standing 0 rows.region.trusted rows.region.end (set rows.list.items t q)
+      → AreasFrom rows.region.ram hs rows.standing.items 0 rows.region.trusted rows.region.end (set rows.list.items t q)
   trap_areas e handler why true hs q may which memory row_is = rw (memory, row_is) (entered_areas e handler why may (sym which))
   trap_areas e handler why false hs q may which memory row_is =
       rw (memory, row_is) (call_areas gs gs rows t r r holds runs is (record { size = refl; marks = λ k. refl; rest = λ k out. refl }) refl (running_kept gs rows t r holds runs is).kept)
@@ -187,7 +187,7 @@ module _ (gs : List Granule) (rows : Rows) (t : ℕ) (r : row.Thread) (holds : I
 
   pub trap_sees : (e : Listed) (handler : ℕ) (why : Trap) (b : Bool) (hs : List Granule) (q : row.Thread) → MayHandle (engine_view gs rows) t e handler → b ≡ is_handled_in r handler
       → hs ≡ memory_by b gs r why → q ≡ row_by b gs e r handler why
-      → seen_of hs rows (set rows.list.items t q) rows.standing rows.running ≡ after_trap (engine_view gs rows) e t handler why
+      → seen_of hs rows (set rows.list.items t q) rows.standing.items rows.running ≡ after_trap (engine_view gs rows) e t handler why
   trap_sees e handler why true hs q may which memory row_is =
       let whole = entered_seen e handler why may (sym which) in
       rw (memory, row_is) (whole

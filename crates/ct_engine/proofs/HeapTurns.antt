@@ -73,10 +73,11 @@ turned_holds gs hs rows n front holds t laid clear within =
     let ram : n.range.ram ≡ rows.heap.range.ram = ap (λ (r : Range). r.ram) t.same.range in
     let past = holds.heap.past in
     record {
-      areas = areas_same rows.region.ram gs hs rows.standing rows.standing 0 rows.region.trusted rows.region.end rows.list.items holds.areas t.size
+      areas = areas_same rows.region.ram gs hs rows.standing.items rows.standing.items 0 rows.region.trusted rows.region.end rows.list.items holds.areas t.size
           (region_same gs hs rows n holds t) (λ u lo. refl);
       runs = holds.runs;
-      stands = holds.stands;
+      each = holds.each;
+      settled = holds.settled;
       stacks = subst (λ b. Each (StackLies rows.region b (8 * length hs)) (map (λ (r : row.Thread). r.area) rows.list.items)) (sym base)
           (subst (λ m. Each (StackLies rows.region rows.heap.range.base (8 * m)) (map (λ (r : row.Thread). r.area) rows.list.items)) (sym t.size) holds.stacks);
       heap = record {
@@ -108,7 +109,7 @@ turned_seen gs hs rows n front holds t =
     let put : Seen = record (engine_view gs rows) { objects = objects_of n hs; next = n.next; front = front } in
     seen_as put _ _ _ _ _ _ _ _ _ _
     (hide_over rows n hs (ap (λ (r : Range). r.ram) t.same.range ∙ holds.heap.ram))
-    (threads_same rows.region.ram gs hs rows.standing rows.standing 0 rows.region.trusted rows.region.end rows.list.items holds.areas
+    (threads_same rows.region.ram gs hs rows.standing.items rows.standing.items 0 rows.region.trusted rows.region.end rows.list.items holds.areas
     (region_same gs hs rows n holds t) (λ u lo. refl))
     (ap (λ (r : Range). r.base) t.same.range)
     (ap (λ (r : Range). r.base + r.length) t.same.range)

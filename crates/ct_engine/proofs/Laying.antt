@@ -1,5 +1,6 @@
 -- Threads have started, and the heap is laid: what is seen of them, and what they keep.
-use Rattle.std.proofs.Common.{ℕ, ◌≡◌, ◌+◌, ◌*◌, ◌/◌, ◌≤◌, ◌<◌, inl, inr, Bool, true, false, List, [], length, map, Option, None, unwrap_or, refl, sym, ap, ◌∙◌, arith, subst}
+use Rattle.std.proofs.Common.{ℕ, ◌≡◌, ◌+◌, ◌*◌, ◌/◌, ◌≤◌, ◌<◌, inl, inr, Bool, true, false, List, [], length, replicate, map, Option, None, unwrap_or, refl, sym, ap, ◌∙◌, arith, subst}
+use Rattle.std.proofs.lemmas.List.{get_or-replicate, get_or_past, length-replicate}
 use Rattle.law_lists.proofs.Tests.{bool_tells, le_tells, lt_tells}
 use Rattle.def_words.specs.declared.Cap.{Cap}
 use Rattle.def_memory.specs.declared.Granule.{Granule}
@@ -19,8 +20,8 @@ use Rattle.ct_areas.specs.declared.thread.Area.{Area}
 use Rattle.ct_areas.specs.declared.thread.Fresh.{Fresh}
 use Rattle.ct_engine.specs.declared.rows.Region.{Region}
 use Rattle.ct_engine.specs.declared.rows.Rows.{Rows}
-use Rattle.ct_engine.specs.Seen.{Seen, region_hides, hides_over, threads_of, engine_view}
-use Rattle.ct_engine.specs.Kept.{AreasFrom, StackLies, IsClear, IsEngine}
+use Rattle.ct_engine.specs.Seen.{Seen, stands, region_hides, hides_over, engine_view}
+use Rattle.ct_engine.specs.Kept.{StackLies, IsClear, IsEngine}
 use Rattle.ct_engine.specs.Starts.{HaveBegun, MayStart, started}
 use Rattle.ct_engine.proofs.Lists.{areas_same, threads_same}
 use Rattle.ct_engine.proofs.Whole.{none_is}
@@ -28,12 +29,20 @@ use Rattle.ct_engine.proofs.Stacks.{hidden_place}
 use Rattle.ct_engine.proofs.HiddenTwice.{with_hidden_both}
 use Rattle.ct_engine.proofs.HeapTurns.{limits_stay}
 
+-- nobody stands in a row
+pub none_stood : (n u : ℕ) → stands (replicate n false) u ≡ false
+none_stood n u = elim (lt_tells u n) [
+  | inl a ↦ get_or-replicate n u false false a.1
+  | inr a ↦ get_or_past (replicate n false) u false (let le = a.1 in let long = length-replicate n false in omega (arith, le, long))
+]
+
 -- Of memory `was`, in which threads started and left gs, once the heap is laid in it, which leaves hs.
 pub record Lays (was gs hs : List Granule) (rows : Rows) (fs : List Fresh) (h : HeapRow) : Type 0 where
   pub may : MayStart was rows.region fs h
   pub begun : HaveBegun rows.region was gs rows.list.items fs
   pub none : rows.running ≡ None
-  pub empty : rows.standing ≡ None
+  pub each : length rows.standing.items ≡ length rows.list.items
+  pub empty : (u : ℕ) → stands rows.standing.items u ≡ false
   pub idle : rows.front ≡ None
   pub laid : Laid rows.heap hs
   pub objects : objects_of rows.heap hs ≡ []
@@ -137,8 +146,8 @@ pub laid_seen : (was gs hs : List Granule) (rows : Rows) (fs : List Fresh) (h : 
 laid_seen was gs hs rows fs h l =
     seen_as (started was rows.region fs h) _ _ _ _ _ _ _ _ _ _ _ _ _ _ _ _ _ _ _ _ _ _
     (memory_is was gs hs rows fs h l)
-    (ap (λ o. threads_of hs o 0 rows.list.items) l.empty
-    ∙ threads_same rows.region.ram gs hs None None 0 rows.region.trusted rows.region.end rows.list.items l.begun.areas (region_same was gs hs rows fs h l) (λ u lo. refl) ∙ l.begun.threads)
+    (threads_same rows.region.ram gs hs [] rows.standing.items 0 rows.region.trusted rows.region.end rows.list.items l.begun.areas (region_same was gs hs rows fs h l) (λ u lo. l.empty u)
+    ∙ l.begun.threads)
     l.begun.places
     l.objects
     l.no_row
@@ -173,10 +182,10 @@ laid_holds was gs hs rows fs h l =
     let past = l.may.heap.past in
     let size : length hs ≡ length was = l.stays.size ∙ l.begun.size in
     record {
-      areas = subst (λ o. AreasFrom rows.region.ram hs o 0 rows.region.trusted rows.region.end rows.list.items) (sym l.empty)
-          (areas_same rows.region.ram gs hs None None 0 rows.region.trusted rows.region.end rows.list.items l.begun.areas l.stays.size (region_same was gs hs rows fs h l) (λ u lo. refl));
+      areas = areas_same rows.region.ram gs hs [] rows.standing.items 0 rows.region.trusted rows.region.end rows.list.items l.begun.areas l.stays.size (region_same was gs hs rows fs h l) (λ u lo. l.empty u);
+      each = l.each;
       runs = λ u e. none_is u (sym l.none ∙ e);
-      stands = λ u e. none_is u (sym l.empty ∙ e);
+      settled = λ tight u stood. absurd (let clash : true ≡ false = sym stood ∙ l.empty u in cc);
       stacks = subst (λ (as_ : List Area). Each (StackLies rows.region rows.heap.range.base (8 * length hs)) as_) (sym l.begun.places)
           (subst (λ b. Each (StackLies rows.region b (8 * length hs)) (map (λ (f : Fresh). f.area) fs)) (sym base)
           (subst (λ m. Each (StackLies rows.region h.range.base (8 * m)) (map (λ (f : Fresh). f.area) fs)) (sym size) l.may.stacks));

@@ -26,7 +26,7 @@ use Rattle.ct_engine.specs.Seen.{engine_view, thread, with_granules, no_area, ar
 use Rattle.ct_engine.specs.Kept.{StackLies, IsEngine}
 use Rattle.ct_engine.specs.Calls.{TopLies}
 use Rattle.ct_engine.proofs.Lists.{Lies, places_put}
-use Rattle.ct_engine.proofs.Whole.{runs_it, thread_is, running_kept}
+use Rattle.ct_engine.proofs.Whole.{thread_is, running_kept, the_runner}
 use Rattle.ct_engine.proofs.Ends.{area_of_row}
 use Rattle.ct_engine.proofs.Away.{HiddenStays, away_holds, away_seen, hidden_cases}
 use Rattle.ct_engine.proofs.HeapStays.{heap_low}
@@ -56,15 +56,15 @@ stack_at g base size (u ∷ us) (suc t) d stacks lt = stack_at g base size us t 
 pub running_stack : (gs : List Granule) (rows : Rows) (t : ℕ) (r : row.Thread) → IsEngine gs rows → rows.running ≡ Some t → r ≡ get_or rows.list.items t r
     → StackLies rows.region rows.heap.range.base (8 * length gs) r.area
 running_stack gs rows t r holds runs is =
-    subst (λ (u : row.Thread). StackLies rows.region rows.heap.range.base (8 * length gs) u.area) (sym is) (stack_at rows.region rows.heap.range.base (8 * length gs) rows.list.items t r holds.stacks (holds.stands t (holds.runs t runs)))
+    subst (λ (u : row.Thread). StackLies rows.region rows.heap.range.base (8 * length gs) u.area) (sym is) (stack_at rows.region rows.heap.range.base (8 * length gs) rows.list.items t r holds.stacks (the_runner holds t runs))
 
 pub running_area : (gs : List Granule) (rows : Rows) (t : ℕ) (r : row.Thread) → IsEngine gs rows → rows.running ≡ Some t → r ≡ get_or rows.list.items t r
     → area_at (engine_view gs rows) t ≡ r.area
-running_area gs rows t r holds runs is = area_of_row rows.list.items t no_area r (holds.stands t (holds.runs t runs)) ∙ ap (λ (u : row.Thread). u.area) (sym is)
+running_area gs rows t r holds runs is = area_of_row rows.list.items t no_area r (the_runner holds t runs) ∙ ap (λ (u : row.Thread). u.area) (sym is)
 
 pub running_thread : (gs : List Granule) (rows : Rows) (t : ℕ) (r : row.Thread) → IsEngine gs rows → rows.running ≡ Some t → r ≡ get_or rows.list.items t r
     → thread (engine_view gs rows) t ≡ thread_of gs true r
-running_thread gs rows t r holds runs is = thread_is gs rows.list.items rows.standing t r true (holds.stands t (holds.runs t runs)) is (runs_it rows t (holds.runs t runs))
+running_thread gs rows t r holds runs is = thread_is gs rows.list.items rows.standing.items t r true (the_runner holds t runs) is (holds.runs t runs)
 
 pub running_top : (gs : List Granule) (rows : Rows) (t : ℕ) (r : row.Thread) → IsEngine gs rows → rows.running ≡ Some t → r ≡ get_or rows.list.items t r
     → frame_top (thread (engine_view gs rows) t).frames ≡ r.top

@@ -1,6 +1,6 @@
 -- What an engine keeps: where the threads' areas lie, and what stands in them; that chunks and heap agree; and that there
 -- is room for the rows of keys and tokens.
-use Rattle.std.specs.Prelude.{ℕ, ◌+◌, ◌*◌, ◌/◌, ◌%◌, ◌≡◌, ◌≤◌, ◌<◌, ◌⊎◌, true, false, List, [], ◌∷◌, length, map, Option, Some, unwrap_or}
+use Rattle.std.specs.Prelude.{ℕ, ◌+◌, ◌*◌, ◌/◌, ◌%◌, ◌≡◌, ◌≤◌, ◌<◌, ◌⊎◌, Bool, true, false, List, [], ◌∷◌, length, map, Option, Some, unwrap_or}
 use Rattle.def_memory.specs.declared.Granule.{Granule}
 use Rattle.def_memory.specs.Granules.{cap_in}
 use Rattle.def_memory.specs.Ranges.{is_tagged}
@@ -14,6 +14,7 @@ use Rattle.ct_areas.specs.declared.thread.Thread as row
 use Rattle.ct_threads.specs.Kept.{IsPlain, IsKept}
 use Rattle.ct_engine.specs.declared.rows.Region.{Region}
 use Rattle.ct_engine.specs.declared.rows.Rows.{Rows}
+use Rattle.ct_engine.specs.Seen.{stands}
 
 -- from one address up to another, of RAM from `ram` on, a plain word stands in each granule
 abbrev pub ArePlain : ℕ → List Granule → ℕ → ℕ → Type 0
@@ -21,11 +22,11 @@ ArePlain ram gs from to =
     (k : ℕ) → from ≤ ram + 8 * k → ram + 8 * k < to → IsPlain (cap_in gs k)
 
 -- Areas stand one after another from one address up to another, of RAM from `ram` on, and plain words between them; the
--- first thread has number n.
-abbrev pub AreasFrom : ℕ → List Granule → Option ℕ → ℕ → ℕ → ℕ → List row.Thread → Type 0
+-- first thread has number n, and `standing` says by number whose registers stand in their rows.
+abbrev pub AreasFrom : ℕ → List Granule → List Bool → ℕ → ℕ → ℕ → List row.Thread → Type 0
 AreasFrom ram gs standing n from to [] = (from ≤ to) × ArePlain ram gs from to
 AreasFrom ram gs standing n from to (t ∷ ts) =
-    (from ≤ t.area.trusted) × (t.area.ram ≡ ram) × IsKept gs (is_number standing n) t
+    (from ≤ t.area.trusted) × (t.area.ram ≡ ram) × IsKept gs (stands standing n) t
     × AreasFrom ram gs standing (n + 1) (t.area.trusted + t.area.trusted_length) to ts
     × ArePlain ram gs from t.area.trusted
 
@@ -50,12 +51,19 @@ pub record HeapHolds (gs : List Granule) (g : Region) (h : HeapRow) (front : Opt
   pub within : unwrap_or front 0 ≤ 8 * length gs
   pub clear : IsClear h gs
 
--- All areas in the region, the thread that runs stands in its row, the one that stands is one of them, their stacks lie
--- apart from the region and before the heap, the heap, and room for a row of each object that it may have.
+-- of all threads the one that runs alone stands in its row
+abbrev pub OneStands : List Bool → Option ℕ → Type 0
+OneStands standing running = (t : ℕ) → stands standing t ≡ is_number running t
+
+-- All areas lie in the region. What is known of each thread is whether its registers stand in its row: those of the
+-- thread that runs do, and where `loose` is false no other's. Stacks lie apart from the region and before the heap, the
+-- heap agrees with its chunks, and there is room for a row of each object that it may have.
 pub record IsEngine (gs : List Granule) (r : Rows) : Type 0 where
-  pub areas : AreasFrom r.region.ram gs r.standing 0 r.region.trusted r.region.end r.list.items
-  pub runs : (t : ℕ) → r.running ≡ Some t → r.standing ≡ Some t
-  pub stands : (t : ℕ) → r.standing ≡ Some t → t < length r.list.items
+  pub areas : AreasFrom r.region.ram gs r.standing.items 0 r.region.trusted r.region.end
+      r.list.items
+  pub each : length r.standing.items ≡ length r.list.items
+  pub runs : (t : ℕ) → r.running ≡ Some t → stands r.standing.items t ≡ true
+  pub settled : r.loose ≡ false → (t : ℕ) → stands r.standing.items t ≡ true → r.running ≡ Some t
   pub stacks : Each (StackLies r.region r.heap.range.base (8 * length gs))
       (map (λ (t : row.Thread). t.area) r.list.items)
   pub heap : HeapHolds gs r.region r.heap r.front

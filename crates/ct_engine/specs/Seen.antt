@@ -1,6 +1,6 @@
 -- What contracts see of an engine: memory with hidden granules, its threads as the machine's state has them, its heap's
 -- objects as rows, and the rows of those that are keys and tokens.
-use Rattle.std.specs.Prelude.{ℕ, ◌+◌, ◌*◌, ◌&&◌, ◌||◌, Bool, nat_le, nat_lt, List, [], ◌∷◌, Option, Some, map, slice_set, slice_index_or}
+use Rattle.std.specs.Prelude.{ℕ, ◌+◌, ◌*◌, ◌&&◌, ◌||◌, Bool, false, nat_le, nat_lt, List, [], ◌∷◌, Option, Some, map, slice_set, slice_index_or}
 use Rattle.def_profile.specs.declared.layout.TheConstants.{GRANULE}
 use Rattle.def_memory.specs.declared.Granule.{Granule}
 use Rattle.def_machine.specs.Image.{Image, trusted_end}
@@ -9,7 +9,6 @@ use Rattle.def_chunks.specs.declared.rows.Range.{Range}
 use Rattle.def_chunks.specs.declared.rows.Account.{Account}
 use Rattle.def_chunks.specs.Heaps.{objects_of}
 use Rattle.def_chunks.specs.Hides.{hides_heap}
-use Rattle.def_machine.specs.Slices.{is_number}
 use Rattle.def_machine.specs.Threads.{picked_with, jumped}
 use Rattle.def_words.specs.declared.Cap.{Cap}
 use Rattle.def_words.specs.Capability.{raised}
@@ -30,11 +29,15 @@ region_of i = record { ram = i.ram; trusted = i.trusted; end = trusted_end i }
 abbrev pub region_hides : Region → ℕ → Bool
 region_hides g k = nat_le g.trusted (g.ram + GRANULE * k) && nat_lt (g.ram + GRANULE * k) g.end
 
--- the threads of these rows, of which the first has number n; registers stand in the row of one at most
-abbrev pub threads_of : List Granule → Option ℕ → ℕ → List row.Thread → List Thread
+-- the program counter capability and the registers of the thread with this number stand in its row
+abbrev pub stands : List Bool → ℕ → Bool
+stands standing n = slice_index_or standing n false
+
+-- the threads of these rows, of which the first has number n
+abbrev pub threads_of : List Granule → List Bool → ℕ → List row.Thread → List Thread
 threads_of gs standing n [] = []
 threads_of gs standing n (t ∷ ts) =
-    thread_of gs (is_number standing n) t ∷ threads_of gs standing (n + 1) ts
+    thread_of gs (stands standing n) t ∷ threads_of gs standing (n + 1) ts
 
 -- `tokens` stand by their numbers; `next` is the next object's number; `front` is the running sweep's, an offset in RAM in
 -- bytes; the heap's base and end are addresses; `limits` are in bytes, by the quotas' numbers. Where areas, stacks and the
@@ -68,7 +71,7 @@ abbrev pub limits_in : List Account → List ℕ
 limits_in accounts = map (λ (a : Account). a.limit) accounts
 
 -- of these objects, threads, who stands and who runs
-abbrev pub seen_by : List Object → Rows → List Granule → List row.Thread → Option ℕ → Option ℕ
+abbrev pub seen_by : List Object → Rows → List Granule → List row.Thread → List Bool → Option ℕ
     → Seen
 seen_by objects r gs ts standing running = record {
   granules = with_hidden (hides_over r.region r.heap.range objects) gs;
@@ -85,11 +88,11 @@ seen_by objects r gs ts standing running = record {
   limits = limits_in r.heap.accounts;
 }
 
-abbrev pub seen_of : List Granule → Rows → List row.Thread → Option ℕ → Option ℕ → Seen
+abbrev pub seen_of : List Granule → Rows → List row.Thread → List Bool → Option ℕ → Seen
 seen_of gs r ts standing running = seen_by (objects_of r.heap gs) r gs ts standing running
 
 abbrev pub engine_view : List Granule → Rows → Seen
-engine_view gs r = seen_of gs r r.list.items r.standing r.running
+engine_view gs r = seen_of gs r r.list.items r.standing.items r.running
 
 abbrev pub hidden : List Granule → Rows → ℕ → Bool
 hidden gs r k = hides_over r.region r.heap.range (objects_of r.heap gs) k

@@ -25,9 +25,9 @@ AreFresh ram size from to (f ∷ fs) =
 pub record HaveBegun (g : Region) (was gs : List Granule) (ts : List row.Thread) (fs : List Fresh) : Type 0 where
   pub size : length gs ≡ length was
   pub memory : with_hidden (region_hides g) gs ≡ with_hidden (region_hides g) was
-  pub threads : threads_of gs None 0 ts ≡ map (λ f. first_of f) fs
+  pub threads : threads_of gs [] 0 ts ≡ map (λ f. first_of f) fs
   pub places : map (λ (t : row.Thread). t.area) ts ≡ map (λ (f : Fresh). f.area) fs
-  pub areas : AreasFrom g.ram gs None 0 g.trusted g.end ts
+  pub areas : AreasFrom g.ram gs [] 0 g.trusted g.end ts
 
 -- an empty heap that may lie in this memory
 pub record MayHold (gs : List Granule) (g : Region) (h : HeapRow) : Type 0 where

@@ -1,4 +1,5 @@
 //! Instructions of the running thread that tell nothing, one after another.
+#![tactic(auto, using(crate::proofs::Whole::the_runner))]
 
 ghost use Rattle.std.specs.Prelude.{◌≡◌, ◌*◌, ◌%◌, ◌≤◌, Some, length};
 ghost use Rattle.ct_threads.specs.Windows.{HoldsEach};
@@ -51,7 +52,8 @@ impl<M: Memory + Drop> Engine<M> {
         )
     }
 
-    /// One instruction of the running thread: 1 where it was carried out, which tells nothing, else 0.
+    /// One instruction of the running thread: 1 where it was carried out, which tells nothing, else 0. After it the
+    /// window is one still. Which instructions are left to the caller is for speed alone, and so is `decoded`.
     ///
     /// Conditions: as of `burst`, of one instruction.
     #[inline(always)]

@@ -1,4 +1,5 @@
 //! A frame's end of the running thread, and what a callee is given.
+#![tactic(auto, using(crate::proofs::Whole::the_runner))]
 
 ghost use Rattle.std.specs.Prelude.{ℕ, ◌≡◌, Some, None, cond, nat_lt, length};
 ghost use Rattle.def_machine.specs.Image.{Image};
@@ -34,7 +35,7 @@ pub(crate) fn return_to_caller<M: Memory>(rows: &mut Rows, mem: &mut M, t: u32, 
 {
     let more = return_row(&mut rows.list[t as usize], mem, e);
     rows.running = still(t, more);
-    rows.standing = rows.running;
+    rows.standing[t as usize] = more;
     more
 }
 
@@ -51,7 +52,7 @@ pub(crate) fn end_with<M: Memory>(rows: &mut Rows, mem: &mut M, t: u32, value: u
 {
     let more = end_row(&mut rows.list[t as usize], mem, value);
     rows.running = still(t, more);
-    rows.standing = rows.running;
+    rows.standing[t as usize] = more;
     more
 }
 

@@ -1,4 +1,5 @@
 //! The engine.
+#![tactic(auto, using(crate::proofs::Whole::the_runner))]
 
 ghost use Rattle.std.specs.Prelude.{◌≡◌, ◌*◌, ◌/◌, ◌%◌, ◌<◌, Some, None, true, false, length, nat_lt, IfOk};
 ghost use Rattle.def_instr.specs.Shapes.{is_access};
@@ -43,8 +44,8 @@ use std::marker::Model;
 ///
 /// Contracts see memory where the region and the heap outside live objects read as zero, each thread as the machine's
 /// state has it, and the heap's objects as rows; a thread without frames has ended. Offsets count bytes from RAM's
-/// begin. No method but `start` takes memory. Where a thread stops, its registers stay in its row until another is
-/// picked or a slice of the revoker has work.
+/// begin. No method but `start` takes memory. Where a thread stops, its registers stay in its row until a slice of the
+/// revoker has work.
 #[derive(Drop)]
 pub struct Engine<M: Memory + Drop> {
     pub(crate) mem: M,
@@ -161,6 +162,7 @@ impl<M: Memory + Drop> Engine<M> {
         ensures { self.new ≡ with_running self.old None }
     {
         self.rows.running = None;
+        self.rows.loose = true;
     }
 
     /// A thread that hasn't ended goes on where it stopped, where none runs: its program counter capability and its

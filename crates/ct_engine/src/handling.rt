@@ -1,4 +1,5 @@
 //! A trap's error handler, and its end, of the running thread.
+#![tactic(auto, using(crate::proofs::Whole::the_runner))]
 
 ghost use Rattle.std.specs.Prelude.{◌≡◌, ◌<◌, ◌-◌, Some, length, List};
 ghost use Rattle.def_memory.specs.declared.Granule.{Granule};

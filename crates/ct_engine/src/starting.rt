@@ -1,6 +1,6 @@
 //! How threads start: stopped before their first step, with one frame each.
 
-ghost use Rattle.std.specs.Prelude.{ℕ, ◌≡◌, ◌*◌, ◌<◌, true, length, IfOk};
+ghost use Rattle.std.specs.Prelude.{ℕ, ◌≡◌, ◌*◌, ◌<◌, true, false, length, replicate, IfOk};
 ghost use Rattle.def_memory.specs.Granules.{plain, cap_in};
 ghost use Rattle.ct_engine.specs.Kept.{IsEngine};
 ghost use Rattle.ct_engine.specs.Seen.{engine_view, region_hides};
@@ -38,6 +38,15 @@ fn begin_all<M: Memory>(
     Ok(list)
 }
 
+/// For each of so many threads that nothing of it stands in its row. The one error is `NoMemory`.
+fn none_standing(alloc: Global, threads: usize) -> Result<Vec<bool>, NoMemory>
+    ensures { IfOk result (λ standing. standing.items ≡ replicate threads false) }
+{
+    let mut standing = Vec::new(alloc);
+    standing.resize(threads, false)?;
+    Ok(standing)
+}
+
 /// Threads start, and the heap is laid. The one error is `NoMemory`.
 pub(crate) fn start<M: Memory>(
     alloc: Global,
@@ -52,6 +61,7 @@ pub(crate) fn start<M: Memory>(
         ≡ started (M.granules mem.old) region fresh.now heap) }
 {
     let list = begin_all(alloc, mem, region, fresh)?;
+    let standing = none_standing(alloc, list.len())?;
     let tokens = Tokens::new(alloc, heap.length())?;
     let mut heap = heap;
     heap.lay(mem);
@@ -59,7 +69,8 @@ pub(crate) fn start<M: Memory>(
         region,
         list,
         running: None,
-        standing: None,
+        standing,
+        loose: false,
         heap,
         front: Front::idle(),
         tokens,

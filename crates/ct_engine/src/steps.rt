@@ -1,4 +1,5 @@
 //! What the running thread holds, and how it goes on.
+#![tactic(auto, using(crate::proofs::Whole::the_runner))]
 
 ghost use Rattle.std.specs.Prelude.{◌≡◌, ◌<◌, Some, List, length};
 ghost use Rattle.def_memory.specs.declared.Granule.{Granule};

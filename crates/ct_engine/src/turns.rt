@@ -1,9 +1,10 @@
 //! A pick, and when registers go to a thread's area.
 
-ghost use Rattle.std.specs.Prelude.{◌≡◌, ◌<◌, Some, None, length, map};
+ghost use Rattle.std.specs.Prelude.{◌≡◌, ◌≢◌, ◌<◌, ℕ, None, true, false, length, map};
+ghost use Rattle.def_machine.specs.Slices.{is_number};
 ghost use Rattle.def_machine.specs.Memory.{filtered_in};
-ghost use Rattle.ct_engine.specs.Kept.{IsEngine};
-ghost use Rattle.ct_engine.specs.Seen.{engine_view, thread, resumed};
+ghost use Rattle.ct_engine.specs.Kept.{IsEngine, OneStands};
+ghost use Rattle.ct_engine.specs.Seen.{engine_view, stands, thread, resumed};
 
 use crate::rows::Rows;
 use ct_areas::Thread;
@@ -11,21 +12,54 @@ use ct_loadstore::filter;
 use ct_mem::Memory;
 use ct_threads::{filter_row, pick_row, stop_row};
 
-/// Where none runs, what stands in a row goes to its thread's area.
+/// Whether the thread with this number runs.
+fn runs(rows: &Rows, t: usize) -> bool
+    ensures { result ≡ is_number rows.now.running t }
+{
+    match rows.running {
+        Some(r) => r as usize == t,
+        None => false,
+    }
+}
+
+/// Where a thread doesn't run and stands in its row, its registers go to its area.
+fn put_away<M: Memory>(rows: &mut Rows, mem: &mut M, t: usize)
+    requires holds { IsEngine (M.granules mem.old) rows.old }
+    requires there { t < length rows.old.list.items }
+    ensures holds { IsEngine (M.granules mem.new) rows.new }
+    ensures seen { engine_view (M.granules mem.new) rows.new
+        ≡ engine_view (M.granules mem.old) rows.old }
+    ensures runs { rows.new.running ≡ rows.old.running }
+    ensures many { length rows.new.list.items ≡ length rows.old.list.items }
+    ensures away { is_number rows.old.running t ≡ false
+        → stands rows.new.standing.items t ≡ false }
+    ensures others { (u : ℕ) → u ≢ t
+        → stands rows.new.standing.items u ≡ stands rows.old.standing.items u }
+{
+    if runs(rows, t) {
+        return;
+    }
+    if rows.standing[t] {
+        stop_row(&mut rows.list[t], mem);
+        rows.standing[t] = false;
+    }
+}
+
+/// Of all threads that don't run, what stands in their rows goes to their areas.
 pub(crate) fn settle<M: Memory>(rows: &mut Rows, mem: &mut M)
     requires { IsEngine (M.granules mem.old) rows.old }
     ensures holds { IsEngine (M.granules mem.new) rows.new }
-    ensures settled { rows.new.standing ≡ rows.new.running }
+    ensures settled { OneStands rows.new.standing.items rows.new.running }
     ensures seen { engine_view (M.granules mem.new) rows.new
         ≡ engine_view (M.granules mem.old) rows.old }
 {
-    if rows.running.is_some() {
+    if !rows.loose {
         return;
     }
-    if let Some(s) = rows.standing {
-        stop_row(&mut rows.list[s as usize], mem);
-        rows.standing = None;
+    for t in 0..rows.list.len() {
+        put_away(rows, mem, t);
     }
+    rows.loose = false;
 }
 
 /// A row whose program counter capability and registers have passed the load filter.
@@ -39,10 +73,11 @@ fn refresh<M: Memory>(row: &mut Thread, mem: &M)
     row.pcc = filter(mem, row.area.ram, row.pcc);
 }
 
-/// The thread that stands in its row is picked.
+/// A thread that stands in its row is picked, where none runs.
 fn go_on<M: Memory>(rows: &mut Rows, mem: &M, t: u32)
     requires holds { IsEngine (M.granules mem.now) rows.old }
-    requires stands { rows.old.standing ≡ Some t }
+    requires none { rows.old.running ≡ None }
+    requires stood { stands rows.old.standing.items t ≡ true }
     ensures holds { IsEngine (M.granules mem.now) rows.new }
     ensures seen { engine_view (M.granules mem.now) rows.new
         ≡ resumed (engine_view (M.granules mem.now) rows.old) t }
@@ -51,10 +86,11 @@ fn go_on<M: Memory>(rows: &mut Rows, mem: &M, t: u32)
     rows.running = Some(t);
 }
 
-/// A thread that hasn't ended is picked, where none stands in its row.
+/// A thread that hasn't ended, and doesn't stand in its row, is picked, where none runs.
 fn take_up<M: Memory>(rows: &mut Rows, mem: &mut M, t: u32)
     requires holds { IsEngine (M.granules mem.old) rows.old }
-    requires none { rows.old.standing ≡ None }
+    requires none { rows.old.running ≡ None }
+    requires stopped { stands rows.old.standing.items t ≡ false }
     requires there { t < length rows.old.list.items }
     requires alive { 0 < length (thread (engine_view (M.granules mem.old) rows.old) t).frames }
     ensures holds { IsEngine (M.granules mem.new) rows.new }
@@ -62,7 +98,7 @@ fn take_up<M: Memory>(rows: &mut Rows, mem: &mut M, t: u32)
         ≡ resumed (engine_view (M.granules mem.old) rows.old) t }
 {
     pick_row(&mut rows.list[t as usize], mem);
-    rows.standing = Some(t);
+    rows.standing[t as usize] = true;
     rows.running = Some(t);
 }
 
@@ -76,10 +112,9 @@ pub(crate) fn pick<M: Memory>(rows: &mut Rows, mem: &mut M, t: u32)
     ensures seen { engine_view (M.granules mem.new) rows.new
         ≡ resumed (engine_view (M.granules mem.old) rows.old) t }
 {
-    if rows.standing == Some(t) {
+    if rows.standing[t as usize] {
         go_on(rows, mem, t);
-        return;
+    } else {
+        take_up(rows, mem, t);
     }
-    settle(rows, mem);
-    take_up(rows, mem, t);
 }

@@ -1,12 +1,10 @@
-use Rattle.std.proofs.Common.{ℕ, ◌≡◌, Option, length, refl, sym, ◌∙◌, arith, subst}
+use Rattle.std.proofs.Common.{ℕ, ◌≡◌, Option, refl, sym, ◌∙◌, subst}
 use Rattle.std.proofs.Math.ListN.{set}
-use Rattle.std.proofs.lemmas.List.{length-set}
 use Rattle.def_memory.specs.Granules.{plain}
 use Rattle.ct_engine.specs.Seen.{seen_of, engine_view}
-use Rattle.ct_engine.specs.Kept.{AreasFrom}
 use Rattle.ct_engine.specs.Calls.{ended_with}
-use Rattle.ct_engine.proofs.Whole.{running_kept}
-use Rattle.ct_engine.proofs.Ends.{runs_in}
+use Rattle.ct_engine.proofs.Whole.{the_runner, each_set, running_kept}
+use Rattle.ct_engine.proofs.Ends.{end_runs, end_settled}
 use Rattle.ct_engine.proofs.Stacks.{stacks_turn, ready_is}
 use Rattle.ct_engine.proofs.Leaving.{end_areas, end_heap, end_size, end_tells, end_sees}
 use Rattle.ct_engine.proofs.calls.end_with.Goals as goal
@@ -26,13 +24,12 @@ returns-clause-holds g c =
     let rows = c.args.rows.now in
     let r = c.index_mut.result.now in
     let q = c.end_row-more.new.t in
-    let lt = c.requires.holds.stands c.args.t (c.requires.holds.runs c.args.t c.requires.runs) in
+    let lt = the_runner c.requires.holds c.args.t c.requires.runs in
     record {
-      areas = subst (λ (o : Option ℕ). AreasFrom rows.region.ram hs o 0 rows.region.trusted rows.region.end (set rows.list.items c.args.t q)) (sym c.still-rows.ensures)
-          (end_areas gs hs rows c.args.t r q c.end_row-more.result (λ f. plain c.args.value) (λ f. plain 0) c.requires.holds c.requires.runs c.index_mut.ensures.value c.requires.top c.end_row-more.ensures);
-      runs = λ u e. e;
-      stands = λ u e. (let less = runs_in c.end_row-more.result c.args.t u (length rows.list.items) (sym c.still-rows.ensures ∙ e) lt in
-          let size = length-set rows.list.items c.args.t q in omega (arith, less, size));
+      areas = end_areas gs hs rows c.args.t r q c.end_row-more.result (λ f. plain c.args.value) (λ f. plain 0) c.requires.holds c.requires.runs c.index_mut.ensures.value c.requires.top c.end_row-more.ensures;
+      each = each_set c.requires.holds c.args.t c.end_row-more.result q;
+      runs = λ u e. end_runs c.requires.holds c.args.t c.end_row-more.result c.requires.runs u (sym c.still-rows.ensures ∙ e);
+      settled = λ tight u stood. c.still-rows.ensures ∙ end_settled c.requires.holds c.args.t c.end_row-more.result c.requires.runs tight u stood;
       stacks = stacks_turn gs hs rows c.args.t r q c.requires.holds lt c.index_mut.ensures.value
           (end_size gs hs r q c.end_row-more.result (λ f. plain c.args.value) (λ f. plain 0) c.end_row-more.ensures) c.end_row-more.ensures.area;
       heap = end_heap gs hs rows c.args.t r q c.end_row-more.result (λ f. plain c.args.value) (λ f. plain 0) c.requires.holds c.requires.runs c.index_mut.ensures.value c.requires.top c.end_row-more.ensures;
@@ -51,7 +48,7 @@ returns-clause-seen g c =
     let rows = c.args.rows.now in
     let r = c.index_mut.result.now in
     let q = c.end_row-more.new.t in
-    subst (λ (o : Option ℕ). seen_of hs rows (set rows.list.items c.args.t q) o o ≡ ended_with (engine_view gs rows) c.args.t c.args.value) (sym c.still-rows.ensures)
+    subst (λ (o : Option ℕ). seen_of hs rows (set rows.list.items c.args.t q) (set rows.standing.items c.args.t c.end_row-more.result) o ≡ ended_with (engine_view gs rows) c.args.t c.args.value) (sym c.still-rows.ensures)
     (end_sees gs hs rows c.args.t r q c.end_row-more.result (λ f. plain c.args.value) (λ f. plain 0)
     (λ f. plain c.args.value) (λ f. plain 0)
     c.requires.holds c.requires.runs c.index_mut.ensures.value c.requires.top c.end_row-more.ensures

@@ -1,5 +1,5 @@
-use Rattle.std.proofs.Common.{◌∙◌, arith}
-use Rattle.std.proofs.lemmas.List.{length-set}
+use Rattle.std.proofs.Common.{◌∙◌}
+use Rattle.ct_engine.proofs.Whole.{each_same, the_runner}
 use Rattle.ct_engine.proofs.Stacks.{stacks_turn}
 use Rattle.ct_engine.proofs.Handlers.{row_may, handled_is, trap_areas, trap_size, trap_place, trap_heap, trap_sees}
 use Rattle.ct_engine.proofs.handling.handle.Goals as goal
@@ -20,8 +20,9 @@ returns-clause-holds g c =
       areas = trap_areas gs rows c.args.t r c.requires.holds c.requires.runs c.index_mut.ensures.value e c.args.handler c.args.trap c.handle_row.result hs q c.requires.may
           c.handle_row.ensures.result c.handle_row.ensures.memory c.handle_row.ensures.row;
       runs = c.requires.holds.runs;
-      stands = λ u is. (let lt = c.requires.holds.stands u is in let size = length-set rows.list.items c.args.t q in omega (arith, lt, size));
-      stacks = stacks_turn gs hs rows c.args.t r q c.requires.holds (c.requires.holds.stands c.args.t (c.requires.holds.runs c.args.t c.requires.runs)) c.index_mut.ensures.value
+      each = each_same c.requires.holds c.args.t q;
+      settled = c.requires.holds.settled;
+      stacks = stacks_turn gs hs rows c.args.t r q c.requires.holds (the_runner c.requires.holds c.args.t c.requires.runs) c.index_mut.ensures.value
           (trap_size gs rows c.args.t r c.requires.holds c.requires.runs c.index_mut.ensures.value e c.args.handler c.args.trap c.handle_row.result hs c.requires.may
           c.handle_row.ensures.result c.handle_row.ensures.memory)
           (trap_place gs rows c.args.t r c.requires.holds c.requires.runs c.index_mut.ensures.value e c.args.handler c.args.trap c.handle_row.result q c.handle_row.ensures.row);

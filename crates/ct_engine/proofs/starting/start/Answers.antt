@@ -1,6 +1,8 @@
-use Rattle.std.proofs.Common.{◌/◌, ◌∙◌, None, refl, ap, arith}
+use Rattle.std.proofs.Common.{◌/◌, ◌∙◌, Bool, false, List, length, None, refl, ap, arith}
+use Rattle.std.proofs.lemmas.List.{length-replicate}
+use Rattle.ct_engine.specs.Seen.{stands}
 use Rattle.ct_engine.specs.declared.rows.Rows.{Rows}
-use Rattle.ct_engine.proofs.Laying.{Lays, laid_holds, laid_seen}
+use Rattle.ct_engine.proofs.Laying.{Lays, none_stood, laid_holds, laid_seen}
 use Rattle.ct_engine.proofs.starting.start.Given as given
 use Rattle.ct_engine.proofs.starting.start.Goals as goal
 
@@ -16,7 +18,8 @@ rows_of g c = record {
   region = c.args.region;
   list = c.in_ok-list.list;
   running = None;
-  standing = None;
+  standing = c.in_ok-standing.standing;
+  loose = false;
   heap = c.lay.new.self;
   front = c.idle.result;
   tokens = c.in_ok-tokens.tokens;
@@ -29,7 +32,8 @@ lays g c = record {
   may = c.requires;
   begun = c.in_ok-list.ensures;
   none = refl;
-  empty = refl;
+  each = ap (λ (xs : List Bool). length xs) c.in_ok-standing.ensures ∙ length-replicate c.len.result false ∙ c.len.ensures ∙ c.in_ok-list.list.ok.0;
+  empty = λ u. ap (λ (xs : List Bool). stands xs u) c.in_ok-standing.ensures ∙ none_stood c.len.result u;
   idle = c.idle.ensures;
   laid = c.lay.ensures.laid;
   objects = c.lay.ensures.objects;

@@ -1,5 +1,5 @@
-use Rattle.std.proofs.Common.{refl, ap, arith}
-use Rattle.std.proofs.lemmas.List.{length-set}
+use Rattle.std.proofs.Common.{refl, ap}
+use Rattle.ct_engine.proofs.Whole.{each_same, the_runner}
 use Rattle.ct_areas.specs.declared.thread.Thread as row
 use Rattle.ct_engine.proofs.Stacks.{stacks_turn}
 use Rattle.ct_engine.proofs.Sifting.{filter_areas, filter_seen}
@@ -11,8 +11,9 @@ returns-clause-holds g c =
     record {
       areas = filter_areas gs c.args.rows.now c.args.t c.index_mut.result.now c.filter_row.new.t c.requires.holds c.requires.runs c.index_mut.ensures.value c.filter_row.ensures;
       runs = c.requires.holds.runs;
-      stands = λ u e. (let lt = c.requires.holds.stands u e in let size = length-set c.args.rows.now.list.items c.args.t c.filter_row.new.t in omega (arith, lt, size));
-      stacks = stacks_turn gs gs c.args.rows.now c.args.t c.index_mut.result.now c.filter_row.new.t c.requires.holds (c.requires.holds.stands c.args.t (c.requires.holds.runs c.args.t c.requires.runs)) c.index_mut.ensures.value refl
+      each = each_same c.requires.holds c.args.t c.filter_row.new.t;
+      settled = c.requires.holds.settled;
+      stacks = stacks_turn gs gs c.args.rows.now c.args.t c.index_mut.result.now c.filter_row.new.t c.requires.holds (the_runner c.requires.holds c.args.t c.requires.runs) c.index_mut.ensures.value refl
           (ap (λ (u : row.Thread). u.area) c.filter_row.ensures);
       heap = c.requires.holds.heap;
       room = c.requires.holds.room;

@@ -1,5 +1,5 @@
-use Rattle.std.proofs.Common.{refl, ap, arith}
-use Rattle.std.proofs.lemmas.List.{length-set}
+use Rattle.std.proofs.Common.{refl, ap}
+use Rattle.ct_engine.proofs.Whole.{each_same}
 use Rattle.ct_engine.proofs.Goes.{jump_areas, jump_seen}
 use Rattle.ct_areas.specs.declared.thread.Thread as row
 use Rattle.ct_engine.proofs.Stacks.{stacks_turn}
@@ -9,7 +9,8 @@ pub returns-clause-holds : goal.returns-clause-holds
 returns-clause-holds c = λ gs holds. record {
   areas = jump_areas gs c.args.rows.now c.args.t c.index_mut.result.now c.jump_row.new.t c.args.pcc c.args.posture c.args.to c.args.value holds c.requires.runs c.index_mut.ensures.value c.jump_row.ensures;
   runs = holds.runs;
-  stands = λ u e. (let lt = holds.stands u e in let size = length-set c.args.rows.now.list.items c.args.t c.jump_row.new.t in omega (arith, lt, size));
+  each = each_same holds c.args.t c.jump_row.new.t;
+  settled = holds.settled;
   stacks = stacks_turn gs gs c.args.rows.now c.args.t c.index_mut.result.now c.jump_row.new.t holds c.requires.there c.index_mut.ensures.value refl
       (ap (λ (u : row.Thread). u.area) c.jump_row.ensures);
   heap = holds.heap;

@@ -1,7 +1,7 @@
-use Rattle.std.proofs.Common.{◌∙◌, refl, ap, arith}
-use Rattle.std.proofs.lemmas.List.{length-set}
+use Rattle.std.proofs.Common.{◌≡◌, ◌∙◌, true, refl, sym, ap, subst}
 use Rattle.ct_areas.specs.declared.thread.Thread as row
-use Rattle.ct_engine.proofs.Whole.{refreshed_areas, refreshed_seen}
+use Rattle.ct_engine.specs.Seen.{stands}
+use Rattle.ct_engine.proofs.Whole.{some_is, none_is, in_rows, each_same, refreshed_areas, refreshed_seen}
 use Rattle.ct_engine.proofs.Stacks.{stacks_turn}
 use Rattle.ct_engine.proofs.turns.go_on.Goals as goal
 
@@ -11,10 +11,11 @@ returns-clause-holds g c =
     let rows = c.args.rows.now in
     let holds = c.requires.holds in
     record {
-      areas = refreshed_areas gs rows c.args.t c.index_mut.result.now c.refresh.new.row holds c.requires.stands c.index_mut.ensures.value c.refresh.ensures;
-      runs = λ u e. c.requires.stands ∙ e;
-      stands = λ u e. (let lt = holds.stands u e in let size = length-set rows.list.items c.args.t c.refresh.new.row in omega (arith, lt, size));
-      stacks = stacks_turn gs gs rows c.args.t c.index_mut.result.now c.refresh.new.row holds (holds.stands c.args.t c.requires.stands) c.index_mut.ensures.value refl
+      areas = refreshed_areas gs rows c.args.t c.index_mut.result.now c.refresh.new.row holds c.requires.stood c.index_mut.ensures.value c.refresh.ensures;
+      runs = λ u e. subst (λ n. stands rows.standing.items n ≡ true) (some_is c.args.t u e) c.requires.stood;
+      each = each_same holds c.args.t c.refresh.new.row;
+      settled = λ tight u stood. none_is u (sym c.requires.none ∙ holds.settled tight u stood);
+      stacks = stacks_turn gs gs rows c.args.t c.index_mut.result.now c.refresh.new.row holds (in_rows holds c.args.t c.requires.stood) c.index_mut.ensures.value refl
           (ap (λ (u : row.Thread). u.area) c.refresh.ensures);
       heap = holds.heap;
       room = holds.room;
@@ -22,4 +23,4 @@ returns-clause-holds g c =
 
 pub returns-clause-seen : goal.returns-clause-seen
 returns-clause-seen g c =
-    refreshed_seen (g.M.Memory.granules c.args.mem.now) c.args.rows.now c.args.t c.index_mut.result.now c.refresh.new.row c.requires.holds c.requires.stands c.index_mut.ensures.value c.refresh.ensures
+    refreshed_seen (g.M.Memory.granules c.args.mem.now) c.args.rows.now c.args.t c.index_mut.result.now c.refresh.new.row c.requires.holds c.requires.stood c.index_mut.ensures.value c.refresh.ensures

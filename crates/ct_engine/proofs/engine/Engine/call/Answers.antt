@@ -1,12 +1,11 @@
-use Rattle.std.proofs.Common.{refl, sym, ap, ◌∙◌, arith, subst}
-use Rattle.std.proofs.lemmas.List.{length-set}
+use Rattle.std.proofs.Common.{refl, sym, ap, ◌∙◌, subst}
 use Rattle.def_words.specs.declared.Cap.{Cap}
 use Rattle.def_step.specs.Switch.{Switched}
 use Rattle.def_machine.specs.State.{register}
 use Rattle.ct_switch.specs.Calls.{call_outcome, switch_in}
 use Rattle.ct_engine.specs.Seen.{Seen, engine_view, thread}
 use Rattle.ct_engine.specs.Calls.{MayCall, switch_at, after_call}
-use Rattle.ct_engine.proofs.Whole.{running_kept}
+use Rattle.ct_engine.proofs.Whole.{each_same, running_kept, the_runner}
 use Rattle.ct_engine.proofs.Stacks.{stacks_turn}
 use Rattle.ct_engine.proofs.Entering.{register_is, switch_is, may_is, call_sees, call_areas_by, call_heap_by, call_size}
 use Rattle.ct_engine.proofs.engine.Engine.call.Goals as goal
@@ -36,8 +35,9 @@ invariant_of-self g c =
       areas = call_areas_by gs hs rows c.args.t r c.call_row.new.t e holds runs c.index_mut.ensures.value may
           (switch_in gs e r) refl c.call_row.ensures.touches c.call_row.ensures.area c.call_row.ensures.kept;
       runs = holds.runs;
-      stands = λ u is. (let lt = holds.stands u is in let size = length-set rows.list.items c.args.t c.call_row.new.t in omega (arith, lt, size));
-      stacks = stacks_turn gs hs rows c.args.t r c.call_row.new.t holds (holds.stands c.args.t (holds.runs c.args.t runs)) c.index_mut.ensures.value
+      each = each_same holds c.args.t c.call_row.new.t;
+      settled = holds.settled;
+      stacks = stacks_turn gs hs rows c.args.t r c.call_row.new.t holds (the_runner holds c.args.t runs) c.index_mut.ensures.value
           (call_size gs hs r (switch_in gs e r) c.call_row.ensures.touches) c.call_row.ensures.area;
       heap = call_heap_by gs hs rows c.args.t r e holds runs c.index_mut.ensures.value may (switch_in gs e r) refl c.call_row.ensures.touches;
       room = holds.room;
