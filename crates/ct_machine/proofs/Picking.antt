@@ -1,5 +1,5 @@
 -- A round in which a thread is picked, and those that follow where it goes on quietly.
-use Rattle.std.proofs.Common.{ℕ, zero, suc, ◌+◌, ◌-◌, ◌≡◌, ◌≤◌, ◌<◌, ◌&&◌, Bool, true, false, not, is_none, if◌then◌else◌, List, Option, Some, None, refl, sym, ap, ◌∙◌, subst, arith}
+use Rattle.std.proofs.Common.{ℕ, zero, suc, ◌+◌, ◌-◌, ◌≡◌, ◌≤◌, Bool, false, if◌then◌else◌, Option, Some, None, refl, sym, ap, ◌∙◌, subst, arith}
 use Rattle.ct_entry.specs.declared.acts.Deed.{Deed}
 use Rattle.ct_entry.specs.declared.acts.Happened.{Happened}
 use Rattle.ct_entry.specs.declared.acts.Owned.{Owned}
@@ -20,7 +20,7 @@ use Rattle.ct_engine.specs.Seen.{Seen}
 use Rattle.ct_execute.proofs.Bursting.{goes_stays}
 use Rattle.ct_machine.specs.Parts.{state_by, IsKept}
 use Rattle.ct_machine.specs.Going.{silence, one_more_sweep, MayGoOn}
-use Rattle.ct_machine.specs.Onward.{rounds, RanOn}
+use Rattle.ct_machine.specs.Onward.{RanOn}
 use Rattle.ct_machine.specs.Quiet.{has_sweep, with_rounds, CarriedOn, GuardsNext, WentRounds}
 use Rattle.ct_machine.proofs.Appending.{both_ran, round_ran, same_machine}
 use Rattle.ct_machine.proofs.Bursting.{rounds_went, stays_open}
@@ -49,7 +49,8 @@ module _ (i : Image) (e : Seen) (r : SchedRow) (t : ℕ) (kept : IsKept i e r) (
   first_runs : (mid : Seen) → GoesOnce t e mid → mid.running ≡ Some t
   first_runs mid goes = ap (λ (x : Seen). x.running) (goes_stays e mid t goes).beside ∙ runs
 
-  -- before the first, nothing is hidden that the thread may reach, since its state is confined; later since the machine is guarded
+  -- before the first, nothing is hidden that the thread may reach, since its state is confined; later since the machine
+  -- is guarded
   pub open_on : Shut i → Confined i (stood e) → (most : ℕ) → StaysOpen t most e
   open_on shut held most zero mid few goes = subst (λ (x : Seen). IsOpen x t) (sym goes) (is_open i e r pending k.states time c t kept shut held runs)
   open_on shut held most (suc n) mid few goes =

@@ -58,12 +58,13 @@ pub record WentRounds (m n : MachineRow) (count : ℕ) : Type 0 where
   pub ran : RanOn m n count silence
   pub going : 0 < count → end_of m.state ≡ None
 
--- Where one instruction of the running thread that tells nothing leaves a machine guarded, whatever it leaves.
+-- Where the machine's running thread carries on and that tells nothing, what is left is guarded.
 pub record GuardsNext (m : MachineRow) : Type 0 where
-  pub each : (s : State) → (s, None) ≡ run_on m.board m.state → Guarded (record { board = m.board; state = s })
+  pub each : (s : State) → (s, None) ≡ run_on m.board m.state
+      → Guarded (record { board = m.board; state = s })
 
--- The running thread of machine m, which holds no interrupts off, carried on by an instruction that told nothing, and
--- rounds that told nothing followed, so many in all with it: they left machine n.
+-- The running thread of machine m carried on, which told nothing; after it none holds interrupts off, and there is no
+-- end. Rounds that told nothing followed, so many in all with it. The machine that is left is n, guarded.
 pub record CarriedOn (m n : MachineRow) (count : ℕ) : Type 0 where
   pub after : State
   pub first : (after, None) ≡ run_on m.board m.state

@@ -192,8 +192,8 @@ impl<M: Memory + Drop> Parts<M> {
         }
     }
 
-    /// The running thread carries on. Where it was picked just now an instruction that tells nothing is tried first, for
-    /// speed alone, since most go on so.
+    /// The running thread carries on. Where it was picked just now an instruction that tells nothing is tried first,
+    /// for speed alone, since most go on so.
     pub(crate) fn carry_on(&mut self, picked: bool) -> Option<Deed>
         requires may { MayGoOn self.old }
         requires deeds { deeds_of self.old.state.counts < self.old.state.counts.steps }

@@ -33,9 +33,9 @@ impl<M: Memory + Drop> Parts<M> {
         self.engine.window(t)
     }
 
-    /// A step of the running thread that isn't counted yet, where no tick is pending: `true` where its
-    /// instruction is carried out alone, and the step tells nothing, whatever was counted; else `false`, and nothing
-    /// changes.
+    /// A step of the running thread that isn't counted yet, where no tick is pending: `true` where its instruction is
+    /// carried out by itself, and the step tells nothing, whatever was counted; else `false`, and nothing changes.
+    /// Which are left is for speed alone.
     #[inline(always)]
     pub(crate) fn goes_quietly(&mut self, t: u32, window: &mut Window) -> bool
         requires guarded { Guarded self.old }
@@ -85,6 +85,7 @@ impl<M: Memory + Drop> Parts<M> {
 
     /// The running thread carries on by instructions that tell nothing, of which each but the first is one of a round
     /// where no sweep has work, at most `most`: how many. None where it holds interrupts off, or where no thread runs.
+    /// Which are left is for speed alone.
     ///
     /// The step of the first counts before, and what comes before it.
     pub(crate) fn run_picked(&mut self, most: u32) -> u32
@@ -100,37 +101,17 @@ impl<M: Memory + Drop> Parts<M> {
         ensures same { result ≡ 0 → self.new.state ≡ self.old.state }
         ensures board { self.new.board ≡ self.old.board }
     {
-        match self.engine.running() {
-            Some(t) => self.run_on_quietly(t, most),
-            None => 0,
+        if let Some(t) = self.engine.running() {
+            if !self.engine.posture(t).off {
+                let mut window = self.window(t);
+                let carried = self.engine.burst(t, &mut self.decoded, &mut window, most);
+                if carried > 0 {
+                    self.count_rounds(carried - 1);
+                }
+                return carried;
+            }
         }
-    }
-
-    /// The same of the thread that runs.
-    fn run_on_quietly(&mut self, t: u32, most: u32) -> u32
-        requires may { MayGoOn self.old }
-        requires next { GuardsNext self.old }
-        requires idle { has_sweep self.old.state ≡ false }
-        requires pending { self.old.state.pending ≡ false }
-        requires runs { self.old.state.running ≡ Some t }
-        requires some { 1 ≤ most }
-        requires steps { self.old.state.counts.steps + (most - 1) ≤ MOST_STEPS }
-        requires sweeps { self.old.state.counts.sweeps + (most - 1) ≤ MOST_STEPS }
-        ensures most { result ≤ most }
-        ensures carried { 1 ≤ result → CarriedOn self.old self.new result }
-        ensures same { result ≡ 0 → self.new.state ≡ self.old.state }
-        ensures board { self.new.board ≡ self.old.board }
-    {
-        if self.engine.posture(t).off {
-            return 0;
-        }
-        let mut window = self.window(t);
-        let carried = self.engine.burst(t, &mut self.decoded, &mut window, most);
-        if carried == 0 {
-            return 0;
-        }
-        self.count_rounds(carried - 1);
-        carried
+        0
     }
 
     /// Whether no sweep has work, no tick is pending and no thread runs.

@@ -67,8 +67,8 @@ impl<M: Memory + Drop> Parts<M> {
         made > 0 && self.ended().is_some()
     }
 
-    /// Rounds of the running thread under a sweep, with no tick pending, up to one whose step isn't carried out quietly,
-    /// one that ends the sweep, or the last that is asked for.
+    /// Rounds of the running thread under a sweep, with no tick pending, up to one whose step isn't carried out
+    /// quietly, one that ends the sweep, or the last that is asked for.
     fn swept_rounds(&mut self, t: u32, most: u32) -> Rounds
         requires guarded { Guarded self.old }
         requires pending { self.old.state.pending ≡ false }
@@ -98,8 +98,8 @@ impl<M: Memory + Drop> Parts<M> {
         silent(most)
     }
 
-    /// A round in which a thread is picked, where none runs, no tick is pending and no sweep has work; and where the
-    /// thread goes on quietly, more rounds of it, at most `most` in all.
+    /// A round where no thread runs, no tick is pending and no sweep has work: a thread is picked, where one is ready.
+    /// Where it goes on quietly, more rounds of it, for speed alone: at most `most` in all.
     fn picked_rounds(&mut self, most: u32) -> Rounds
         requires guarded { Guarded self.old }
         requires idle { has_sweep self.old.state ≡ false }
@@ -128,7 +128,8 @@ impl<M: Memory + Drop> Parts<M> {
         }
     }
 
-    /// One round; and where a thread is picked in it that goes on quietly, more rounds of it, at most `most` in all.
+    /// One round; and where it is one of `picked_rounds`, those that it adds: at most `most` in all. Which it adds is
+    /// for speed alone.
     fn next_rounds(&mut self, most: u32) -> Rounds
         requires guarded { Guarded self.old }
         requires some { 1 ≤ most }
@@ -148,7 +149,9 @@ impl<M: Memory + Drop> Parts<M> {
         }
     }
 
-    /// Rounds up to one that isn't quiet, and that one: at least one, and at most `most`.
+    /// At least one round, and at most `most`: those of `swept_rounds`, where a sweep has work, a thread runs and no
+    /// tick is pending. Else those of `run_quietly`; and unless these are `most`, or some that leave the machine at its
+    /// end, those of `next_rounds` from there on.
     fn rounds_and_one(&mut self, most: u32) -> Rounds
         requires guarded { Guarded self.old }
         requires some { 1 ≤ most }

@@ -1,43 +1,44 @@
 use Rattle.std.proofs.Common.{◌∙◌, arith, refl, sym, subst, ap}
+use Rattle.std.proofs.lemmas.Bool.{not-true}
 use Rattle.def_words.specs.declared.Posture.{Posture}
 use Rattle.def_machine.specs.Platform.{MachineRow}
 use Rattle.ct_machine.specs.Going.{MayGoOn}
 use Rattle.ct_machine.specs.Quiet.{has_sweep, CarriedOn, GuardsNext, IsThreadWindow}
-use Rattle.ct_machine.proofs.Bursting.{burst_kept, none_seen, runs_seen}
+use Rattle.ct_machine.proofs.Bursting.{burst_kept, none_seen}
 use Rattle.ct_machine.proofs.Keeping.{counted_so}
 use Rattle.ct_machine.proofs.Picking.{carried_by, open_on}
 use Rattle.ct_machine.proofs.Quietly.{window_in}
-use Rattle.ct_machine.proofs.parts.Parts.run_on_quietly.Goals as goal
+use Rattle.ct_machine.proofs.parts.Parts.run_picked.Goals as goal
 
 pub posture-requires : goal.posture-requires
-posture-requires g c = runs_seen _ c.args.self.now c.args.t c.self.view_is c.requires.runs
+posture-requires g c = sym c.in-Some.ensures
 
 pub burst-carried-requires-clause-runs : goal.burst-carried-requires-clause-runs
-burst-carried-requires-clause-runs g c = runs_seen _ c.args.self.now c.args.t c.self.view_is c.requires.runs
+burst-carried-requires-clause-runs g c = sym c.in-Some.ensures
 
 pub burst-carried-requires-clause-opened : goal.burst-carried-requires-clause-opened
 burst-carried-requires-clause-opened g c =
     let i = c.self.inside in
     let may = subst MayGoOn (sym c.self.view_is) c.requires.may in
-    open_on i.plan i.engine i.sched c.args.t c.self.invariant.0 i.bus i.pending i.time i.counts (runs_seen _ c.args.self.now c.args.t c.self.view_is c.requires.runs)
+    open_on i.plan i.engine i.sched c.in-Some.t c.self.invariant.0 i.bus i.pending i.time i.counts (sym c.in-Some.ensures)
     (none_seen _ c.args.self.now c.self.view_is c.requires.pending) (subst GuardsNext (sym c.self.view_is) c.requires.next) may.shut may.keeps.confined c.args.most
 
 pub burst-carried-requires-clause-window : goal.burst-carried-requires-clause-window
 burst-carried-requires-clause-window g c =
     let i = c.self.inside in
-    window_in i.plan i.engine i.sched i.bus i.pending i.time i.counts c.args.t c.window-window.result c.self.invariant.0
-    (subst (λ (m : MachineRow). IsThreadWindow m c.args.t c.window-window.result) (sym c.self.view_is) c.window-window.ensures)
+    window_in i.plan i.engine i.sched i.bus i.pending i.time i.counts c.in-Some.t c.window-window.result c.self.invariant.0
+    (subst (λ (m : MachineRow). IsThreadWindow m c.in-Some.t c.window-window.result) (sym c.self.view_is) c.window-window.ensures)
 
 pub invariant_of-self : goal.invariant_of-self
 invariant_of-self g c =
     let i = c.self.inside in
-    let after = burst_kept i.plan i.engine i.sched c.args.t c.self.invariant.0 c.burst-carried.result c.burst-carried.new.self c.burst-carried.ensures.goes in
+    let after = burst_kept i.plan i.engine i.sched c.in-Some.t c.self.invariant.0 c.burst-carried.result c.burst-carried.new.self c.burst-carried.ensures.goes in
     (after.0, counted_so i.counts i.time i.engine c.burst-carried.new.self _ after.1.beside refl c.self.invariant.1)
 
-pub invariant_of-self-2 : goal.invariant_of-self-2
-invariant_of-self-2 g c =
+pub invariant_of-self-else-carried-gt0 : goal.invariant_of-self-else-carried-gt0
+invariant_of-self-else-carried-gt0 g c =
     let i = c.self.inside in
-    let after = burst_kept i.plan i.engine i.sched c.args.t c.self.invariant.0 c.burst-carried.result c.burst-carried.new.self c.burst-carried.ensures.goes in
+    let after = burst_kept i.plan i.engine i.sched c.in-Some.t c.self.invariant.0 c.burst-carried.result c.burst-carried.new.self c.burst-carried.ensures.goes in
     (after.0, counted_so i.counts i.time i.engine c.burst-carried.new.self _ after.1.beside refl c.self.invariant.1)
 
 pub count_rounds-requires-clause-steps : goal.count_rounds-requires-clause-steps
@@ -54,12 +55,12 @@ count_rounds-requires-clause-sweeps g c =
     let same = ap (λ (m : MachineRow). m.state.counts.sweeps) c.self.view_is in
     omega (arith, few, room, same)
 
-pub returns-clause-carried : goal.returns-clause-carried
-returns-clause-carried g c some =
+pub returns-then-carried-gt0-clause-carried : goal.returns-then-carried-gt0-clause-carried
+returns-then-carried-gt0-clause-carried g c some =
     let i = c.self.inside in
     subst (λ (m : MachineRow). CarriedOn m c.count_rounds.new.self c.burst-carried.result) c.self.view_is
-    (carried_by i.plan i.engine i.sched c.args.t c.self.invariant.0 i.bus i.pending i.time i.counts (runs_seen _ c.args.self.now c.args.t c.self.view_is c.requires.runs)
+    (carried_by i.plan i.engine i.sched c.in-Some.t c.self.invariant.0 i.bus i.pending i.time i.counts (sym c.in-Some.ensures)
     (none_seen _ c.args.self.now c.self.view_is c.requires.pending) (subst GuardsNext (sym c.self.view_is) c.requires.next)
-    c.burst-carried.result c.burst-carried.new.self c.count_rounds.new.self (sym (ap (λ (p : Posture). p.off) c.posture.ensures) ∙ c.if-posture.false)
+    c.burst-carried.result c.burst-carried.new.self c.count_rounds.new.self (sym (ap (λ (p : Posture). p.off) c.posture.ensures) ∙ not-true _ c.if-not-posture.true)
     (ap (λ (m : MachineRow). has_sweep m.state) c.self.view_is ∙ c.requires.idle)
     c.burst-carried.ensures.goes c.count_rounds.ensures.state c.count_rounds.ensures.board some)
