@@ -39,8 +39,8 @@ IsApart lo hi a = (hi ≤ area_begin a) ⊎ (area_end a ≤ lo)
 
 -- ---- what it is
 
--- A thread that hasn't ended. Where `runs` its program counter capability and registers stand in its row, as they do from
--- its pick until it is put away, else in its area. Whether it is ready is the scheduler's.
+-- A thread that hasn't ended. Where `runs` its program counter capability and registers stand in its row, as they do
+-- from its pick until it is put away, else in its area. Whether it is ready is the scheduler's.
 abbrev pub living : List Granule → Bool → row.Thread → Thread
 living gs runs t = record {
   pcc = cond runs t.pcc (cap_in gs (area_begin t.area));

@@ -45,7 +45,8 @@ pub(crate) fn take<M: Memory>(register: &mut Live, mem: &M, ram: u32, at: u32)
     filter_in_place(register, mem, ram);
 }
 
-/// The same of a saved link: the answer is its type and its source, as they were saved.
+/// A register gets the saved link that a granule holds, through the load filter. The answer is the type and the source
+/// of the link, as they were saved.
 pub(crate) fn take_link<M: Memory>(register: &mut Live, mem: &M, ram: u32, at: u32) -> (u32, u32)
     requires even { at % 8 ≡ 0 }
     requires inside { at + 8 ≤ 8 * length (M.granules mem.now) }

@@ -93,7 +93,8 @@ pub fn innermost_export<M: Memory>(t: &Thread, mem: &M) -> u32
     words(mem.load_cap(at + 40).word).0
 }
 
-/// Registers become those of the caller that a frame keeps. c10 and c11 stay.
+/// c2, c3, c8 and c9 are taken from the frame at an offset, each through the load filter. c10 and c11 stay, and the
+/// other registers become 0.
 fn take_kept<M: Memory>(regs: &mut [Live; 16], mem: &M, ram: u32, at: u32)
     requires even { at % 8 ≡ 0 }
     requires inside { at + FRAME_SIZE ≤ 8 * length (M.granules mem.now) }
@@ -121,9 +122,9 @@ fn take_kept<M: Memory>(regs: &mut [Live; 16], mem: &M, ram: u32, at: u32)
     regs[15] = none;
 }
 
-/// The program counter capability and the registers of the innermost frame's caller come back: the saved c1, and what
-/// the frame keeps, each through the load filter. c10 and c11 stay. The answer is the type and the source of the saved
-/// c1, as they were saved.
+/// The program counter capability is taken from the innermost frame's saved c1, and c2, c3, c8 and c9 from those that
+/// it keeps, each through the load filter. c10 and c11 stay, the other registers become 0, and the frame stays where it
+/// is. The answer is the type and the source of the saved c1, as they were saved.
 pub fn take_back<M: Memory>(t: &mut Thread, mem: &M) -> (u32, u32)
     requires area { HasArea (8 * length (M.granules mem.now)) t.old.area }
     requires some { 0 < t.old.depth }

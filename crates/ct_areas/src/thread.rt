@@ -45,8 +45,9 @@ pub struct Fresh {
 /// What is kept of a thread beside its area: program counter capability, registers and posture, how many frames it
 /// has, and of the innermost its top, its compartment, and whether its error handler was entered.
 ///
-/// The frames stand in the area (docs/build/inside.md), and so do program counter capability and registers from when the
-/// thread is put away until it is picked. A thread without frames has ended.
+/// The frames stand in the area (docs/build/inside.md). So do program counter capability and registers from when the
+/// thread is put away until it is picked, and those of a thread that never was picked from its start. A thread without
+/// frames has ended.
 #[derive(Drop)]
 pub struct Thread {
     pub pcc: Live,

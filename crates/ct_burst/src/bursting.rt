@@ -126,8 +126,8 @@ struct Course {
     turned: bool,
 }
 
-/// Instructions of a row whose address a window holds, up to one that is left, one that leads out of the window, or the
-/// last that is asked for.
+/// Instructions of a row whose address a window holds, up to one that is left, one that may lead out of the window, or
+/// the last that is asked for.
 fn run<M: Memory>(
     row: &mut Thread,
     mem: &mut M,

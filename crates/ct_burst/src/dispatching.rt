@@ -22,8 +22,7 @@ pub(crate) struct InBurst;
 /// Who carries an instruction out: `once`.
 pub(crate) struct Alone;
 
-/// An instruction is carried out, or left. Each of who carries it out has a copy of this code, which so is laid out
-/// where it stands.
+/// An instruction is carried out, or left. Who carries it out has a copy of this code of its own, for speed alone.
 #[inline(always)]
 pub(crate) fn carry<M: Memory, Who>(
     row: &mut Thread,

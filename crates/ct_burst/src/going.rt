@@ -14,9 +14,9 @@ use ct_threads::{Window, branch_row, read_ref};
 
 /// What became of an instruction.
 ///
-/// `Loud`: it was left, and nothing changed. `Went`, `Led` and `Turned`: it was carried out. After `Went` the row is at the
-/// next address, after `Led` at one that the window holds; after both it is tagged, at a multiple of 4, and the window
-/// suits it as before. After `Turned` nothing more is known.
+/// `Loud`: it was left, and nothing changed. `Went`, `Led` and `Turned`: it was carried out. After `Went` the row is at
+/// the next address, after `Led` at one that the window holds; after both it is tagged, at a multiple of 4, and the
+/// window suits it as before. After `Turned` nothing more is known.
 #[derive(Clone, Copy, PartialEq, Eq, Drop)]
 pub(crate) enum Quietly {
     Loud,

@@ -66,8 +66,8 @@ impl Decoded {
 
     /// What the word at an address says comes into its slot, and what stood there beside it.
     ///
-    /// Each is written once, and no other slot: for speed alone, since a slot that holds another word is filled anew. The
-    /// slot is found again here, so that who calls it needn't keep its number.
+    /// Each is written once, and no other slot: for speed alone, since a slot that holds another word is filled anew.
+    /// The slot is found again here, so that who calls it needn't keep its number.
     #[inline(never)]
     fn fill(&mut self, at: u32, word: u32)
         ensures { slice_index_or self.new (slot_at at) (reading_of 0) ≡ reading_of word }
@@ -79,6 +79,8 @@ impl Decoded {
     }
 
     /// Whether the slot of an address holds what this word says.
+    ///
+    /// `false` says nothing: the slot is filled anew, which costs time alone.
     #[inline(always)]
     fn holds(&self, at: u32, word: u32) -> bool
         ensures { result ≡ true

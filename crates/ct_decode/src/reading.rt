@@ -8,8 +8,8 @@ ghost use Rattle.ct_decode.specs.Reading.{read_as, reading_of, AreRegisters};
 use ct_isa::decode;
 use def_instr::Instr;
 
-/// A word of code, and the instruction that it says. A word that is no instruction's has the breakpoint. `room` is 0: with
-/// it a reading has 32 bytes, so that a shift finds the one at a slot.
+/// A word of code, and the instruction that it says. A word that is no instruction's has the breakpoint. `room` is 0:
+/// with it a reading has 32 bytes, so that a shift finds the one at a slot.
 #[derive(Clone, Copy, Drop)]
 pub struct Reading {
     pub word: u32,

@@ -1,22 +1,15 @@
 -- A step of a burst, seen of an engine, is the written decision, and leaves as much RAM as there was.
-use Rattle.std.proofs.Common.{ℕ, ◌≡◌, List, length, Option, None, Some, Result, Ok, Err, refl, sym, ap, ◌∙◌, subst}
+use Rattle.std.proofs.Common.{ℕ, ◌≡◌, List, length, Option, Result, Ok, Err, sym, ap, ◌∙◌, subst}
 use Rattle.ct_entry.specs.Listed.{Listed}
 use Rattle.def_words.specs.declared.Cap.{Cap}
 use Rattle.def_words.specs.declared.Trap.{Trap}
 use Rattle.def_memory.specs.declared.Granule.{Granule}
-use Rattle.def_instr.specs.declared.Instr.{Instr}
 use Rattle.def_machine.specs.State.{Thread, register}
-use Rattle.def_step.specs.declared.Class.{Class}
-use Rattle.def_step.specs.declared.Class.TheVariants as class
 use Rattle.def_step.specs.declared.Next.{Next}
-use Rattle.def_step.specs.Accesses.{Accessed, access_of, access_address, access_result, unless}
 use Rattle.def_step.specs.Devices.{DeviceStates}
-use Rattle.def_step.specs.Instructions.{Context, Effect, accesses, carried_out, flows}
-use Rattle.def_step.specs.Jumps.{Flowed, flow_result}
-use Rattle.def_step.specs.Operands.{class_of, operands_of}
-use Rattle.ct_loadstore.proofs.Sizes.{accessed_size}
-use Rattle.ct_threads.specs.Steps.{no_bank}
-use Rattle.ct_burst.specs.Going.{context, outcome, IsQuiet}
+use Rattle.def_step.specs.Instructions.{Effect}
+use Rattle.def_step.specs.Operands.{operands_of}
+use Rattle.ct_burst.specs.Going.{outcome, IsQuiet}
 use Rattle.ct_engine.proofs.Outcomes.{once_size}
 use Rattle.ct_engine.specs.Bursts.{GoesOnce}
 use Rattle.ct_engine.specs.Seen.{after_jump, thread, with_granules, with_thread, Seen}

@@ -6,7 +6,8 @@
 //! change of these rows that *Heap* of def_machine says: the place of an allocation is the least lawful one,
 //! a free quarantines, painted objects leave when they are flushed. In memory heads of chunks are written and
 //! nothing else, but that an object's granules are zeroed when it is placed and when it is freed, and that marks
-//! are set and cleared. A refusal changes nothing, and no call but `new` takes memory. docs/build/inside.md tells how a heap lies in memory.
+//! are set and cleared. A refusal changes nothing, and no call but `new` takes memory. docs/build/inside.md tells how a
+//! heap lies in memory.
 #![tactic(auto)]
 
 mod accounts;

@@ -1,6 +1,6 @@
 //! The load filter.
 
-ghost use Rattle.std.specs.Prelude.{◌≡◌, ◌&&◌, ◌+◌, ◌*◌, ◌≤◌, ◌<◌, ◌^◌, length};
+ghost use Rattle.std.specs.Prelude.{◌≡◌};
 ghost use Rattle.def_machine.specs.Memory.{filtered_in, is_marked_in};
 
 use ct_cap::{Live, untag};
@@ -22,8 +22,8 @@ fn is_marked<M: Memory>(mem: &M, ram: u32, address: u64) -> bool
     mem.marked(at as u32)
 }
 
-/// The load filter on a capability where it stands: it loses its tag where its base lies in a marked granule. RAM begins
-/// at `ram`.
+/// The load filter on a capability where it stands: it loses its tag where its base lies in a marked granule. RAM
+/// begins at `ram`.
 #[inline(always)]
 pub fn filter_in_place<M: Memory>(c: &mut Live, mem: &M, ram: u32)
     ensures { c.new ≡ filtered_in ram (M.granules mem.now) c.old }

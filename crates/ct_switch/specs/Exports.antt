@@ -55,7 +55,7 @@ AreTogether rows b =
     → is_export_of b (row_at rows k) ≡ true
     → is_export_of b (row_at rows j) ≡ true
 
--- a row at or before an index is an export of a compartment, and the one before it isn't
+-- a row at or before an index is an export of a compartment, and the one right before it, where there is one, isn't
 pub record IsFirstUpTo (index : ℕ) (rows : List Entry) (b first : ℕ) : Type 0 where
   pub back : first ≤ index
   pub export : is_export_of b (row_at rows first) ≡ true

@@ -64,7 +64,8 @@ pub fn is_export_of(home: u32, row: Entry) -> bool
     }
 }
 
-/// The index of the first of the exports of a compartment that stand together up to an index, by halves.
+/// The index of an export of a compartment, at or before an index, by halves. The row right before it, where there is
+/// one, is no export of it. Where those of the compartment stand together it is the first of them.
 #[inline(never)]
 fn first_far(rows: &[Entry], home: u32, index: usize) -> usize
     requires inside { index < length rows.now }
@@ -84,8 +85,7 @@ fn first_far(rows: &[Entry], home: u32, index: usize) -> usize
     high
 }
 
-/// The index of the first of the exports of a compartment that stand together up to an index: a few rows back one after
-/// another, and from there by halves.
+/// The same: a few rows back one after another, and from there by halves.
 fn first_of(rows: &[Entry], home: u32, index: usize) -> usize
     requires inside { index < length rows.now }
     requires is { is_export_of home (slice_index_or rows.now index no_row) ≡ true }
