@@ -34,7 +34,7 @@ MARKED = {
         "inner": "instruction one_instruction shape",
     },
     "ct_capstep": {
-        "inner": "derived",
+        "inner": "derived upper_offset",
     },
     "ct_source": {
         "inner": "CompactNumber::number CompactTarget::target CompactPart::part",
