@@ -3,9 +3,9 @@
 
     terminal.py [--type TEXT] [--keys SECONDS] [--output FILE] WORD..
 
-TEXT is typed once something was written, or after SECONDS: `^C` in it interrupts, `^D` ends the input. Standard output
-goes to FILE where one is named, and else to the terminal. A carriage return is written as `<`, and what erases a line
-as `_`. A command that hasn't ended after a minute is ended, with the status `none`.
+TEXT is typed once something was written and nothing follows for a while, or after SECONDS: `^C` in it interrupts, `^D`
+ends the input. Standard output goes to FILE where one is named, and else to the terminal. A carriage return is written
+as `<`, and what erases a line as `_`. A command that hasn't ended after a minute is ended, with the status `none`.
 """
 import argparse
 import os
@@ -16,6 +16,8 @@ import sys
 import time
 
 SECONDS = 60
+# A command that was quiet for so long reads: an interrupt just before its read would wait for the read's end.
+QUIET = 0.3
 SHOWN = [(b"\r\n", b"\n"), (b"\r", b"<"), (b"\033[K", b"_")]
 
 
@@ -40,10 +42,10 @@ def run(options):
         os.execvp(options.words[0], options.words)
     keys = options.type.replace("^C", "\3").replace("^D", "\4").encode()
     begun, out = time.monotonic(), b""
-    while (piece := read(terminal, 0.1)) is not None:
+    while (piece := read(terminal, QUIET)) is not None:
         out += piece
         passed = time.monotonic() - begun
-        if keys and (passed > options.keys if options.keys else out):
+        if keys and (passed > options.keys if options.keys else out and not piece):
             os.write(terminal, keys)
             keys = b""
         if passed > SECONDS:
