@@ -29,9 +29,9 @@ fn put_registers<M: Memory>(registers: &[Live; 16], mem: &mut M, at: u32)
     }
 }
 
-/// A thread stops: its program counter capability and its registers go to its area. The row stays.
+/// A thread is put away: its program counter capability and its registers go to its area. The row stays.
 ///
-/// A thread whose c0 is zero, as each one's is, is stopped what it was running. Nothing is refused.
+/// A thread whose c0 is zero, as each one's is, is what it was. Nothing is refused.
 pub fn save<M: Memory>(t: &mut Thread, mem: &mut M)
     requires area { HasArea (8 * length (M.granules mem.old)) t.old.area }
     requires room { t.old.depth ≤ frames_most t.old.area }
@@ -62,8 +62,8 @@ fn take_registers<M: Memory>(registers: &mut [Live; 16], mem: &M, ram: u32, at: 
     }
 }
 
-/// A stopped thread is picked: its program counter capability and its registers come from its area, through the load
-/// filter, and their granules are zeroed. Nothing else of the row changes, and nothing is refused.
+/// A thread that is put away is picked: its program counter capability and its registers come from its area, through
+/// the load filter, and their granules are zeroed. Nothing else of the row changes, and nothing is refused.
 pub fn resume<M: Memory>(t: &mut Thread, mem: &mut M)
     requires area { HasArea (8 * length (M.granules mem.old)) t.old.area }
     requires room { t.old.depth ≤ frames_most t.old.area }

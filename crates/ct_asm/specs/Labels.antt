@@ -53,7 +53,8 @@ WithinLimit (Some l) = l.offset ≤ limit
 abbrev pub AreWithin : List (Name × Label) → Type 0
 AreWithin rows = (name : Name) → WithinLimit (label_named name rows)
 
--- what an object is to its statements: they have no fault, its bytes are theirs, and each label is the first of its name
+-- what an object is to its statements: they have no fault, its bytes are theirs, and each label is the first of its
+-- name
 pub record IsAssembled (all : Statements) (slots : List Name) (o : Assembled) : Type 0 where
   pub faultless : fault_in all ≡ None
   pub text : o.text ≡ text_of all slots

@@ -64,9 +64,9 @@ fn passed(unsealed: bool, mutable: bool, globals: bool) -> u32
 pub fn open(l: Live) -> Live
     ensures { result ≡ opened l }
 {
-    let mut open = l;
-    open_in_place(&mut open);
-    open
+    let mut target = l;
+    open_in_place(&mut target);
+    target
 }
 
 /// A jump's link: the program counter capability after the instruction as a return sentry, of type 4

@@ -46,8 +46,8 @@ away_holds gs hs rows holds size same = record {
   areas = areas_same rows.region.ram gs hs rows.standing.items rows.standing.items 0 rows.region.trusted rows.region.end rows.list.items holds.areas size
       (λ m lo hi. same m (region_hidden gs rows m (hidden_is rows.region m lo hi))) (λ u lo. refl);
   runs = holds.runs;
-  each = holds.each;
-  settled = holds.settled;
+  sizes = holds.sizes;
+  alone = holds.alone;
   stacks = subst (λ n. Each (StackLies rows.region rows.heap.range.base (8 * n)) (map (λ (t : row.Thread). t.area) rows.list.items)) (sym size) holds.stacks;
   heap = heap_holds gs hs rows.region rows.heap rows.front holds.heap size (heap_stays gs hs rows holds same);
   room = holds.room;

@@ -49,11 +49,11 @@ areas_last ram gs n from to [] t h above base kept between =
 areas_last ram gs n from to (u ∷ us) t h above base kept between =
     (h.0, h.1, h.2, areas_last ram gs (n + 1) (u.area.trusted + u.area.trusted_length) to us t h.3 above base kept between, h.4)
 
-areas_more : (ram : ℕ) (gs : List Granule) (run : List Bool) (n from to more : ℕ) (ts : List row.Thread) → to ≤ more → ArePlain ram gs to more
-    → AreasFrom ram gs run n from to ts → AreasFrom ram gs run n from more ts
-areas_more ram gs run n from to more [] le past h = (let low = h.0 in omega (arith, low, le), plain_both ram gs from to more h.1 past)
-areas_more ram gs run n from to more (t ∷ ts) le past h =
-    (h.0, h.1, h.2, areas_more ram gs run (n + 1) (t.area.trusted + t.area.trusted_length) to more ts le past h.3, h.4)
+areas_more : (ram : ℕ) (gs : List Granule) (standing : List Bool) (n from to more : ℕ) (ts : List row.Thread) → to ≤ more → ArePlain ram gs to more
+    → AreasFrom ram gs standing n from to ts → AreasFrom ram gs standing n from more ts
+areas_more ram gs standing n from to more [] le past h = (let low = h.0 in omega (arith, low, le), plain_both ram gs from to more h.1 past)
+areas_more ram gs standing n from to more (t ∷ ts) le past h =
+    (h.0, h.1, h.2, areas_more ram gs standing (n + 1) (t.area.trusted + t.area.trusted_length) to more ts le past h.3, h.4)
 
 fresh_ends : (ram size from to : ℕ) (fs : List Fresh) → AreFresh ram size from to fs → from ≤ to
 fresh_ends ram size from to [] h = h

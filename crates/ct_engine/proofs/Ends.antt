@@ -10,7 +10,7 @@ use Rattle.ct_areas.specs.Threads.{area_begin, area_end}
 use Rattle.ct_threads.specs.Kept.{IsKept}
 use Rattle.ct_engine.specs.declared.rows.Rows.{Rows}
 use Rattle.ct_engine.specs.Kept.{AreasFrom, IsEngine}
-use Rattle.ct_engine.proofs.Lists.{OthersRun}
+use Rattle.ct_engine.proofs.Lists.{OthersStand}
 use Rattle.ct_engine.specs.Seen.{stands}
 use Rattle.ct_engine.proofs.Whole.{the_runner, areas_turn, some_is, none_is, there_in, set_stands, others_stand}
 
@@ -21,8 +21,8 @@ area_of_row (u ∷ us) (suc t) d r lt = area_of_row us t d r (omega (arith, lt))
 
 -- ---- the running thread goes on
 
-pub stays_on : (run : List Bool) (t : ℕ) → OthersRun run run t
-stays_on run t = λ u no_. refl
+pub stays_on : (standing : List Bool) (t : ℕ) → OthersStand standing standing t
+stays_on standing t = λ u no_. refl
 
 pub call_areas : (gs hs : List Granule) (rows : Rows) (t : ℕ) (r q : row.Thread) → IsEngine gs rows → rows.running ≡ Some t → r ≡ get_or rows.list.items t r
     → Touches (area_begin r.area) (area_end r.area) gs hs → q.area ≡ r.area → IsKept hs true q
@@ -33,19 +33,19 @@ call_areas gs hs rows t r q holds runs is touches place kept =
 
 -- ---- the running thread goes on or ends
 
-pub number_is : {gs : List Granule} {rows : Rows} → IsEngine gs rows → (t : ℕ) (more : Bool) → rows.running ≡ Some t → stands (set rows.standing.items t more) t ≡ more
-number_is {gs} {rows} holds t more runs = set_stands rows.standing.items t more (there_in holds t (the_runner holds t runs))
+pub ended_stands : {gs : List Granule} {rows : Rows} → IsEngine gs rows → (t : ℕ) (more : Bool) → rows.running ≡ Some t → stands (set rows.standing.items t more) t ≡ more
+ended_stands {gs} {rows} holds t more runs = set_stands rows.standing.items t more (there_in holds t (the_runner holds t runs))
 
 pub end_runs : {gs : List Granule} {rows : Rows} → IsEngine gs rows → (t : ℕ) (more : Bool) → rows.running ≡ Some t
     → (u : ℕ) → (let o : Option ℕ = cond more (Some t) None in o) ≡ Some u → stands (set rows.standing.items t more) u ≡ true
-end_runs {gs} {rows} holds t true runs u e = subst (λ n. stands (set rows.standing.items t true) n ≡ true) (some_is t u e) (number_is holds t true runs)
+end_runs {gs} {rows} holds t true runs u e = subst (λ n. stands (set rows.standing.items t true) n ≡ true) (some_is t u e) (ended_stands holds t true runs)
 end_runs holds t false runs u e = none_is u e
 
 pub end_settled : {gs : List Granule} {rows : Rows} → IsEngine gs rows → (t : ℕ) (more : Bool) → rows.running ≡ Some t → rows.loose ≡ false
     → (u : ℕ) → stands (set rows.standing.items t more) u ≡ true → (let o : Option ℕ = cond more (Some t) None in o) ≡ Some u
 end_settled {gs} {rows} holds t more runs tight u stood = elim (cases_eq u t) [
-  | inl e ↦ goes_on more (sym (number_is holds t more runs) ∙ ap (λ n. stands (set rows.standing.items t more) n) (sym e) ∙ stood) ∙ ap (λ n. let o : Option ℕ = Some n in o) (sym e)
-  | inr no_ ↦ absurd (no_ (sym (some_is t u (sym runs ∙ holds.settled tight u (sym (others_stand rows.standing.items t more u no_) ∙ stood)))))
+  | inl e ↦ goes_on more (sym (ended_stands holds t more runs) ∙ ap (λ n. stands (set rows.standing.items t more) n) (sym e) ∙ stood) ∙ ap (λ n. let o : Option ℕ = Some n in o) (sym e)
+  | inr no_ ↦ absurd (no_ (sym (some_is t u (sym runs ∙ holds.alone tight u (sym (others_stand rows.standing.items t more u no_) ∙ stood)))))
 ]
   where
     goes_on : (b : Bool) → b ≡ true → (let o : Option ℕ = cond b (Some t) None in o) ≡ Some t

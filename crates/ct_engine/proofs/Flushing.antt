@@ -1,5 +1,5 @@
--- Where none of what is seen is a capability of a painted object, none of memory is: what is hidden is a saved capability
--- or a plain word in the region, and untagged in the heap.
+-- Where none of what is seen is a capability of a painted object, none of memory is: what is hidden is a saved
+-- capability or a plain word in the region, and untagged in the heap.
 use Rattle.std.proofs.Common.{ℕ, zero, suc, ◌≡◌, ◌+◌, ◌-◌, ◌*◌, ◌/◌, ◌%◌, ◌<◌, ◌≤◌, inl, inr, Bool, true, false, List, [], ◌∷◌, length, refl, sym, ap, ◌∙◌, arith, subst}
 use Rattle.std.proofs.Math.ListN.{get_or}
 use Rattle.def_profile.specs.Areas.{area_length}
@@ -114,26 +114,26 @@ begins_by size a k has le = begin_numbers a.ram a.trusted k has.low le
 ends_by : (size : ℕ) (a : Area) (k : ℕ) → HasArea size a → a.ram + 8 * k < a.trusted + a.trusted_length → k < area_end a
 ends_by size a k has lt = end_numbers a.ram a.trusted a.trusted_length (frames_most a) k has.ram has.even has.low has.whole lt
 
-areas_clean : (objects : List Object) (ram : ℕ) (gs : List Granule) (run : List Bool) (n from to : ℕ) (ts : List row.Thread) → AreasFrom ram gs run n from to ts
-    → ((t : ℕ) → Each (SavedClean objects) (get_or (threads_of gs run n ts) t nobody).frames)
-    → ((t : ℕ) → stands run (n + t) ≡ false → StoppedClean objects (get_or (threads_of gs run n ts) t nobody))
+areas_clean : (objects : List Object) (ram : ℕ) (gs : List Granule) (standing : List Bool) (n from to : ℕ) (ts : List row.Thread) → AreasFrom ram gs standing n from to ts
+    → ((t : ℕ) → Each (SavedClean objects) (get_or (threads_of gs standing n ts) t nobody).frames)
+    → ((t : ℕ) → stands standing (n + t) ≡ false → StoppedClean objects (get_or (threads_of gs standing n ts) t nobody))
     → (k : ℕ) → from ≤ ram + 8 * k → ram + 8 * k < to → NotStale objects (cap_in gs k)
-areas_clean objects ram gs run n from to [] areas frames stopped k lo hi = plain_clean objects (cap_in gs k) (areas.1 k lo hi)
-areas_clean objects ram gs run n from to (t ∷ ts) areas frames stopped k lo hi = elim (lt_tells (ram + 8 * k) t.area.trusted) [
+areas_clean objects ram gs standing n from to [] areas frames stopped k lo hi = plain_clean objects (cap_in gs k) (areas.1 k lo hi)
+areas_clean objects ram gs standing n from to (t ∷ ts) areas frames stopped k lo hi = elim (lt_tells (ram + 8 * k) t.area.trusted) [
   | inl a ↦ plain_clean objects (cap_in gs k) (areas.4 k lo a.1)
   | inr a ↦ elim (lt_tells (ram + 8 * k) (t.area.trusted + t.area.trusted_length)) [
     | inl b ↦ (let base = areas.1 in
         let here : n + zero ≡ n = omega arith in
-        let kept : IsKept gs (stands run n) t = areas.2 in
+        let kept : IsKept gs (stands standing n) t = areas.2 in
         let low = a.1 in
         let high = b.1 in
         let begins = begins_by (8 * length gs) t.area k kept.area (omega (arith, low, base)) in
         let ends = ends_by (8 * length gs) t.area k kept.area (omega (arith, high, base)) in
         elim (kept.clean k begins ends) [
-          | inl s ↦ saved_clean objects gs (stands run n) t (frames zero) (λ off. stopped zero (rw here off)) k begins s
+          | inl s ↦ saved_clean objects gs (stands standing n) t (frames zero) (λ off. stopped zero (rw here off)) k begins s
           | inr p ↦ plain_clean objects (cap_in gs k) p
         ])
-    | inr b ↦ areas_clean objects ram gs run (n + 1) (t.area.trusted + t.area.trusted_length) to ts areas.3 (λ u. frames (suc u))
+    | inr b ↦ areas_clean objects ram gs standing (n + 1) (t.area.trusted + t.area.trusted_length) to ts areas.3 (λ u. frames (suc u))
         (λ u off. stopped (suc u) (let next : n + suc u ≡ n + 1 + u = omega arith in rw next off)) k b.1 hi
   ]
 ]

@@ -1,4 +1,5 @@
--- A free, over all that is seen: the object is zeroed and marked, and the running thread's registers pass the load filter.
+-- A free, over all that is seen: the object is zeroed and marked, and the running thread's registers pass the load
+-- filter.
 use Rattle.std.proofs.Common.{ℕ, zero, suc, ◌≡◌, ◌+◌, ◌-◌, ◌*◌, ◌≤◌, ◌<◌, ◌==◌, ◌&&◌, ◌||◌, ◌⊎◌, inl, inr, Bool, true, false, not, nat_eq, nat_le, nat_lt, List, [], ◌∷◌, map, Some, None, refl, sym, ap, ◌∙◌, subst, arith}
 use Rattle.std.specs.Prelude.{find}
 use Rattle.std.proofs.Math.ListN.{get_or, set}

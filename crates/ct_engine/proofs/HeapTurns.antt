@@ -76,8 +76,8 @@ turned_holds gs hs rows n front holds t laid clear within =
       areas = areas_same rows.region.ram gs hs rows.standing.items rows.standing.items 0 rows.region.trusted rows.region.end rows.list.items holds.areas t.size
           (region_same gs hs rows n holds t) (λ u lo. refl);
       runs = holds.runs;
-      each = holds.each;
-      settled = holds.settled;
+      sizes = holds.sizes;
+      alone = holds.alone;
       stacks = subst (λ b. Each (StackLies rows.region b (8 * length hs)) (map (λ (r : row.Thread). r.area) rows.list.items)) (sym base)
           (subst (λ m. Each (StackLies rows.region rows.heap.range.base (8 * m)) (map (λ (r : row.Thread). r.area) rows.list.items)) (sym t.size) holds.stacks);
       heap = record {

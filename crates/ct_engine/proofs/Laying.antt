@@ -41,7 +41,7 @@ pub record Lays (was gs hs : List Granule) (rows : Rows) (fs : List Fresh) (h : 
   pub may : MayStart was rows.region fs h
   pub begun : HaveBegun rows.region was gs rows.list.items fs
   pub none : rows.running ≡ None
-  pub each : length rows.standing.items ≡ length rows.list.items
+  pub sizes : length rows.standing.items ≡ length rows.list.items
   pub empty : (u : ℕ) → stands rows.standing.items u ≡ false
   pub idle : rows.front ≡ None
   pub laid : Laid rows.heap hs
@@ -183,9 +183,9 @@ laid_holds was gs hs rows fs h l =
     let size : length hs ≡ length was = l.stays.size ∙ l.begun.size in
     record {
       areas = areas_same rows.region.ram gs hs [] rows.standing.items 0 rows.region.trusted rows.region.end rows.list.items l.begun.areas l.stays.size (region_same was gs hs rows fs h l) (λ u lo. l.empty u);
-      each = l.each;
+      sizes = l.sizes;
       runs = λ u e. none_is u (sym l.none ∙ e);
-      settled = λ tight u stood. absurd (let clash : true ≡ false = sym stood ∙ l.empty u in cc);
+      alone = λ tight u stood. absurd (let clash : true ≡ false = sym stood ∙ l.empty u in cc);
       stacks = subst (λ (as_ : List Area). Each (StackLies rows.region rows.heap.range.base (8 * length hs)) as_) (sym l.begun.places)
           (subst (λ b. Each (StackLies rows.region b (8 * length hs)) (map (λ (f : Fresh). f.area) fs)) (sym base)
           (subst (λ m. Each (StackLies rows.region h.range.base (8 * m)) (map (λ (f : Fresh). f.area) fs)) (sym size) l.may.stacks));

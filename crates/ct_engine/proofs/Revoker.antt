@@ -22,7 +22,7 @@ use Rattle.law_hidden.proofs.Slices.{kept_length}
 use Rattle.law_hidden.proofs.Objects.{seen_place}
 use Rattle.ct_engine.specs.declared.rows.Rows.{Rows}
 use Rattle.ct_engine.specs.Seen.{Seen, region_hides, hidden, engine_view}
-use Rattle.ct_engine.specs.Kept.{IsClear, IsEngine, OneStands}
+use Rattle.ct_engine.specs.Kept.{IsClear, IsEngine, OnlyRunnerStands}
 use Rattle.ct_engine.specs.Sweeps.{NoneLeft, size_of, passes, began, over, with_slice, slice_end, passed_on}
 use Rattle.ct_engine.proofs.Clear.{clear_tags}
 use Rattle.ct_engine.proofs.Flushing.{none_stale}
@@ -272,7 +272,7 @@ pub record Mid (hs : List Granule) (rows : Rows) (v : Seen) (low high : ℕ) : T
   pub holds : IsEngine hs rows
   pub is : engine_view hs rows ≡ with_slice v low high
 
-pub slice_mid : (gs hs : List Granule) (rows : Rows) (v : Seen) (rate : ℕ) (front : Option ℕ) → engine_view gs rows ≡ v → IsEngine gs rows → OneStands rows.standing.items rows.running
+pub slice_mid : (gs hs : List Granule) (rows : Rows) (v : Seen) (rate : ℕ) (front : Option ℕ) → engine_view gs rows ≡ v → IsEngine gs rows → OnlyRunnerStands rows.standing.items rows.running
     → front ≡ Some (min (unwrap_or rows.front 0 + 8 * rate) (8 * length gs)) → IsSliced rows.region.ram (unwrap_or rows.front 0) (unwrap_or front 0) gs hs
     → Mid hs (with_front rows front) v (unwrap_or rows.front 0) (slice_end v rate (unwrap_or rows.front 0))
 slice_mid gs hs rows v rate front is holds settled ends passed =

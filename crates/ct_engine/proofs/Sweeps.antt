@@ -1,5 +1,5 @@
--- A slice of a sweep over memory, as what is seen of it: with hidden granules, and in the threads' areas; and what it leaves
--- of the heap.
+-- A slice of a sweep over memory, as what is seen of it: with hidden granules, and in the threads' areas; and what it
+-- leaves of the heap.
 use Rattle.std.proofs.Common.{ℕ, zero, suc, ◌≡◌, ◌+◌, ◌-◌, ◌*◌, ◌==◌, ◌<◌, ◌≤◌, ◌⊎◌, inl, inr, ◌&&◌, Bool, true, false, nat_le, nat_lt, List, [], ◌∷◌, length, map, Option, Some, refl, sym, ap, ◌∙◌, arith, subst}
 use Rattle.std.proofs.lemmas.List.{ext_get_or}
 use Rattle.std.proofs.Math.ListN.{get_or}
@@ -29,7 +29,7 @@ use Rattle.ct_threads.proofs.Clean.{plain_is}
 use Rattle.ct_threads.specs.Kept.{IsPlain, IsKept}
 use Rattle.ct_engine.specs.declared.rows.Rows.{Rows}
 use Rattle.ct_engine.specs.Seen.{Seen, threads_of, engine_view, seen_by, hidden, no_area, stands}
-use Rattle.ct_engine.specs.Kept.{AreasFrom, StackLies, IsClear, IsEngine, OneStands}
+use Rattle.ct_engine.specs.Kept.{AreasFrom, StackLies, IsClear, IsEngine, OnlyRunnerStands}
 use Rattle.ct_engine.specs.Sweeps.{area_offset, with_slice}
 
 -- ---- granule by granule
@@ -119,18 +119,18 @@ begins_more area ram n t ts begins k lt =
     let next : n + 1 + k ≡ n + suc k = omega arith in
     ap area next ∙ begins (suc k) (omega (arith, lt))
 
-threads_kept : (f : ℕ → Cap → Cap) → KeepsWords f → (area : ℕ → ℕ) (ram : ℕ) (gs : List Granule) (run : List Bool) (running : Option ℕ) (n from to : ℕ) (ts : List row.Thread) → AreasFrom ram gs run n from to ts
-    → OneStands run running → BeginAt area ram n ts → threads_of (kept_granules f 0 gs) run n ts ≡ kept_threads f area running n (threads_of gs run n ts)
-threads_kept f z area ram gs run running n from to [] h one begins = refl
-threads_kept f z area ram gs run running n from to (t ∷ ts) h one begins =
-    let first : thread_of (kept_granules f 0 gs) (stands run n) t ≡ kept_thread f (area n) (is_number running n) (thread_of gs (stands run n) t) =
-    thread_kept f z gs (8 * length gs) (stands run n) t h.2.area
-    ∙ ap (λ m. kept_thread f (t.area.trusted - m) (stands run n) (thread_of gs (stands run n) t)) h.1
-    ∙ ap (λ m. kept_thread f m (stands run n) (thread_of gs (stands run n) t)) (sym (begins_first area ram n t ts begins))
-    ∙ ap (λ b. kept_thread f (area n) b (thread_of gs (stands run n) t)) (one n) in
-    ap (λ x. x ∷ threads_of (kept_granules f 0 gs) run (n + 1) ts) first
-    ∙ ap (λ xs. kept_thread f (area n) (is_number running n) (thread_of gs (stands run n) t) ∷ xs)
-    (threads_kept f z area ram gs run running (n + 1) (t.area.trusted + t.area.trusted_length) to ts h.3 one (begins_more area ram n t ts begins))
+threads_kept : (f : ℕ → Cap → Cap) → KeepsWords f → (area : ℕ → ℕ) (ram : ℕ) (gs : List Granule) (standing : List Bool) (running : Option ℕ) (n from to : ℕ) (ts : List row.Thread) → AreasFrom ram gs standing n from to ts
+    → OnlyRunnerStands standing running → BeginAt area ram n ts → threads_of (kept_granules f 0 gs) standing n ts ≡ kept_threads f area running n (threads_of gs standing n ts)
+threads_kept f z area ram gs standing running n from to [] h one begins = refl
+threads_kept f z area ram gs standing running n from to (t ∷ ts) h one begins =
+    let first : thread_of (kept_granules f 0 gs) (stands standing n) t ≡ kept_thread f (area n) (is_number running n) (thread_of gs (stands standing n) t) =
+    thread_kept f z gs (8 * length gs) (stands standing n) t h.2.area
+    ∙ ap (λ m. kept_thread f (t.area.trusted - m) (stands standing n) (thread_of gs (stands standing n) t)) h.1
+    ∙ ap (λ m. kept_thread f m (stands standing n) (thread_of gs (stands standing n) t)) (sym (begins_first area ram n t ts begins))
+    ∙ ap (λ b. kept_thread f (area n) b (thread_of gs (stands standing n) t)) (one n) in
+    ap (λ x. x ∷ threads_of (kept_granules f 0 gs) standing (n + 1) ts) first
+    ∙ ap (λ xs. kept_thread f (area n) (is_number running n) (thread_of gs (stands standing n) t) ∷ xs)
+    (threads_kept f z area ram gs standing running (n + 1) (t.area.trusted + t.area.trusted_length) to ts h.3 one (begins_more area ram n t ts begins))
 
 -- ---- what is kept
 
@@ -150,14 +150,14 @@ row_kept f z p gs runs t k = record {
   clean = λ m lo hi. elim (k.clean m lo hi) [ inl s ↦ inl s | inr q ↦ inr (word_kept f z p gs m q) ];
 }
 
-areas_kept : (f : ℕ → Cap → Cap) → KeepsWords f → KeepsPlain f → (ram : ℕ) (gs : List Granule) (run : List Bool) (n from to : ℕ) (ts : List row.Thread) → AreasFrom ram gs run n from to ts
-    → AreasFrom ram (kept_granules f 0 gs) run n from to ts
-areas_kept f z p ram gs run n from to [] h = (h.0, λ m lo hi. word_kept f z p gs m (h.1 m lo hi))
-areas_kept f z p ram gs run n from to (t ∷ ts) h = (
+areas_kept : (f : ℕ → Cap → Cap) → KeepsWords f → KeepsPlain f → (ram : ℕ) (gs : List Granule) (standing : List Bool) (n from to : ℕ) (ts : List row.Thread) → AreasFrom ram gs standing n from to ts
+    → AreasFrom ram (kept_granules f 0 gs) standing n from to ts
+areas_kept f z p ram gs standing n from to [] h = (h.0, λ m lo hi. word_kept f z p gs m (h.1 m lo hi))
+areas_kept f z p ram gs standing n from to (t ∷ ts) h = (
   h.0,
   h.1,
-  row_kept f z p gs (stands run n) t h.2,
-  areas_kept f z p ram gs run (n + 1) (t.area.trusted + t.area.trusted_length) to ts h.3,
+  row_kept f z p gs (stands standing n) t h.2,
+  areas_kept f z p ram gs standing (n + 1) (t.area.trusted + t.area.trusted_length) to ts h.3,
   λ m lo hi. word_kept f z p gs m (h.4 m lo hi),
 )
 
@@ -196,8 +196,8 @@ slice_holds gs hs rows low high is holds inside =
       areas = areas_kept f (passed_keeps rows.region.ram gs low high) (λ n w. plain_passes rows.region.ram gs low high n w)
           rows.region.ram gs rows.standing.items 0 rows.region.trusted rows.region.end rows.list.items holds.areas;
       runs = holds.runs;
-      each = holds.each;
-      settled = holds.settled;
+      sizes = holds.sizes;
+      alone = holds.alone;
       stacks = subst (λ n. Each (StackLies rows.region rows.heap.range.base (8 * n)) (map (λ (t : row.Thread). t.area) rows.list.items)) (sym (kept_length f 0 gs)) holds.stacks;
       heap = record {
         laid = (slice_heap rows.region.ram gs low high rows.heap holds.heap.laid).laid;
@@ -214,7 +214,7 @@ slice_objects : (gs hs : List Granule) (rows : Rows) (low high : ℕ) → IsSlic
 slice_objects gs hs rows low high is holds =
     ap (λ xs. objects_of rows.heap xs) (slice_kept rows.region.ram low high gs hs is) ∙ (slice_heap rows.region.ram gs low high rows.heap holds.heap.laid).objects
 
-pub slice_seen : (gs hs : List Granule) (rows : Rows) (low high : ℕ) → IsSliced rows.region.ram low high gs hs → IsEngine gs rows → OneStands rows.standing.items rows.running → engine_view hs (with_front rows (Some high)) ≡ with_slice (engine_view gs rows) low high
+pub slice_seen : (gs hs : List Granule) (rows : Rows) (low high : ℕ) → IsSliced rows.region.ram low high gs hs → IsEngine gs rows → OnlyRunnerStands rows.standing.items rows.running → engine_view hs (with_front rows (Some high)) ≡ with_slice (engine_view gs rows) low high
 slice_seen gs hs rows low high is holds settled =
     let ram : ℕ = rows.region.ram in
     let v : ℕ → Bool = hidden gs rows in

@@ -10,4 +10,4 @@ abbrev pub with_table : Rows → Table → Rows
 with_table rows k = record rows { tokens = k }
 
 pub table_holds : (gs : List Granule) (rows : Rows) (k : Table) → IsEngine gs rows → k.room ≡ rows.tokens.room → IsEngine gs (with_table rows k)
-table_holds gs rows k holds same = record { areas = holds.areas; runs = holds.runs; each = holds.each; settled = holds.settled; stacks = holds.stacks; heap = holds.heap; room = same ∙ holds.room }
+table_holds gs rows k holds same = record { areas = holds.areas; runs = holds.runs; sizes = holds.sizes; alone = holds.alone; stacks = holds.stacks; heap = holds.heap; room = same ∙ holds.room }

@@ -14,7 +14,7 @@ use Rattle.ct_engine.specs.Seen.{Seen, engine_view, with_thread, with_running, s
 use Rattle.ct_engine.specs.Kept.{AreasFrom, HeapHolds, IsEngine}
 use Rattle.ct_engine.proofs.HeapStays.{turn_heap}
 use Rattle.ct_engine.specs.Calls.{switched}
-use Rattle.ct_engine.proofs.Lists.{OthersRun}
+use Rattle.ct_engine.proofs.Lists.{OthersStand}
 use Rattle.ct_engine.proofs.Whole.{seen_turn, areas_turn, running_kept, the_runner}
 use Rattle.ct_engine.proofs.Stacks.{running_stack, running_area, zeroed_holds, zeroed_is_seen}
 
@@ -22,7 +22,7 @@ use Rattle.ct_engine.proofs.Stacks.{running_stack, running_area, zeroed_holds, z
 
 pub switched_areas : (gs hs : List Granule) (rows : Rows) (t : ℕ) (r q : row.Thread) (high : ℕ) (now : List Bool) → IsEngine gs rows → rows.running ≡ Some t
     → r ≡ get_or rows.list.items t r → high ≤ r.area.stack + r.area.stack_length
-    → Touches (area_begin r.area) (area_end r.area) (zeroed_from r.area.stack high r.area.ram gs) hs → OthersRun rows.standing.items now t → q.area ≡ r.area
+    → Touches (area_begin r.area) (area_end r.area) (zeroed_from r.area.stack high r.area.ram gs) hs → OthersStand rows.standing.items now t → q.area ≡ r.area
     → IsKept hs (stands now t) q → AreasFrom rows.region.ram hs now 0 rows.region.trusted rows.region.end (set rows.list.items t q)
 switched_areas gs hs rows t r q high now holds runs is le touches others place kept =
     let base = (running_kept gs rows t r holds runs is).base in
@@ -34,7 +34,7 @@ switched_areas gs hs rows t r q high now holds runs is le touches others place k
 
 pub switched_seen : (gs hs : List Granule) (rows : Rows) (t : ℕ) (r q : row.Thread) (high : ℕ) (now : List Bool) (new : Option ℕ) (x : Thread) → IsEngine gs rows → rows.running ≡ Some t
     → r ≡ get_or rows.list.items t r → high ≤ r.area.stack + r.area.stack_length
-    → Touches (area_begin r.area) (area_end r.area) (zeroed_from r.area.stack high r.area.ram gs) hs → OthersRun rows.standing.items now t → q.area ≡ r.area
+    → Touches (area_begin r.area) (area_end r.area) (zeroed_from r.area.stack high r.area.ram gs) hs → OthersStand rows.standing.items now t → q.area ≡ r.area
     → thread_of hs (stands now t) q ≡ x → seen_of hs rows (set rows.list.items t q) now new ≡ switched (engine_view gs rows) t high x new
 switched_seen gs hs rows t r q high now new x holds runs is le touches others place same =
     let base = (running_kept gs rows t r holds runs is).base in

@@ -26,8 +26,8 @@ use Rattle.law_areas.proofs.Changes.{unchanged}
 use Rattle.ct_engine.specs.declared.rows.Region.{Region}
 use Rattle.ct_engine.specs.declared.rows.Rows.{Rows}
 use Rattle.ct_engine.specs.Seen.{Seen, stands, threads_of, engine_view, thread, with_thread, resumed, region_hides, hides_over, seen_by, seen_of, hidden}
-use Rattle.ct_engine.specs.Kept.{AreasFrom, HeapHolds, IsEngine, OneStands}
-use Rattle.ct_engine.proofs.Lists.{Lies, OthersRun, lies, areas_put, threads_put, places_put, the_thread}
+use Rattle.ct_engine.specs.Kept.{AreasFrom, HeapHolds, IsEngine, OnlyRunnerStands}
+use Rattle.ct_engine.proofs.Lists.{Lies, OthersStand, lies, areas_put, threads_put, places_put, how_many, the_thread}
 use Rattle.ct_engine.proofs.HeapStays.{turn_objects}
 use Rattle.law_moves.proofs.Slices.{is_itself, number_is}
 
@@ -52,49 +52,49 @@ unseen os rows gs hs runs t l touches =
     or_left (region_hides rows.region k) _ (hidden_is rows.region k (omega (arith, a, low, base)) (omega (arith, b, high, base))))
 
 -- the row that an index gives, whichever default it is read by
-pub turned : (os : List Object) (rows : Rows) (gs hs : List Granule) (ts : List row.Thread) (run now : List Bool) (new : Option ℕ) (t : ℕ) (d q : row.Thread) (x : Thread)
-    → AreasFrom rows.region.ram gs run 0 rows.region.trusted rows.region.end ts → t < length ts → Touches (area_begin (get_or ts t d).area) (area_end (get_or ts t d).area) gs hs
-    → OthersRun run now t → q.area ≡ (get_or ts t d).area → thread_of hs (stands now t) q ≡ x
-    → seen_by os rows hs (set ts t q) now new ≡ record (seen_by os rows gs ts run new) { threads = set (threads_of gs run 0 ts) t x }
-turned os rows gs hs ts run now new t d q x areas lt touches runs is same =
+pub turned : (os : List Object) (rows : Rows) (gs hs : List Granule) (ts : List row.Thread) (standing now : List Bool) (new : Option ℕ) (t : ℕ) (d q : row.Thread) (x : Thread)
+    → AreasFrom rows.region.ram gs standing 0 rows.region.trusted rows.region.end ts → t < length ts → Touches (area_begin (get_or ts t d).area) (area_end (get_or ts t d).area) gs hs
+    → OthersStand standing now t → q.area ≡ (get_or ts t d).area → thread_of hs (stands now t) q ≡ x
+    → seen_by os rows hs (set ts t q) now new ≡ record (seen_by os rows gs ts standing new) { threads = set (threads_of gs standing 0 ts) t x }
+turned os rows gs hs ts standing now new t d q x areas lt touches runs is same =
     let g : Region = rows.region in
     let start : 0 + t ≡ t = omega arith in
-    let l : Lies g.ram gs (stands run (0 + t)) g.trusted g.end (get_or ts t d) = lies g.ram gs run 0 g.trusted g.end ts t d areas lt in
-    let granules = unseen os rows gs hs (stands run (0 + t)) (get_or ts t d) l touches in
-    let others : OthersRun run now (0 + t) = rw start runs in
+    let l : Lies g.ram gs (stands standing (0 + t)) g.trusted g.end (get_or ts t d) = lies g.ram gs standing 0 g.trusted g.end ts t d areas lt in
+    let granules = unseen os rows gs hs (stands standing (0 + t)) (get_or ts t d) l touches in
+    let others : OthersStand standing now (0 + t) = rw start runs in
     let here : thread_of hs (stands now (0 + t)) q ≡ x = rw start same in
-    let threads : threads_of hs now 0 (set ts t q) ≡ set (threads_of gs run 0 ts) t x =
-    threads_put g.ram gs hs run now 0 t g.trusted g.end ts d q x areas lt touches others here in
+    let threads : threads_of hs now 0 (set ts t q) ≡ set (threads_of gs standing 0 ts) t x =
+    threads_put g.ram gs hs standing now 0 t g.trusted g.end ts d q x areas lt touches others here in
     let places : map (λ (r : row.Thread). r.area) (set ts t q) ≡ map (λ (r : row.Thread). r.area) ts = places_put ts t d q is lt in
     rw (granules, threads, places) refl
 
-pub areas_turned : (g : Region) (gs hs : List Granule) (ts : List row.Thread) (run now : List Bool) (t : ℕ) (d q : row.Thread)
-    → AreasFrom g.ram gs run 0 g.trusted g.end ts → t < length ts → Touches (area_begin (get_or ts t d).area) (area_end (get_or ts t d).area) gs hs
-    → OthersRun run now t → q.area ≡ (get_or ts t d).area → IsKept hs (stands now t) q
+pub areas_turned : (g : Region) (gs hs : List Granule) (ts : List row.Thread) (standing now : List Bool) (t : ℕ) (d q : row.Thread)
+    → AreasFrom g.ram gs standing 0 g.trusted g.end ts → t < length ts → Touches (area_begin (get_or ts t d).area) (area_end (get_or ts t d).area) gs hs
+    → OthersStand standing now t → q.area ≡ (get_or ts t d).area → IsKept hs (stands now t) q
     → AreasFrom g.ram hs now 0 g.trusted g.end (set ts t q)
-areas_turned g gs hs ts run now t d q areas lt touches runs is kept =
+areas_turned g gs hs ts standing now t d q areas lt touches runs is kept =
     let start : 0 + t ≡ t = omega arith in
-    let others : OthersRun run now (0 + t) = rw start runs in
+    let others : OthersStand standing now (0 + t) = rw start runs in
     let mine : IsKept hs (stands now (0 + t)) q = rw start kept in
-    areas_put g.ram gs hs run now 0 t g.trusted g.end ts d q areas lt touches others is mine
+    areas_put g.ram gs hs standing now 0 t g.trusted g.end ts d q areas lt touches others is mine
 
 -- what a row keeps
-pub kept_of : (g : Region) (gs : List Granule) (ts : List row.Thread) (run : List Bool) (t : ℕ) (r : row.Thread) (runs : Bool)
-    → AreasFrom g.ram gs run 0 g.trusted g.end ts → t < length ts → r ≡ get_or ts t r → stands run t ≡ runs → Lies g.ram gs runs g.trusted g.end r
-kept_of g gs ts run t r runs areas lt is who =
+pub kept_of : (g : Region) (gs : List Granule) (ts : List row.Thread) (standing : List Bool) (t : ℕ) (r : row.Thread) (runs : Bool)
+    → AreasFrom g.ram gs standing 0 g.trusted g.end ts → t < length ts → r ≡ get_or ts t r → stands standing t ≡ runs → Lies g.ram gs runs g.trusted g.end r
+kept_of g gs ts standing t r runs areas lt is who =
     let start : 0 + t ≡ t = omega arith in
-    let l : Lies g.ram gs (stands run (0 + t)) g.trusted g.end (get_or ts t r) = lies g.ram gs run 0 g.trusted g.end ts t r areas lt in
-    let here : stands run (0 + t) ≡ runs = rw start who in
+    let l : Lies g.ram gs (stands standing (0 + t)) g.trusted g.end (get_or ts t r) = lies g.ram gs standing 0 g.trusted g.end ts t r areas lt in
+    let here : stands standing (0 + t) ≡ runs = rw start who in
     let mine : Lies g.ram gs runs g.trusted g.end (get_or ts t r) = rw here at l in
     rw (← is) at mine
 
 -- and the thread that is seen of it
-pub thread_is : (gs : List Granule) (ts : List row.Thread) (run : List Bool) (t : ℕ) (r : row.Thread) (runs : Bool)
-    → t < length ts → r ≡ get_or ts t r → stands run t ≡ runs → get_or (threads_of gs run 0 ts) t nobody ≡ thread_of gs runs r
-thread_is gs ts run t r runs lt is who =
+pub thread_is : (gs : List Granule) (ts : List row.Thread) (standing : List Bool) (t : ℕ) (r : row.Thread) (runs : Bool)
+    → t < length ts → r ≡ get_or ts t r → stands standing t ≡ runs → get_or (threads_of gs standing 0 ts) t nobody ≡ thread_of gs runs r
+thread_is gs ts standing t r runs lt is who =
     let start : 0 + t ≡ t = omega arith in
-    let here : stands run (0 + t) ≡ runs = rw start who in
-    the_thread gs run 0 ts t r lt ∙ rw here (ap (λ (u : row.Thread). thread_of gs runs u) (sym is))
+    let here : stands standing (0 + t) ≡ runs = rw start who in
+    the_thread gs standing 0 ts t r lt ∙ rw here (ap (λ (u : row.Thread). thread_of gs runs u) (sym is))
 
 -- ---- one thread's turn
 
@@ -103,24 +103,24 @@ set_self [] t d = refl
 set_self (x ∷ xs) zero d = refl
 set_self (x ∷ xs) (suc t) d = ap (λ r. x ∷ r) (set_self xs t d)
 
-pub seen_turn : (rows : Rows) (gs hs : List Granule) (ts : List row.Thread) (run now : List Bool) (new : Option ℕ) (t : ℕ) (r q : row.Thread) (x : Thread)
-    → AreasFrom rows.region.ram gs run 0 rows.region.trusted rows.region.end ts → HeapHolds gs rows.region rows.heap rows.front → t < length ts → r ≡ get_or ts t r
-    → Touches (area_begin r.area) (area_end r.area) gs hs → OthersRun run now t → q.area ≡ r.area → thread_of hs (stands now t) q ≡ x
-    → seen_of hs rows (set ts t q) now new ≡ with_thread (seen_of gs rows ts run new) t x
-seen_turn rows gs hs ts run now new t r q x areas heap lt is touches runs place same =
+pub seen_turn : (rows : Rows) (gs hs : List Granule) (ts : List row.Thread) (standing now : List Bool) (new : Option ℕ) (t : ℕ) (r q : row.Thread) (x : Thread)
+    → AreasFrom rows.region.ram gs standing 0 rows.region.trusted rows.region.end ts → HeapHolds gs rows.region rows.heap rows.front → t < length ts → r ≡ get_or ts t r
+    → Touches (area_begin r.area) (area_end r.area) gs hs → OthersStand standing now t → q.area ≡ r.area → thread_of hs (stands now t) q ≡ x
+    → seen_of hs rows (set ts t q) now new ≡ with_thread (seen_of gs rows ts standing new) t x
+seen_turn rows gs hs ts standing now new t r q x areas heap lt is touches runs place same =
     let start : 0 + t ≡ t = omega arith in
-    let l : Lies rows.region.ram gs (stands run t) rows.region.trusted rows.region.end r =
-    kept_of rows.region gs ts run t r (stands run t) areas lt is refl in
-    ap (λ (os : List Object). seen_by os rows hs (set ts t q) now new) (turn_objects gs hs rows.region rows.heap rows.front (stands run t) r heap l touches)
-    ∙ turned (objects_of rows.heap gs) rows gs hs ts run now new t r q x areas lt (subst (λ (u : row.Thread). Touches (area_begin u.area) (area_end u.area) gs hs) is touches)
+    let l : Lies rows.region.ram gs (stands standing t) rows.region.trusted rows.region.end r =
+    kept_of rows.region gs ts standing t r (stands standing t) areas lt is refl in
+    ap (λ (os : List Object). seen_by os rows hs (set ts t q) now new) (turn_objects gs hs rows.region rows.heap rows.front (stands standing t) r heap l touches)
+    ∙ turned (objects_of rows.heap gs) rows gs hs ts standing now new t r q x areas lt (subst (λ (u : row.Thread). Touches (area_begin u.area) (area_end u.area) gs hs) is touches)
     runs (subst (λ (u : row.Thread). q.area ≡ u.area) is place) same
 
-pub areas_turn : (g : Region) (gs hs : List Granule) (ts : List row.Thread) (run now : List Bool) (t : ℕ) (r q : row.Thread)
-    → AreasFrom g.ram gs run 0 g.trusted g.end ts → t < length ts → r ≡ get_or ts t r → Touches (area_begin r.area) (area_end r.area) gs hs
-    → OthersRun run now t → q.area ≡ r.area → IsKept hs (stands now t) q
+pub areas_turn : (g : Region) (gs hs : List Granule) (ts : List row.Thread) (standing now : List Bool) (t : ℕ) (r q : row.Thread)
+    → AreasFrom g.ram gs standing 0 g.trusted g.end ts → t < length ts → r ≡ get_or ts t r → Touches (area_begin r.area) (area_end r.area) gs hs
+    → OthersStand standing now t → q.area ≡ r.area → IsKept hs (stands now t) q
     → AreasFrom g.ram hs now 0 g.trusted g.end (set ts t q)
-areas_turn g gs hs ts run now t r q areas lt is touches runs place kept =
-    areas_turned g gs hs ts run now t r q areas lt (subst (λ (u : row.Thread). Touches (area_begin u.area) (area_end u.area) gs hs) is touches)
+areas_turn g gs hs ts standing now t r q areas lt is touches runs place kept =
+    areas_turned g gs hs ts standing now t r q areas lt (subst (λ (u : row.Thread). Touches (area_begin u.area) (area_end u.area) gs hs) is touches)
     runs (subst (λ (u : row.Thread). q.area ≡ u.area) is place) kept
 
 pub some_is : (t u : ℕ) → (let o : Option ℕ = Some t in o) ≡ Some u → t ≡ u
@@ -131,7 +131,7 @@ none_is u e = absurd (let clash : false ≡ true = ap (λ (o : Option ℕ). is_s
 
 -- ---- whose registers stand in their rows
 
-stood_lies : (run : List Bool) (t : ℕ) → stands run t ≡ true → t < length run
+stood_lies : (standing : List Bool) (t : ℕ) → stands standing t ≡ true → t < length standing
 stood_lies [] t e = absurd (let clash : false ≡ true = e in cc)
 stood_lies (b ∷ bs) zero e = omega arith
 stood_lies (b ∷ bs) (suc t) e = (let lt = stood_lies bs t e in omega (arith, lt))
@@ -140,31 +140,31 @@ stood_lies (b ∷ bs) (suc t) e = (let lt = stood_lies bs t e in omega (arith, l
 pub in_rows : {gs : List Granule} {rows : Rows} → IsEngine gs rows → (t : ℕ) → stands rows.standing.items t ≡ true → t < length rows.list.items
 in_rows {gs} {rows} holds t e =
     let lt = stood_lies rows.standing.items t e in
-    let each = holds.each in
+    let each = holds.sizes in
     omega (arith, lt, each)
 
 pub the_runner : {gs : List Granule} {rows : Rows} → IsEngine gs rows → (t : ℕ) → rows.running ≡ Some t → t < length rows.list.items
 the_runner holds t runs = in_rows holds t (holds.runs t runs)
 
-pub set_stands : (run : List Bool) (t : ℕ) (b : Bool) → t < length run → stands (set run t b) t ≡ b
-set_stands run t b lt = get_or-set_same run t b false lt
+pub set_stands : (standing : List Bool) (t : ℕ) (b : Bool) → t < length standing → stands (set standing t b) t ≡ b
+set_stands standing t b lt = get_or-set_same standing t b false lt
 
-pub others_stand : (run : List Bool) (t : ℕ) (b : Bool) → OthersRun run (set run t b) t
-others_stand run t b = λ u no_. get_or-set_other run t u b false no_
+pub others_stand : (standing : List Bool) (t : ℕ) (b : Bool) → OthersStand standing (set standing t b) t
+others_stand standing t b = λ u no_. get_or-set_other standing t u b false no_
 
 -- read by an index, and so by any default
-pub stood_there : (run : List Bool) (t : ℕ) (b : Bool) → b ≡ get_or run t b → t < length run → b ≡ true → stands run t ≡ true
-stood_there run t b is lt on = get_or_default run t false b lt ∙ sym is ∙ on
+pub stood_there : (standing : List Bool) (t : ℕ) (b : Bool) → b ≡ get_or standing t b → t < length standing → b ≡ true → stands standing t ≡ true
+stood_there standing t b is lt on = get_or_default standing t false b lt ∙ sym is ∙ on
 
 -- there is one of them for each row
 pub each_set : {gs : List Granule} {rows : Rows} → IsEngine gs rows → (t : ℕ) (b : Bool) (q : row.Thread) → length (set rows.standing.items t b) ≡ length (set rows.list.items t q)
-each_set {gs} {rows} holds t b q = length-set rows.standing.items t b ∙ holds.each ∙ sym (length-set rows.list.items t q)
+each_set {gs} {rows} holds t b q = length-set rows.standing.items t b ∙ holds.sizes ∙ sym (length-set rows.list.items t q)
 
 pub each_same : {gs : List Granule} {rows : Rows} → IsEngine gs rows → (t : ℕ) (q : row.Thread) → length rows.standing.items ≡ length (set rows.list.items t q)
-each_same {gs} {rows} holds t q = holds.each ∙ sym (length-set rows.list.items t q)
+each_same {gs} {rows} holds t q = holds.sizes ∙ sym (length-set rows.list.items t q)
 
 pub there_in : {gs : List Granule} {rows : Rows} → IsEngine gs rows → (t : ℕ) → t < length rows.list.items → t < length rows.standing.items
-there_in {gs} {rows} holds t lt = (let each = holds.each in omega (arith, lt, each))
+there_in {gs} {rows} holds t lt = (let each = holds.sizes in omega (arith, lt, each))
 
 -- what the row keeps of a thread that stands in it, as the one that runs does, and of one that doesn't
 pub standing_kept : (gs : List Granule) (rows : Rows) (t : ℕ) (r : row.Thread) → IsEngine gs rows → stands rows.standing.items t ≡ true → r ≡ get_or rows.list.items t r
@@ -176,9 +176,9 @@ pub running_kept : (gs : List Granule) (rows : Rows) (t : ℕ) (r : row.Thread) 
     → Lies rows.region.ram gs true rows.region.trusted rows.region.end r
 running_kept gs rows t r holds runs is = standing_kept gs rows t r holds (holds.runs t runs) is
 
-pub stopped_lies : (gs : List Granule) (rows : Rows) (t : ℕ) (r : row.Thread) → IsEngine gs rows → stands rows.standing.items t ≡ false → t < length rows.list.items
+pub away_lies : (gs : List Granule) (rows : Rows) (t : ℕ) (r : row.Thread) → IsEngine gs rows → stands rows.standing.items t ≡ false → t < length rows.list.items
     → r ≡ get_or rows.list.items t r → Lies rows.region.ram gs false rows.region.trusted rows.region.end r
-stopped_lies gs rows t r holds none lt is = kept_of rows.region gs rows.list.items rows.standing.items t r false holds.areas lt is none
+away_lies gs rows t r holds none lt is = kept_of rows.region gs rows.list.items rows.standing.items t r false holds.areas lt is none
 
 -- ---- its registers go to its area
 
@@ -214,12 +214,12 @@ pub away_settled : {gs : List Granule} {rows : Rows} → IsEngine gs rows → (t
     → (u : ℕ) → stands (set rows.standing.items t false) u ≡ true → rows.running ≡ Some u
 away_settled {gs} {rows} holds t lt tight u stood = elim (cases_eq u t) [
   | inl e ↦ absurd (let clash : false ≡ true = sym (set_stands rows.standing.items t false (there_in holds t lt)) ∙ ap (λ n. stands (set rows.standing.items t false) n) (sym e) ∙ stood in cc)
-  | inr no_ ↦ holds.settled tight u (sym (others_stand rows.standing.items t false u no_) ∙ stood)
+  | inr no_ ↦ holds.alone tight u (sym (others_stand rows.standing.items t false u no_) ∙ stood)
 ]
 
 -- where nobody else stands in a row
 pub one_stands : {gs : List Granule} {rows : Rows} → IsEngine gs rows → ((u : ℕ) → stands rows.standing.items u ≡ true → rows.running ≡ Some u)
-    → OneStands rows.standing.items rows.running
+    → OnlyRunnerStands rows.standing.items rows.running
 one_stands {gs} {rows} holds all u = elim (bool_tells (stands rows.standing.items u)) [
   | inl on ↦ on ∙ sym (ap (λ o. is_number o u) (all u on) ∙ is_itself u)
   | inr off ↦ off ∙ elim (bool_tells (is_number rows.running u)) [
@@ -238,18 +238,18 @@ pub record Settles (was : List Granule) (old : Rows) (gs : List Granule) (rows :
   pub away : (u : ℕ) → u < count → stands rows.standing.items u ≡ true → rows.running ≡ Some u
 
 pub settles_next : (was gs hs : List Granule) (old rows new : Rows) (t : ℕ) → Settles was old gs rows t → IsEngine hs new → engine_view hs new ≡ engine_view gs rows
-    → new.running ≡ rows.running → length new.list.items ≡ length rows.list.items → (is_number rows.running t ≡ false → stands new.standing.items t ≡ false)
+    → (is_number rows.running t ≡ false → stands new.standing.items t ≡ false)
     → ((u : ℕ) → u ≢ t → stands new.standing.items u ≡ stands rows.standing.items u) → Settles was old hs new (t + 1)
-settles_next was gs hs old rows new t s holds seen runs many away others = record {
+settles_next was gs hs old rows new t s holds seen away others = record {
   holds = holds;
   seen = seen ∙ s.seen;
-  many = many ∙ s.many;
+  many = sym (how_many hs new.standing.items 0 new.list.items) ∙ ap (λ (v : Seen). length v.threads) seen ∙ how_many gs rows.standing.items 0 rows.list.items ∙ s.many;
   away = λ u lt stood. elim (cases_eq u t) [
-    | inl e ↦ runs ∙ elim (bool_tells (is_number rows.running t)) [
+    | inl e ↦ ap (λ (v : Seen). v.running) seen ∙ elim (bool_tells (is_number rows.running t)) [
       | inl on ↦ number_is rows.running t on ∙ ap (λ n. let o : Option ℕ = Some n in o) (sym e)
       | inr off ↦ absurd (let clash : false ≡ true = sym (away off) ∙ ap (λ n. stands new.standing.items n) (sym e) ∙ stood in cc)
     ]
-    | inr no_ ↦ runs ∙ s.away u (below u t lt no_) (sym (others u no_) ∙ stood)
+    | inr no_ ↦ ap (λ (v : Seen). v.running) seen ∙ s.away u (below u t lt no_) (sym (others u no_) ∙ stood)
   ];
 }
   where
@@ -264,9 +264,9 @@ pub tight_holds : (was : List Granule) (old : Rows) (gs : List Granule) (rows : 
     → IsEngine gs (record rows { loose = false })
 tight_holds was old gs rows count s le = record {
   areas = s.holds.areas;
-  each = s.holds.each;
+  sizes = s.holds.sizes;
   runs = s.holds.runs;
-  settled = λ tight. settles_all was old gs rows count s le;
+  alone = λ tight. settles_all was old gs rows count s le;
   stacks = s.holds.stacks;
   heap = s.holds.heap;
   room = s.holds.room;
@@ -283,7 +283,7 @@ picked_same f k t same = rw (same t.pcc, map_same f k same t.registers) refl
 
 -- the thread stood in its row before, or not, and stands in it now
 picked_on : (gs hs : List Granule) (rows : Rows) (now : List Bool) (t : ℕ) (r q : row.Thread) (stood : Bool) → IsEngine gs rows → stands rows.standing.items t ≡ stood
-    → stands now t ≡ true → OthersRun rows.standing.items now t
+    → stands now t ≡ true → OthersStand rows.standing.items now t
     → t < length rows.list.items → r ≡ get_or rows.list.items t r → Touches (area_begin r.area) (area_end r.area) gs hs → q.area ≡ r.area
     → thread_of hs true q ≡ picked_with (filtered_in r.area.ram gs) (thread_of gs stood r)
     → seen_of hs rows (set rows.list.items t q) now (Some t) ≡ resumed (engine_view gs rows) t
@@ -323,7 +323,7 @@ pub pick_settled : {gs : List Granule} {rows : Rows} → IsEngine gs rows → (t
     → (u : ℕ) → stands (set rows.standing.items t true) u ≡ true → (let o : Option ℕ = Some t in o) ≡ Some u
 pick_settled {gs} {rows} holds t none tight u stood = elim (cases_eq u t) [
   | inl e ↦ ap (λ n. let o : Option ℕ = Some n in o) (sym e)
-  | inr no_ ↦ none_is u (sym none ∙ holds.settled tight u (sym (others_stand rows.standing.items t true u no_) ∙ stood))
+  | inr no_ ↦ none_is u (sym none ∙ holds.alone tight u (sym (others_stand rows.standing.items t true u no_) ∙ stood))
 ]
 
 -- a thread that stands in its row: all that it keeps there passes the load filter

@@ -103,7 +103,8 @@ ended_with s t value = ended_by s t (λ f. plain value) (λ f. plain 0) (thread 
 
 -- ---- as boot made it
 
--- The head of an export's table is as boot made it, and so is the return sentry; the stack begins where the image has it.
+-- The head of an export's table is as boot made it, and so is the return sentry; the stack begins where the image has
+-- it.
 pub record HeadStands (i : Image) (s : Seen) (t export : ℕ) : Type 0 where
   pub code : cap_in s.granules (head_at s i.entries export)
       ≡ made_cap i (code_entry i (callee_of i.entries export))

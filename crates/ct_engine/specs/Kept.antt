@@ -1,5 +1,5 @@
--- What an engine keeps: where the threads' areas lie, and what stands in them; that chunks and heap agree; and that there
--- is room for the rows of keys and tokens.
+-- What an engine keeps: where the threads' areas lie, what stands in them, and who stands in its row; that chunks and
+-- heap agree; and that there is room for the rows of keys and tokens.
 use Rattle.std.specs.Prelude.{ℕ, ◌+◌, ◌*◌, ◌/◌, ◌%◌, ◌≡◌, ◌≤◌, ◌<◌, ◌⊎◌, Bool, true, false, List, [], ◌∷◌, length, map, Option, Some, unwrap_or}
 use Rattle.def_memory.specs.declared.Granule.{Granule}
 use Rattle.def_memory.specs.Granules.{cap_in}
@@ -52,8 +52,8 @@ pub record HeapHolds (gs : List Granule) (g : Region) (h : HeapRow) (front : Opt
   pub clear : IsClear h gs
 
 -- of all threads the one that runs alone stands in its row
-abbrev pub OneStands : List Bool → Option ℕ → Type 0
-OneStands standing running = (t : ℕ) → stands standing t ≡ is_number running t
+abbrev pub OnlyRunnerStands : List Bool → Option ℕ → Type 0
+OnlyRunnerStands standing running = (t : ℕ) → stands standing t ≡ is_number running t
 
 -- All areas lie in the region. What is known of each thread is whether its registers stand in its row: those of the
 -- thread that runs do, and where `loose` is false no other's. Stacks lie apart from the region and before the heap, the
@@ -61,9 +61,9 @@ OneStands standing running = (t : ℕ) → stands standing t ≡ is_number runni
 pub record IsEngine (gs : List Granule) (r : Rows) : Type 0 where
   pub areas : AreasFrom r.region.ram gs r.standing.items 0 r.region.trusted r.region.end
       r.list.items
-  pub each : length r.standing.items ≡ length r.list.items
+  pub sizes : length r.standing.items ≡ length r.list.items
   pub runs : (t : ℕ) → r.running ≡ Some t → stands r.standing.items t ≡ true
-  pub settled : r.loose ≡ false → (t : ℕ) → stands r.standing.items t ≡ true → r.running ≡ Some t
+  pub alone : r.loose ≡ false → (t : ℕ) → stands r.standing.items t ≡ true → r.running ≡ Some t
   pub stacks : Each (StackLies r.region r.heap.range.base (8 * length gs))
       (map (λ (t : row.Thread). t.area) r.list.items)
   pub heap : HeapHolds gs r.region r.heap r.front

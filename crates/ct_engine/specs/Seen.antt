@@ -39,9 +39,9 @@ threads_of gs standing n [] = []
 threads_of gs standing n (t ∷ ts) =
     thread_of gs (stands standing n) t ∷ threads_of gs standing (n + 1) ts
 
--- `tokens` stand by their numbers; `next` is the next object's number; `front` is the running sweep's, an offset in RAM in
--- bytes; the heap's base and end are addresses; `limits` are in bytes, by the quotas' numbers. Where areas, stacks and the
--- heap lie, and what quotas may take, never changes.
+-- `tokens` stand by their numbers; `next` is the next object's number; `front` is the running sweep's, an offset in RAM
+-- in bytes; the heap's base and end are addresses; `limits` are in bytes, by the quotas' numbers. Where areas, stacks
+-- and the heap lie, and what quotas may take, never changes.
 pub record Seen : Type 0 where
   pub granules : List Granule
   pub threads : List Thread

@@ -21,7 +21,8 @@ AreFresh ram size from to (f ∷ fs) =
     (from ≤ f.area.trusted) × (f.area.ram ≡ ram) × IsFresh size f
     × AreFresh ram size (f.area.trusted + f.area.trusted_length) to fs
 
--- They have begun, stopped, in memory that was otherwise: outside the region it is as it was.
+-- They have begun, stopped, none of which stands in its row, in memory that was otherwise: outside the region it is as
+-- it was.
 pub record HaveBegun (g : Region) (was gs : List Granule) (ts : List row.Thread) (fs : List Fresh) : Type 0 where
   pub size : length gs ≡ length was
   pub memory : with_hidden (region_hides g) gs ≡ with_hidden (region_hides g) was

@@ -259,8 +259,8 @@ impl<M: Memory + Drop> Engine<M> {
         next(&self.mem, self.rows.region.ram, at)
     }
 
-    /// A load or a store through x, at x's address and the immediate, where nothing is hidden once its checks pass; y is
-    /// what a store stores. The heap lies from `heap` to RAM's end, and `time` is in ticks.
+    /// A load or a store through x, at x's address and the immediate, where nothing is hidden once its checks pass; y
+    /// is what a store stores. The heap lies from `heap` to RAM's end, and `time` is in ticks.
     ///
     /// A trap where a check fails, the first, and then nothing has changed.
     pub fn loadstore(

@@ -38,7 +38,8 @@ fn begin_all<M: Memory>(
     Ok(list)
 }
 
-/// For each of so many threads that nothing of it stands in its row. The one error is `NoMemory`.
+/// So many times `false`: no thread's program counter capability and registers stand in its row. The one error is
+/// `NoMemory`.
 fn none_standing(alloc: Global, threads: usize) -> Result<Vec<bool>, NoMemory>
     ensures { IfOk result (λ standing. standing.items ≡ replicate threads false) }
 {

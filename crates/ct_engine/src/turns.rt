@@ -1,14 +1,14 @@
-//! A pick, and when registers go to a thread's area.
+//! A pick, and when threads are put away.
 
 ghost use Rattle.std.specs.Prelude.{◌≡◌, ◌≢◌, ◌<◌, ℕ, None, true, false, length, map};
 ghost use Rattle.def_machine.specs.Slices.{is_number};
 ghost use Rattle.def_machine.specs.Memory.{filtered_in};
-ghost use Rattle.ct_engine.specs.Kept.{IsEngine, OneStands};
+ghost use Rattle.ct_engine.specs.Kept.{IsEngine, OnlyRunnerStands};
 ghost use Rattle.ct_engine.specs.Seen.{engine_view, stands, thread, resumed};
 
 use crate::rows::Rows;
 use ct_areas::Thread;
-use ct_loadstore::filter;
+use ct_loadstore::filter_in_place;
 use ct_mem::Memory;
 use ct_threads::{filter_row, pick_row, stop_row};
 
@@ -22,15 +22,13 @@ fn runs(rows: &Rows, t: usize) -> bool
     }
 }
 
-/// Where a thread doesn't run and stands in its row, its registers go to its area.
+/// Where a thread doesn't run and stands in its row, its program counter capability and its registers go to its area.
 fn put_away<M: Memory>(rows: &mut Rows, mem: &mut M, t: usize)
     requires holds { IsEngine (M.granules mem.old) rows.old }
     requires there { t < length rows.old.list.items }
     ensures holds { IsEngine (M.granules mem.new) rows.new }
     ensures seen { engine_view (M.granules mem.new) rows.new
         ≡ engine_view (M.granules mem.old) rows.old }
-    ensures runs { rows.new.running ≡ rows.old.running }
-    ensures many { length rows.new.list.items ≡ length rows.old.list.items }
     ensures away { is_number rows.old.running t ≡ false
         → stands rows.new.standing.items t ≡ false }
     ensures others { (u : ℕ) → u ≢ t
@@ -49,7 +47,8 @@ fn put_away<M: Memory>(rows: &mut Rows, mem: &mut M, t: usize)
 pub(crate) fn settle<M: Memory>(rows: &mut Rows, mem: &mut M)
     requires { IsEngine (M.granules mem.old) rows.old }
     ensures holds { IsEngine (M.granules mem.new) rows.new }
-    ensures settled { OneStands rows.new.standing.items rows.new.running }
+    ensures alone { OnlyRunnerStands rows.new.standing.items rows.new.running }
+    ensures tight { rows.new.loose ≡ false }
     ensures seen { engine_view (M.granules mem.new) rows.new
         ≡ engine_view (M.granules mem.old) rows.old }
 {
@@ -70,7 +69,7 @@ fn refresh<M: Memory>(row: &mut Thread, mem: &M)
     } }
 {
     filter_row(row, mem);
-    row.pcc = filter(mem, row.area.ram, row.pcc);
+    filter_in_place(&mut row.pcc, mem, row.area.ram);
 }
 
 /// A thread that stands in its row is picked, where none runs.
@@ -90,7 +89,7 @@ fn go_on<M: Memory>(rows: &mut Rows, mem: &M, t: u32)
 fn take_up<M: Memory>(rows: &mut Rows, mem: &mut M, t: u32)
     requires holds { IsEngine (M.granules mem.old) rows.old }
     requires none { rows.old.running ≡ None }
-    requires stopped { stands rows.old.standing.items t ≡ false }
+    requires away { stands rows.old.standing.items t ≡ false }
     requires there { t < length rows.old.list.items }
     requires alive { 0 < length (thread (engine_view (M.granules mem.old) rows.old) t).frames }
     ensures holds { IsEngine (M.granules mem.new) rows.new }

@@ -22,8 +22,8 @@ ghost use Rattle.ct_engine.specs.Grants.{with_object, with_row, allocation_in, f
 ghost use Rattle.ct_engine.specs.Sweeps.{swept_by};
 ghost use Rattle.ct_engine.specs.Written.{Shows, written, callee_thread, handler_seen, HasAreas, HasHeap, SharesObjects, state_with};
 
-/// Where a state of the machine holds what is seen, a call comes to what the written switch comes to. Where it enters an
-/// export, the head of whose table is as boot made it, it leaves what the written one leaves.
+/// Where a state of the machine holds what is seen, a call comes to what the written switch comes to. Where it enters
+/// an export, the head of whose table is as boot made it, it leaves what the written one leaves.
 pub fn calls_written()
     ensures comes { (i : Image) (m : State) (s : Seen) (t : ℕ) → Shows i m s t
         → switch_at s i.entries t

@@ -117,8 +117,8 @@ RefusesSize h gs quota size NoGap =
 
 -- ---- free
 
--- The live object of this quota with these bounds is quarantined, zeroed, its chunk marked, and its charge taken off. No
--- capability comes, and outside the chunk everything stays.
+-- The live object of this quota with these bounds is quarantined, zeroed, its chunk marked, and its charge taken off.
+-- No capability comes, and outside the chunk everything stays.
 pub record Frees (h n : HeapRow) (gs hs : List Granule)
     (quota base top number object_base object_length live : ℕ) : Type 0 where
   pub object : Object

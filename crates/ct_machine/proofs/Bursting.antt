@@ -1,4 +1,5 @@
--- A burst: its instructions are steps that tell nothing, and where no sweep has work each is one with a slice before it.
+-- A burst: its instructions are steps that tell nothing, and where no sweep has work each is one with a slice before
+-- it.
 use Rattle.std.proofs.Common.{ℕ, zero, suc, ◌+◌, ◌==◌, ◌≡◌, ◌≤◌, Bool, true, false, List, Some, refl, sym, ap, ◌∙◌, subst, arith}
 use Rattle.std.proofs.lemmas.Bool.{eqb-true}
 use Rattle.def_events.specs.Guarded.{Guarded}

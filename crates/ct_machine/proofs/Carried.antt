@@ -47,7 +47,8 @@ use Rattle.ct_machine.proofs.Keeping.{machine_by, two_more, unfinished_map}
 use Rattle.ct_machine.proofs.Taking.{ram_is, frames_with}
 use Rattle.law_events.proofs.Waiting.{given_status}
 
--- the error handler of a compartment, where it has one: it is of that compartment, and its table's head is as boot made it
+-- the error handler of a compartment, where it has one: it is of that compartment, and its table's head is as boot made
+-- it
 pub record Handles (i : Image) (e : Seen) (t actor handler : ℕ) : Type 0 where
   pub is : handler ≡ handler_entry i actor
   pub own : (handler_entry i actor ≡ 0 → ⊥) → callee_of i.entries (handler_entry i actor) ≡ actor

@@ -112,7 +112,8 @@ module _ (i : Image) (e : Seen) (r : SchedRow) (k : DeviceStates) (pending : Boo
       stays_kept i x (answered_in x t v) r r.statuses held
       (record { region = refl; areas = refl; size = refl; threads = length-set x.threads t _; heap_base = refl; heap_end = refl; limits = refl }) refl held.ready
 
-  -- an answer of an engine that has become this, of a machine that has become that, where the thread went on and told as much
+  -- an answer of an engine that has become this, of a machine that has become that, where the thread went on and told
+  -- as much
   serves_went : (most : ℕ) (x : Seen) (s : State) (acted : Option ActBy) (told : Option (ℕ × Act)) (v : Cap) → deed_by t (actor_of (thread here t).frames) (Went acted) ≡ option_map (deed_told here t) told
       → IsKept i x r → x.next ≤ most → state_by x r pending k.states time c ≡ s → Serves most (answered_in x t v, Went acted) (Leaves (routine.answers s t v) told)
   serves_went most x s acted told v tells held few is = record {

@@ -1,4 +1,5 @@
--- A slice of a sweep leaves the running thread's program counter, who runs, and how large RAM is; and rounds with such slices.
+-- A slice of a sweep leaves the running thread's program counter, who runs, and how large RAM is; and rounds with such
+-- slices.
 use Rattle.std.proofs.Common.{ℕ, zero, suc, ◌+◌, ◌*◌, ◌≡◌, ◌≤◌, ◌<◌, Bool, true, false, cond, nat_le, get_or, List, [], ◌∷◌, length, Option, Some, None, refl, sym, ap, ◌∙◌, subst, arith}
 use Rattle.ct_entry.specs.declared.acts.Happened.{Happened}
 use Rattle.def_events.specs.Guarded.{Guarded}

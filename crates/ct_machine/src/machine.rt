@@ -106,8 +106,8 @@ impl<M: Memory + Drop> Machine<M> {
         self.parts.advance(event)
     }
 
-    /// Rounds, each a slice of a sweep and a step: at least one, even of a machine at its end, at most `most`, which are
-    /// lawful now, and none after one whose step tells something or that leaves the machine at its end.
+    /// Rounds, each a slice of a sweep and a step: at least one, even of a machine at its end, at most `most`, which
+    /// are lawful now, and none after one whose step tells something or that leaves the machine at its end.
     ///
     /// What they leave is what `advance` leaves of these events; all but the last step told nothing, and what the last
     /// told is answered. This call is for speed: what one step leaves for the next isn't asked again, and a machine of

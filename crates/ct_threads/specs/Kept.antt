@@ -12,7 +12,7 @@ abbrev pub IsPlain : Cap → Type 0
 IsPlain c = c ≡ plain c.word
 
 -- Granule k of a thread's area holds a capability that was saved: the program counter capability or a register of a
--- stopped thread, or one of the five registers with which a frame begins.
+-- thread that doesn't stand in its row, or one of the five registers with which a frame begins.
 abbrev pub IsSaved : Bool → row.Thread → ℕ → Type 0
 IsSaved runs t k =
     ((runs ≡ false) × (0 < t.depth) × (k < area_begin t.area + 16))
@@ -21,8 +21,8 @@ IsSaved runs t k =
     × ((k - (area_begin t.area + 20)) % 8 < 5)
     )
 
--- A row, and the area's granules: it lies in RAM and has room for the frames; register 0 is zero; who runs hasn't
--- ended; and where nothing is saved a plain word stands.
+-- A row, and the area's granules: it lies in RAM and has room for the frames; register 0 is zero; who
+-- stands in its row hasn't ended; and where nothing is saved a plain word stands.
 pub record IsKept (gs : List Granule) (runs : Bool) (t : row.Thread) : Type 0 where
   pub area : HasArea (8 * length gs) t.area
   pub room : t.depth ≤ frames_most t.area

@@ -16,7 +16,7 @@ fn sixteen(registers: &[Live; 16])
     ensures { length registers.now ≡ 16 }
 {}
 
-/// A thread that runs stops: its area takes its program counter capability and its registers.
+/// A thread that stands in its row is put away: its area takes its program counter capability and its registers.
 ///
 /// Condition: the row is kept.
 pub fn stop_row<M: Memory>(t: &mut Thread, mem: &mut M)
@@ -32,7 +32,8 @@ pub fn stop_row<M: Memory>(t: &mut Thread, mem: &mut M)
     save(t, mem);
 }
 
-/// A thread that doesn't run, and hasn't ended, goes on: its area gives back what it took, through the load filter.
+/// A thread that doesn't stand in its row, and hasn't ended, goes on: its area gives back what it took, through the
+/// load filter.
 ///
 /// Conditions: the row is kept, and a frame stands at least.
 pub fn pick_row<M: Memory>(t: &mut Thread, mem: &mut M)

@@ -27,9 +27,9 @@ returns-clause-holds g c =
     let lt = the_runner c.requires.holds c.args.t c.requires.runs in
     record {
       areas = end_areas gs hs rows c.args.t r q c.end_row-more.result (λ f. plain c.args.value) (λ f. plain 0) c.requires.holds c.requires.runs c.index_mut.ensures.value c.requires.top c.end_row-more.ensures;
-      each = each_set c.requires.holds c.args.t c.end_row-more.result q;
+      sizes = each_set c.requires.holds c.args.t c.end_row-more.result q;
       runs = λ u e. end_runs c.requires.holds c.args.t c.end_row-more.result c.requires.runs u (sym c.still-rows.ensures ∙ e);
-      settled = λ tight u stood. c.still-rows.ensures ∙ end_settled c.requires.holds c.args.t c.end_row-more.result c.requires.runs tight u stood;
+      alone = λ tight u stood. c.still-rows.ensures ∙ end_settled c.requires.holds c.args.t c.end_row-more.result c.requires.runs tight u stood;
       stacks = stacks_turn gs hs rows c.args.t r q c.requires.holds lt c.index_mut.ensures.value
           (end_size gs hs r q c.end_row-more.result (λ f. plain c.args.value) (λ f. plain 0) c.end_row-more.ensures) c.end_row-more.ensures.area;
       heap = end_heap gs hs rows c.args.t r q c.end_row-more.result (λ f. plain c.args.value) (λ f. plain 0) c.requires.holds c.requires.runs c.index_mut.ensures.value c.requires.top c.end_row-more.ensures;

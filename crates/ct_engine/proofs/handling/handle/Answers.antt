@@ -20,8 +20,8 @@ returns-clause-holds g c =
       areas = trap_areas gs rows c.args.t r c.requires.holds c.requires.runs c.index_mut.ensures.value e c.args.handler c.args.trap c.handle_row.result hs q c.requires.may
           c.handle_row.ensures.result c.handle_row.ensures.memory c.handle_row.ensures.row;
       runs = c.requires.holds.runs;
-      each = each_same c.requires.holds c.args.t q;
-      settled = c.requires.holds.settled;
+      sizes = each_same c.requires.holds c.args.t q;
+      alone = c.requires.holds.alone;
       stacks = stacks_turn gs hs rows c.args.t r q c.requires.holds (the_runner c.requires.holds c.args.t c.requires.runs) c.index_mut.ensures.value
           (trap_size gs rows c.args.t r c.requires.holds c.requires.runs c.index_mut.ensures.value e c.args.handler c.args.trap c.handle_row.result hs c.requires.may
           c.handle_row.ensures.result c.handle_row.ensures.memory)

@@ -11,8 +11,8 @@ returns-clause-holds g c =
     record {
       areas = filter_areas gs c.args.rows.now c.args.t c.index_mut.result.now c.filter_row.new.t c.requires.holds c.requires.runs c.index_mut.ensures.value c.filter_row.ensures;
       runs = c.requires.holds.runs;
-      each = each_same c.requires.holds c.args.t c.filter_row.new.t;
-      settled = c.requires.holds.settled;
+      sizes = each_same c.requires.holds c.args.t c.filter_row.new.t;
+      alone = c.requires.holds.alone;
       stacks = stacks_turn gs gs c.args.rows.now c.args.t c.index_mut.result.now c.filter_row.new.t c.requires.holds (the_runner c.requires.holds c.args.t c.requires.runs) c.index_mut.ensures.value refl
           (ap (λ (u : row.Thread). u.area) c.filter_row.ensures);
       heap = c.requires.holds.heap;

@@ -9,8 +9,8 @@ pub returns-clause-holds : goal.returns-clause-holds
 returns-clause-holds c = λ gs holds. record {
   areas = jump_areas gs c.args.rows.now c.args.t c.index_mut.result.now c.jump_row.new.t c.args.pcc c.args.posture c.args.to c.args.value holds c.requires.runs c.index_mut.ensures.value c.jump_row.ensures;
   runs = holds.runs;
-  each = each_same holds c.args.t c.jump_row.new.t;
-  settled = holds.settled;
+  sizes = each_same holds c.args.t c.jump_row.new.t;
+  alone = holds.alone;
   stacks = stacks_turn gs gs c.args.rows.now c.args.t c.index_mut.result.now c.jump_row.new.t holds c.requires.there c.index_mut.ensures.value refl
       (ap (λ (u : row.Thread). u.area) c.jump_row.ensures);
   heap = holds.heap;

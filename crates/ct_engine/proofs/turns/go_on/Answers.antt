@@ -13,8 +13,8 @@ returns-clause-holds g c =
     record {
       areas = refreshed_areas gs rows c.args.t c.index_mut.result.now c.refresh.new.row holds c.requires.stood c.index_mut.ensures.value c.refresh.ensures;
       runs = λ u e. subst (λ n. stands rows.standing.items n ≡ true) (some_is c.args.t u e) c.requires.stood;
-      each = each_same holds c.args.t c.refresh.new.row;
-      settled = λ tight u stood. none_is u (sym c.requires.none ∙ holds.settled tight u stood);
+      sizes = each_same holds c.args.t c.refresh.new.row;
+      alone = λ tight u stood. none_is u (sym c.requires.none ∙ holds.alone tight u stood);
       stacks = stacks_turn gs gs rows c.args.t c.index_mut.result.now c.refresh.new.row holds (in_rows holds c.args.t c.requires.stood) c.index_mut.ensures.value refl
           (ap (λ (u : row.Thread). u.area) c.refresh.ensures);
       heap = holds.heap;

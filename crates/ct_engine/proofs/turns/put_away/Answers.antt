@@ -23,9 +23,9 @@ returns-then-index-clause-holds g c =
     let stops = c.stop_row.ensures in
     record {
       areas = settled_areas gs hs rows t r q holds on is stops.touches stops.area stops.kept;
-      each = each_set holds t false q;
+      sizes = each_set holds t false q;
       runs = away_runs holds t (sym c.runs.ensures ∙ c.if-runs.false);
-      settled = away_settled holds t c.requires.there;
+      alone = away_settled holds t c.requires.there;
       stacks = stacks_turn gs hs rows t r q holds c.requires.there is stops.touches.size stops.area;
       heap = turn_heap gs hs rows.region rows.heap rows.front true r holds.heap (standing_kept gs rows t r holds on is) stops.touches;
       room = holds.room;

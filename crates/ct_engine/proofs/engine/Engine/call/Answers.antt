@@ -35,8 +35,8 @@ invariant_of-self g c =
       areas = call_areas_by gs hs rows c.args.t r c.call_row.new.t e holds runs c.index_mut.ensures.value may
           (switch_in gs e r) refl c.call_row.ensures.touches c.call_row.ensures.area c.call_row.ensures.kept;
       runs = holds.runs;
-      each = each_same holds c.args.t c.call_row.new.t;
-      settled = holds.settled;
+      sizes = each_same holds c.args.t c.call_row.new.t;
+      alone = holds.alone;
       stacks = stacks_turn gs hs rows c.args.t r c.call_row.new.t holds (the_runner holds c.args.t runs) c.index_mut.ensures.value
           (call_size gs hs r (switch_in gs e r) c.call_row.ensures.touches) c.call_row.ensures.area;
       heap = call_heap_by gs hs rows c.args.t r e holds runs c.index_mut.ensures.value may (switch_in gs e r) refl c.call_row.ensures.touches;

@@ -8,11 +8,11 @@ use Rattle.ct_engine.proofs.engine.Engine.pass.Goals as goal
 
 pub invariant_of-self : goal.invariant_of-self
 invariant_of-self g c =
-    (slice_mid (g.M.Memory.granules c.settle.new.mem) (g.M.Memory.granules c.slice.new.mem) c.settle.new.rows c.args.self.now c.args.rate c.slice.new.self (c.settle.ensures.seen ∙ c.self.view_is) c.settle.ensures.holds c.settle.ensures.settled c.slice.ensures.front c.slice.ensures.sliced).holds
+    (slice_mid (g.M.Memory.granules c.settle.new.mem) (g.M.Memory.granules c.slice.new.mem) c.settle.new.rows c.args.self.now c.args.rate c.slice.new.self (c.settle.ensures.seen ∙ c.self.view_is) c.settle.ensures.holds c.settle.ensures.alone c.slice.ensures.front c.slice.ensures.sliced).holds
 
 pub finish-requires : goal.finish-requires
 finish-requires g c =
-    let mid = (slice_mid (g.M.Memory.granules c.settle.new.mem) (g.M.Memory.granules c.slice.new.mem) c.settle.new.rows c.args.self.now c.args.rate c.slice.new.self (c.settle.ensures.seen ∙ c.self.view_is) c.settle.ensures.holds c.settle.ensures.settled c.slice.ensures.front c.slice.ensures.sliced) in
+    let mid = (slice_mid (g.M.Memory.granules c.settle.new.mem) (g.M.Memory.granules c.slice.new.mem) c.settle.new.rows c.args.self.now c.args.rate c.slice.new.self (c.settle.ensures.seen ∙ c.self.view_is) c.settle.ensures.holds c.settle.ensures.alone c.slice.ensures.front c.slice.ensures.sliced) in
     subst (λ (s : Seen). NoneLeft s.objects s) (sym mid.is)
     (c.requires.left (unwrap_or c.settle.new.rows.front 0)
     (front_is (g.M.Memory.granules c.settle.new.mem) c.settle.new.rows c.args.self.now (c.settle.ensures.seen ∙ c.self.view_is) ∙ some_is c.settle.new.rows.front 0 (ap (λ (s : Seen). is_some s.front) c.settle.ensures.seen ∙ sym c.running.ensures ∙ c.if-not-running.false))
@@ -20,11 +20,11 @@ finish-requires g c =
 
 pub invariant_of-self-else-finished : goal.invariant_of-self-else-finished
 invariant_of-self-else-finished g c =
-    (slice_mid (g.M.Memory.granules c.settle.new.mem) (g.M.Memory.granules c.slice.new.mem) c.settle.new.rows c.args.self.now c.args.rate c.slice.new.self (c.settle.ensures.seen ∙ c.self.view_is) c.settle.ensures.holds c.settle.ensures.settled c.slice.ensures.front c.slice.ensures.sliced).holds
+    (slice_mid (g.M.Memory.granules c.settle.new.mem) (g.M.Memory.granules c.slice.new.mem) c.settle.new.rows c.args.self.now c.args.rate c.slice.new.self (c.settle.ensures.seen ∙ c.self.view_is) c.settle.ensures.holds c.settle.ensures.alone c.slice.ensures.front c.slice.ensures.sliced).holds
 
 pub returns-then-finished : goal.returns-then-finished
 returns-then-finished g c =
-    let mid = (slice_mid (g.M.Memory.granules c.settle.new.mem) (g.M.Memory.granules c.slice.new.mem) c.settle.new.rows c.args.self.now c.args.rate c.slice.new.self (c.settle.ensures.seen ∙ c.self.view_is) c.settle.ensures.holds c.settle.ensures.settled c.slice.ensures.front c.slice.ensures.sliced) in
+    let mid = (slice_mid (g.M.Memory.granules c.settle.new.mem) (g.M.Memory.granules c.slice.new.mem) c.settle.new.rows c.args.self.now c.args.rate c.slice.new.self (c.settle.ensures.seen ∙ c.self.view_is) c.settle.ensures.holds c.settle.ensures.alone c.slice.ensures.front c.slice.ensures.sliced) in
     c.finish.ensures ∙ ap over mid.is
     ∙ pass_ends c.args.self.now c.args.rate (unwrap_or c.settle.new.rows.front 0)
     (front_is (g.M.Memory.granules c.settle.new.mem) c.settle.new.rows c.args.self.now (c.settle.ensures.seen ∙ c.self.view_is) ∙ some_is c.settle.new.rows.front 0 (ap (λ (s : Seen). is_some s.front) c.settle.ensures.seen ∙ sym c.running.ensures ∙ c.if-not-running.false))
@@ -32,7 +32,7 @@ returns-then-finished g c =
 
 pub returns-else-finished : goal.returns-else-finished
 returns-else-finished g c =
-    let mid = (slice_mid (g.M.Memory.granules c.settle.new.mem) (g.M.Memory.granules c.slice.new.mem) c.settle.new.rows c.args.self.now c.args.rate c.slice.new.self (c.settle.ensures.seen ∙ c.self.view_is) c.settle.ensures.holds c.settle.ensures.settled c.slice.ensures.front c.slice.ensures.sliced) in
+    let mid = (slice_mid (g.M.Memory.granules c.settle.new.mem) (g.M.Memory.granules c.slice.new.mem) c.settle.new.rows c.args.self.now c.args.rate c.slice.new.self (c.settle.ensures.seen ∙ c.self.view_is) c.settle.ensures.holds c.settle.ensures.alone c.slice.ensures.front c.slice.ensures.sliced) in
     mid.is
     ∙ pass_goes c.args.self.now c.args.rate (unwrap_or c.settle.new.rows.front 0)
     (front_is (g.M.Memory.granules c.settle.new.mem) c.settle.new.rows c.args.self.now (c.settle.ensures.seen ∙ c.self.view_is) ∙ some_is c.settle.new.rows.front 0 (ap (λ (s : Seen). is_some s.front) c.settle.ensures.seen ∙ sym c.running.ensures ∙ c.if-not-running.false))
