@@ -1,5 +1,5 @@
 -- The set that bits spell goes by the lowest six of them.
-use Rattle.std.proofs.Common.{ℕ, zero, suc, ◌≡◌, ◌+◌, ◌*◌, ◌/◌, ◌%◌, ◌^◌, ◌<◌, ◌≤◌, ◌==◌, ◌&&◌, ◌||◌, Bool, cond, List, [], ◌∷◌, length, refl, ap, ◌∙◌, arith}
+use Rattle.std.proofs.Common.{ℕ, zero, suc, ◌≡◌, ◌+◌, ◌/◌, ◌%◌, ◌^◌, ◌<◌, ◌≤◌, ◌==◌, ◌&&◌, ◌||◌, Bool, cond, List, [], ◌∷◌, length, refl, ap, ◌∙◌, arith}
 use Rattle.law_lists.proofs.Tests.{chosen}
 use Rattle.def_words.specs.Permissions.{bit, global, is_among, gathered, set_where, Form, forms, is_spelled_by, first_spelling, is_flagged, is_told, unpacked}
 

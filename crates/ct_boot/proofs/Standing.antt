@@ -11,10 +11,9 @@ use Rattle.def_image.specs.Parts.{ThreadRow, PartsRow}
 use Rattle.def_image.specs.Sizes.{sum_of}
 use Rattle.def_image.specs.Regions.{area_size}
 use Rattle.def_boot.specs.Boot.{first_thread, first_threads}
-use Rattle.ct_areas.specs.declared.thread.First.{First}
-use Rattle.ct_boot.specs.Starts.{start_of, starts_of}
-use Rattle.ct_boot.proofs.Firsts.{start_at}
+use Rattle.ct_boot.specs.Starts.{start_of}
 use Rattle.ct_areas.specs.declared.thread.Area.{Area}
+use Rattle.ct_areas.specs.declared.thread.First.{First}
 use Rattle.ct_areas.specs.Threads.{HasArea, frames_most}
 use Rattle.ct_areas.specs.declared.thread.Fresh.{Fresh}
 use Rattle.ct_threads.specs.Starts.{IsFresh}
@@ -128,17 +127,16 @@ left_of : (p : PartsRow) (n : ℕ) (x : ThreadRow) → slice_get p.threads n ≡
 left_of p n x is =
     drop_more p.threads n x (slice_get_within p.threads n x is) ∙ ap (λ y. y ∷ drop (n + 1) p.threads) (get_or_from_slice_get p.threads n x x is)
 
-pub one_more : (p : PartsRow) (fs : List Fresh) (n at next : ℕ) (f : Fresh) (x : ThreadRow) → IsSoFar p fs n at → slice_get p.threads n ≡ Some x
-    → f ≡ fresh_by (start_of (first_thread p n x)) (area_from p at x) → next ≡ at + area_size x → IsSoFar p (fs ++ f ∷ []) (n + 1) next
-one_more p fs n at next f x so_far is same there =
+pub one_more : (p : PartsRow) (fs : List Fresh) (n at : ℕ) (f : First) (a : Area) (x : ThreadRow) → IsSoFar p fs n at → slice_get p.threads n ≡ Some x
+    → f ≡ start_of (first_thread p n x) → a ≡ area_from p at x → IsSoFar p (fs ++ fresh_by f a ∷ []) (n + 1) (at + a.trusted_length)
+one_more p fs n at f a x so_far is start area =
     let left = left_of p n x is in
     let rest = drop (n + 1) p.threads in
-    let done : fs ++ f ∷ fresh_from p (n + 1) (at + area_size x) (drop (n + 1) p.threads) ≡ fresh_of p =
-    ap (λ g. fs ++ g ∷ fresh_from p (n + 1) (at + area_size x) (drop (n + 1) p.threads)) same ∙ ap (λ xs. fs ++ fresh_from p n at xs) (sym left) ∙ so_far.done in
-    let end : at + (area_size x + sum_of area_size (drop (n + 1) p.threads)) ≡ areas_end p = ap (λ xs. at + sum_of area_size xs) (sym left) ∙ so_far.end in
-    rw there (record {
-      done = append_assoc fs (f ∷ []) (fresh_from p (n + 1) (at + area_size x) rest) ∙ done;
-      end = (let total : at + area_size x + sum_of area_size (drop (n + 1) p.threads) ≡ at + (area_size x + sum_of area_size (drop (n + 1) p.threads)) = omega arith in total ∙ end);
+    let one = fresh_by (start_of (first_thread p n x)) (area_from p at x) in
+    let end : at + (area_size x + sum_of area_size rest) ≡ areas_end p = ap (λ xs. at + sum_of area_size xs) (sym left) ∙ so_far.end in
+    rw (start, area) (record {
+      done = append_assoc fs (one ∷ []) (fresh_from p (n + 1) (at + area_size x) rest) ∙ ap (λ xs. fs ++ fresh_from p n at xs) (sym left) ∙ so_far.done;
+      end = omega (arith, end);
     })
 
 -- the next one's area ends no later than all
@@ -154,16 +152,3 @@ all_so_far p fs n at so_far past =
       sym (append-nil fs) ∙ ap (λ xs. fs ++ fresh_from p n at xs) (sym none) ∙ so_far.done,
       at_end ∙ ap (λ xs. at + sum_of area_size xs) (sym none) ∙ so_far.end,
     )
-
--- ---- the thread that an index gives
-
-pub row_is : (p : PartsRow) (n : ℕ) (items : List ThreadRow) (t got : ThreadRow) → items ≡ p.threads → got ≡ slice_index_or items n got → slice_get p.threads n ≡ Some t → got ≡ t
-row_is p n items t got same read there = read ∙ ap (λ xs. slice_index_or xs n got) same ∙ get_or_from_slice_get p.threads n t got there
-
-pub told_at : (p : PartsRow) (n : ℕ) (t : ThreadRow) (firsts : List First) → firsts ≡ starts_of p → slice_get p.threads n ≡ Some t
-    → slice_get firsts n ≡ Some (start_of (first_thread p n t))
-told_at p n t firsts told there = ap (λ xs. slice_get xs n) told ∙ start_at p n t there
-
-pub fresh_is : (p : PartsRow) (n at : ℕ) (t : ThreadRow) (f : First) (a : Area) → Some f ≡ Some (start_of (first_thread p n t)) → a ≡ area_from p at t
-    → fresh_by f a ≡ fresh_by (start_of (first_thread p n t)) (area_from p at t)
-fresh_is p n at t f a told area = let same : f ≡ start_of (first_thread p n t) = cc in ap (λ g. fresh_by g a) same ∙ ap (λ b. fresh_by (start_of (first_thread p n t)) b) area

@@ -2,11 +2,10 @@
 
 ghost use Rattle.std.specs.Prelude.{◌≡◌, IfOk};
 ghost use Rattle.def_image.specs.Sound.{Sound};
-ghost use Rattle.ct_boot.specs.Starts.{starts_of};
 ghost use Rattle.ct_boot.specs.Launching as spec;
 
-use crate::areas::area_at;
-use crate::start::Start;
+use crate::areas::area_from;
+use crate::starting::first_at;
 use ct_areas::{First, Fresh};
 use ct_image_parts::Parts;
 use def_profile::layout::TRUSTED_HEAD;
@@ -28,29 +27,22 @@ pub(crate) fn areas_begin(parts: &Parts) -> u32
     parts.trusted + TRUSTED_HEAD
 }
 
-/// All threads, in the order of their numbers; their areas stand one after another. Boot told how
-/// they start. The one error is `NoMemory`.
-pub(crate) fn threads_of(alloc: Global, parts: &Parts, start: &Start) -> Result<Threads, NoMemory>
-    requires sound { Sound parts.now }
-    requires told { start.now.firsts ≡ starts_of parts.now }
+/// All threads, in the order of their numbers; their areas stand one after another. The one error is
+/// `NoMemory`.
+pub(crate) fn threads_of(alloc: Global, parts: &Parts) -> Result<Threads, NoMemory>
+    requires { Sound parts.now }
     ensures fresh { IfOk result (λ r. r.fresh.items ≡ spec.fresh_of parts.now) }
     ensures end { IfOk result (λ r. r.end ≡ spec.areas_end parts.now) }
 {
     let mut fresh = Vec::with_capacity(alloc, parts.threads.len())?;
     let mut at = areas_begin(parts);
     for index in 0..parts.threads.len() {
-        let area = area_at(parts, at, index);
-        let first = start.first(index as u32);
+        let thread = &parts.threads[index];
+        let area = area_from(parts, at, thread);
+        let first = first_at(parts, index, thread);
         let pcc = first.pcc;
-        let regs = first.regs;
         fresh.push(Fresh {
-            first: First {
-                pcc,
-                regs,
-                posture: first.posture,
-                actor: first.actor,
-                export: first.export,
-            },
+            first: First { pcc, ..first },
             area,
         })?;
         at += area.trusted_length;

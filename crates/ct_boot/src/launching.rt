@@ -4,7 +4,6 @@ ghost use Rattle.std.specs.Prelude.{◌≡◌, ◌*◌, IfOk, length};
 ghost use Rattle.def_boot.specs.Boot.{boot_state, image_of};
 ghost use Rattle.def_image.specs.Sound.{Sound};
 ghost use Rattle.def_boot.specs.Booting.{empty_granules};
-ghost use Rattle.ct_boot.specs.Starts.{starts_of};
 ghost use Rattle.ct_heap.specs.Effects.{AreFew, Empty, empty};
 ghost use Rattle.ct_boot.specs.Launching.{heap_range, launched};
 ghost use Rattle.ct_boot.specs.Placed.{ArePlaced, AreFirst};
@@ -12,7 +11,6 @@ ghost use Rattle.ct_boot.specs.Placed.{ArePlaced, AreFirst};
 use crate::areas::region_of;
 use crate::booting::boot;
 use crate::fresh::{areas_begin, threads_of};
-use crate::start::Start;
 use ct_engine::{Engine, Heap};
 use ct_image::Image;
 use ct_image_parts::Parts;
@@ -31,21 +29,19 @@ fn heap_of(alloc: Global, parts: &Parts, limits: &[u32]) -> Result<Heap, NoMemor
     Heap::new(alloc, parts.ram, parts.heap, length, limits)
 }
 
-/// The engine of booted memory, where boot told how the threads start.
+/// The engine of booted memory.
 fn engine_of<M: Memory + Drop>(
     alloc: Global,
     parts: &Parts,
     mem: M,
-    start: &Start,
     limits: &[u32],
 ) -> Result<Engine<M>, NoMemory>
     requires sound { Sound parts.now }
     requires few { AreFew limits.now }
     requires booted { M.granules mem ≡ (boot_state parts.now).granules }
-    requires told { start.now.firsts ≡ starts_of parts.now }
     ensures { IfOk result (λ e. e ≡ launched parts.now limits.now) }
 {
-    let threads = threads_of(alloc, parts, start)?;
+    let threads = threads_of(alloc, parts)?;
     let region = region_of(parts, areas_begin(parts), threads.end);
     let heap = heap_of(alloc, parts, limits)?;
     Engine::start(alloc, mem, region, threads.fresh.as_slice(), heap)
@@ -71,9 +67,7 @@ pub fn launch<M: Memory + Drop>(
         ArePlaced (image_of image.now) (8 * length e.granules) e.areas) }
     ensures first { IfOk result (λ e. AreFirst e) }
 {
-    let parts = image.parts();
-    let mut start = Start::new(alloc, parts.threads.len() as u32)?;
     let mut memory = mem;
-    boot(image, &mut memory, &mut start);
-    engine_of(alloc, parts, memory, &start, limits)
+    boot(image, &mut memory);
+    engine_of(alloc, image.parts(), memory, limits)
 }

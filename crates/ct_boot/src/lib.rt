@@ -16,10 +16,9 @@ mod making;
 mod numbers;
 mod putting;
 mod slots;
-mod start;
 mod starting;
 
 pub use booting::boot;
 pub use ct_areas::First;
 pub use launching::launch;
-pub use start::Start;
+pub use starting::first_of;

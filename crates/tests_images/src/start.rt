@@ -1,10 +1,8 @@
 //! A boot over plain memory. Each word was worked out by hand from docs/use/capabilities.md and
 //! docs/use/image.md.
 
-ghost use Rattle.std.specs.Prelude.{◌≡◌, length, IfOk};
-
 use crate::seen::{count_is, fewer, is, put_made};
-use ct_boot::{First, Start, boot};
+use ct_boot::{First, boot, first_of};
 use ct_cap::{Cap, Posture, Shadow};
 use ct_entry::{Device, DeviceKind, Devices, Mode};
 use ct_image::{Image, ImageFault, accept};
@@ -271,14 +269,11 @@ fn expected_register(thread: u32, n: usize) -> Cap {
 }
 
 /// An image booted into memory of its size.
-fn booted(alloc: Global, image: &Image) -> Result<(Plain, Start), NoMemory>
-    ensures { IfOk result (λ r. length r.1.firsts ≡ length image.now.threads) }
-{
+fn booted(alloc: Global, image: &Image) -> Result<Plain, NoMemory> {
     let parts = image.parts();
     let mut mem = Plain::new(alloc, parts.size)?;
-    let mut start = Start::new(alloc, parts.threads.len() as u32)?;
-    boot(image, &mut mem, &mut start);
-    Ok((mem, start))
+    boot(image, &mut mem);
+    Ok(mem)
 }
 
 /// RAM is as it is expected, granule by granule.
@@ -317,12 +312,10 @@ fn see_first(rt: &impl Abort, thread: u32, first: &First) {
 }
 
 /// Both threads start as they are expected.
-fn see_start(rt: &impl Abort, image: &Image, start: &Start)
-    requires { length start.now.firsts ≡ length image.now.threads }
-{
+fn see_start(rt: &impl Abort, image: &Image) {
     count_is(rt, image.parts().threads.len(), 2);
-    see_first(rt, 0, &start.first(0));
-    see_first(rt, 1, &start.first(1));
+    see_first(rt, 0, &first_of(image, 0));
+    see_first(rt, 1, &first_of(image, 1));
 }
 
 /// The image that these bytes spell.
@@ -347,9 +340,9 @@ pub fn shelf_image(rt: &(impl Abort + AllocGlobal)) -> Result<Image, NoMemory> {
 }
 
 fn see_booted(rt: &(impl Abort + AllocGlobal), image: &Image) -> Result<(), NoMemory> {
-    let (mem, start) = booted(rt.alloc(), image)?;
+    let mem = booted(rt.alloc(), image)?;
     see_ram(rt, &mem);
-    see_start(rt, image, &start);
+    see_start(rt, image);
     Ok(())
 }
 
