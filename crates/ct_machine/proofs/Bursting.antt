@@ -15,12 +15,12 @@ use Rattle.ct_engine.specs.Seen.{Seen}
 use Rattle.ct_execute.specs.Deciding.{Stays}
 use Rattle.ct_execute.proofs.Bursting.{goes_stays}
 use Rattle.ct_execute.proofs.Ends.{stays_same}
-use Rattle.ct_machine.specs.Parts.{state_by, IsKept}
+use Rattle.ct_machine.specs.Parts.{state_by, IsCounted, IsKept}
 use Rattle.ct_machine.specs.Going.{silence}
 use Rattle.ct_machine.specs.Quiet.{has_sweep, with_rounds, WentRounds}
 use Rattle.ct_machine.proofs.Appending.{same_machine}
 use Rattle.ct_machine.proofs.Guards.{step_guarded}
-use Rattle.ct_machine.proofs.Keeping.{machine_by}
+use Rattle.ct_machine.proofs.Keeping.{counted_so, machine_by}
 use Rattle.ct_machine.proofs.Opened.{is_open}
 use Rattle.ct_machine.proofs.Quietly.{none_ended, once_kept, quietly_is, sweep_stays}
 use Rattle.ct_machine.proofs.Rounding.{none_went, one_more_went, with_silence, WentRound}
@@ -62,6 +62,12 @@ module _ (i : Image) (e : Seen) (r : SchedRow) (t : ℕ) (kept : IsKept i e r) w
   burst_kept (suc n) new goes =
       let before = burst_kept n goes.0 goes.1 in
       (once_kept i goes.0 new r t before.0 goes.2, both_stay e goes.0 new before.1 (goes_stays goes.0 new t goes.2))
+
+  -- and the invariant of a machine is kept
+  pub burst_keeps : (n : ℕ) (new : Seen) → GoesFor t n e new → (time : ℕ) (c : Counts) → IsCounted c time e.next → IsKept i new r × IsCounted c time new.next
+  burst_keeps n new goes time c counts =
+      let after = burst_kept n new goes in
+      (after.0, counted_so c time e new _ after.1.beside refl counts)
 
   -- before the first, nothing is hidden that the thread of a confined state may reach
   pub opens_once : (pending : Bool) (devices : List DeviceState) (time : ℕ) (c : Counts) → Shut i → Confined i (state_by e r pending devices time c) → e.running ≡ Some t → StaysOpen t 1 e

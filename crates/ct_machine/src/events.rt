@@ -10,6 +10,7 @@ ghost use Rattle.ct_machine.specs.Going.{MaySweep, clock_on, sleepers_on, one_mo
 ghost use Rattle.ct_machine.specs.Parts.{deeds_of};
 
 use crate::parts::Parts;
+use crate::rounds::silence;
 use ct_entry::Happened;
 use ct_mem::Memory;
 use def_step::Event;
@@ -113,10 +114,7 @@ impl<M: Memory + Drop> Parts<M> {
         ensures board { self.new.board ≡ self.old.board }
     {
         self.sweep();
-        Happened {
-            deed: None,
-            off: None,
-        }
+        silence()
     }
 
     /// One byte comes at a device.

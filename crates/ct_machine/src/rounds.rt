@@ -20,7 +20,7 @@ pub struct Rounds {
 }
 
 /// What an event tells that tells nothing.
-fn silence() -> Happened
+pub(crate) fn silence() -> Happened
     ensures { result ≡ silence }
 {
     Happened {

@@ -1,11 +1,10 @@
-use Rattle.std.proofs.Common.{◌∙◌, arith, refl, sym, subst, ap}
+use Rattle.std.proofs.Common.{◌∙◌, arith, sym, subst, ap}
 use Rattle.std.proofs.lemmas.Bool.{not-true}
 use Rattle.def_words.specs.declared.Posture.{Posture}
 use Rattle.def_machine.specs.Platform.{MachineRow}
 use Rattle.ct_machine.specs.Going.{MayGoOn}
 use Rattle.ct_machine.specs.Quiet.{has_sweep, CarriedOn, GuardsNext, IsThreadWindow}
-use Rattle.ct_machine.proofs.Bursting.{burst_kept, none_seen}
-use Rattle.ct_machine.proofs.Keeping.{counted_so}
+use Rattle.ct_machine.proofs.Bursting.{burst_keeps, none_seen}
 use Rattle.ct_machine.proofs.Picking.{carried_by, open_on}
 use Rattle.ct_machine.proofs.Quietly.{window_in}
 use Rattle.ct_machine.proofs.parts.Parts.run_picked.Goals as goal
@@ -32,28 +31,20 @@ burst-carried-requires-clause-window g c =
 pub invariant_of-self : goal.invariant_of-self
 invariant_of-self g c =
     let i = c.self.inside in
-    let after = burst_kept i.plan i.engine i.sched c.in-Some.t c.self.invariant.0 c.burst-carried.result c.burst-carried.new.self c.burst-carried.ensures.goes in
-    (after.0, counted_so i.counts i.time i.engine c.burst-carried.new.self _ after.1.beside refl c.self.invariant.1)
+    burst_keeps i.plan i.engine i.sched c.in-Some.t c.self.invariant.0 c.burst-carried.result c.burst-carried.new.self c.burst-carried.ensures.goes i.time i.counts c.self.invariant.1
 
 pub invariant_of-self-else-carried-gt0 : goal.invariant_of-self-else-carried-gt0
 invariant_of-self-else-carried-gt0 g c =
     let i = c.self.inside in
-    let after = burst_kept i.plan i.engine i.sched c.in-Some.t c.self.invariant.0 c.burst-carried.result c.burst-carried.new.self c.burst-carried.ensures.goes in
-    (after.0, counted_so i.counts i.time i.engine c.burst-carried.new.self _ after.1.beside refl c.self.invariant.1)
+    burst_keeps i.plan i.engine i.sched c.in-Some.t c.self.invariant.0 c.burst-carried.result c.burst-carried.new.self c.burst-carried.ensures.goes i.time i.counts c.self.invariant.1
 
 pub count_rounds-requires-clause-steps : goal.count_rounds-requires-clause-steps
 count_rounds-requires-clause-steps g c =
-    let few = c.burst-carried.ensures.most in
-    let room = c.requires.steps in
-    let same = ap (λ (m : MachineRow). m.state.counts.steps) c.self.view_is in
-    omega (arith, few, room, same)
+    omega (arith, c.burst-carried.ensures.most, c.requires.steps, ap (λ (m : MachineRow). m.state.counts.steps) c.self.view_is)
 
 pub count_rounds-requires-clause-sweeps : goal.count_rounds-requires-clause-sweeps
 count_rounds-requires-clause-sweeps g c =
-    let few = c.burst-carried.ensures.most in
-    let room = c.requires.sweeps in
-    let same = ap (λ (m : MachineRow). m.state.counts.sweeps) c.self.view_is in
-    omega (arith, few, room, same)
+    omega (arith, c.burst-carried.ensures.most, c.requires.sweeps, ap (λ (m : MachineRow). m.state.counts.sweeps) c.self.view_is)
 
 pub returns-then-carried-gt0-clause-carried : goal.returns-then-carried-gt0-clause-carried
 returns-then-carried-gt0-clause-carried g c some =

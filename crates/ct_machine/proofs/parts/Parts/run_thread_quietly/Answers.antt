@@ -1,9 +1,8 @@
-use Rattle.std.proofs.Common.{◌∙◌, arith, refl, sym, subst, ap}
+use Rattle.std.proofs.Common.{◌∙◌, arith, sym, subst, ap}
 use Rattle.def_events.specs.Guarded.{Guarded}
 use Rattle.def_machine.specs.Platform.{MachineRow}
 use Rattle.ct_machine.specs.Quiet.{has_sweep, IsThreadWindow, WentRounds}
-use Rattle.ct_machine.proofs.Bursting.{burst_kept, none_seen, rounds_went, runs_seen, stays_open}
-use Rattle.ct_machine.proofs.Keeping.{counted_so}
+use Rattle.ct_machine.proofs.Bursting.{burst_keeps, none_seen, rounds_went, runs_seen, stays_open}
 use Rattle.ct_machine.proofs.Quietly.{window_in}
 use Rattle.ct_machine.proofs.parts.Parts.run_thread_quietly.Goals as goal
 
@@ -25,22 +24,15 @@ burst-made-requires-clause-window g c =
 pub invariant_of-self : goal.invariant_of-self
 invariant_of-self g c =
     let i = c.self.inside in
-    let after = burst_kept i.plan i.engine i.sched c.args.t c.self.invariant.0 c.burst-made.result c.burst-made.new.self c.burst-made.ensures.goes in
-    (after.0, counted_so i.counts i.time i.engine c.burst-made.new.self _ after.1.beside refl c.self.invariant.1)
+    burst_keeps i.plan i.engine i.sched c.args.t c.self.invariant.0 c.burst-made.result c.burst-made.new.self c.burst-made.ensures.goes i.time i.counts c.self.invariant.1
 
 pub count_rounds-requires-clause-steps : goal.count_rounds-requires-clause-steps
 count_rounds-requires-clause-steps g c =
-    let few = c.burst-made.ensures.most in
-    let room = c.requires.steps in
-    let same = ap (λ (m : MachineRow). m.state.counts.steps) c.self.view_is in
-    omega (arith, few, room, same)
+    omega (arith, c.burst-made.ensures.most, c.requires.steps, ap (λ (m : MachineRow). m.state.counts.steps) c.self.view_is)
 
 pub count_rounds-requires-clause-sweeps : goal.count_rounds-requires-clause-sweeps
 count_rounds-requires-clause-sweeps g c =
-    let few = c.burst-made.ensures.most in
-    let room = c.requires.sweeps in
-    let same = ap (λ (m : MachineRow). m.state.counts.sweeps) c.self.view_is in
-    omega (arith, few, room, same)
+    omega (arith, c.burst-made.ensures.most, c.requires.sweeps, ap (λ (m : MachineRow). m.state.counts.sweeps) c.self.view_is)
 
 pub returns-clause-went : goal.returns-clause-went
 returns-clause-went g c =
