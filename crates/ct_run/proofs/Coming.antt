@@ -1,142 +1,135 @@
 -- Events that come one after the other, with their lines.
-use Rattle.std.proofs.Common.{◌≡◌, ℕ, ◌+◌, ◌≤◌, Bool, true, false, List, [], ◌∷◌, ◌++◌, length, map, refl, sym, ap, ◌∙◌, subst, arith}
-use Rattle.std.proofs.lemmas.List.{append-nil}
+use Rattle.std.proofs.Common.{◌≡◌, ℕ, suc, ◌+◌, ◌<◌, ◌≤◌, nat_lt, Bool, true, false, List, [], ◌∷◌, ◌++◌, Result, length, drop, get_or, refl, sym, ap, ◌∙◌, subst, arith}
+use Rattle.std.specs.List.{All, flat_map}
+use Rattle.std.proofs.Math.Seq.{drop-cons}
+use Rattle.std.proofs.lemmas.Bool.{lt-ltb, and_from}
+use Rattle.std.proofs.lemmas.List.{append_assoc, append-nil, drop_all}
 use Rattle.std.proofs.lemmas.Grind.{flat_map-append}
-use Rattle.std.specs.List.{flat_map}
+use Rattle.std.proofs.lemmas.Result.{MatchResult-weaker}
 use Rattle.ct_entry.specs.declared.acts.Happened.{Happened}
+use Rattle.def_profile.specs.declared.limits.TheConstants.{MOST_STEPS}
 use Rattle.def_port.specs.Bytes.{SinkView}
 use Rattle.def_port.specs.Writes.{Writes, WriteFails}
 use Rattle.def_machine.specs.State.{State}
-use Rattle.def_step.specs.declared.Event.{Event}
-use Rattle.def_step.specs.declared.Event.TheVariants.{Step, Sweep}
 use Rattle.def_machine.specs.Platform.{Platform, MachineRow}
-use Rattle.def_step.specs.Events.{happens, run, happenings_of}
-use Rattle.def_trace.specs.Trace.{trace_line}
-use Rattle.def_events.specs.Kinds.{Kinds, kinds, all_more}
-use Rattle.law_routines.proofs.Appended.{run_append, told_append}
-use Rattle.law_routines.proofs.Counted.{run_kinds, inputs_more}
-use Rattle.law_routines.proofs.Devices.{run_keeps}
+use Rattle.def_step.specs.declared.Event.{Event}
+use Rattle.def_step.specs.Events.{happens, run, happenings_of, is_lawful, AreLawful}
 use Rattle.def_script.specs.declared.Given.{Given}
+use Rattle.def_events.specs.Kinds.{Kinds}
+use Rattle.law_routines.proofs.Appended.{run_append, told_append}
+use Rattle.law_routines.proofs.Counted.{event_kinds}
+use Rattle.law_routines.proofs.Devices.{event_keeps}
 use Rattle.def_program.specs.Runs.{input_of}
-use Rattle.ct_machine.specs.Going.{silence}
-use Rattle.ct_run.specs.Rounds.{before_of, Came, Passed, ticks_if, lines_of, round_of}
-use Rattle.ct_port.proofs.Pieces as pieces
+use Rattle.ct_run.specs.Rounds.{after, before_of, line_if, lines_of, ticks_if, Came, Comes}
+use Rattle.ct_run.proofs.Pieces as pieces
+use Rattle.ct_run.proofs.Pieces.{Toward}
 
--- ---- lists of events
+-- ---- one event
 
-lines_append : (m n : MachineRow) (k : ℕ) (es fs : List Event) → n.board ≡ m.board → n.state ≡ run m.board m.state es → lines_of m k (es ++ fs) ≡ lines_of m k es ++ lines_of n k fs
-lines_append m n k es fs board state =
-    ap (flat_map (trace_line k)) (told_append m.board m.state es fs)
-    ∙ flat_map-append (trace_line k) (happenings_of m.board m.state es) (happenings_of m.board (run m.board m.state es) fs)
-    ∙ ap (λ b. lines_of m k es ++ flat_map (trace_line k) (happenings_of b (run m.board m.state es) fs)) (sym board)
-    ∙ ap (λ s. lines_of m k es ++ flat_map (trace_line k) (happenings_of n.board s fs)) (sym state)
-
-pub one_line : (m : MachineRow) (k : ℕ) (e : Event) → lines_of m k (e ∷ []) ≡ trace_line k (happens m.board m.state e).1
+pub one_line : (with_lines : Bool) (m : MachineRow) (k : ℕ) (e : Event) → lines_of with_lines m k (e ∷ []) ≡ line_if with_lines k (happens m.board m.state e).1
 unfolding happenings_of
-one_line m k e = append-nil (trace_line k (happens m.board m.state e).1)
+one_line with_lines m k e = append-nil (line_if with_lines k (happens m.board m.state e).1)
 
-pub one_event : (b : Platform) (s : State) (e : Event) → run b s (e ∷ []) ≡ (happens b s e).0
+pub one_came : (with_lines : Bool) (m n : MachineRow) (k : ℕ) (e : Event) (h : Happened) {before now : SinkView} → n.state ≡ (happens m.board m.state e).0 → h ≡ (happens m.board m.state e).1 → n.board ≡ m.board
+    → Writes before now (line_if with_lines k h) → Came with_lines m n k (e ∷ []) before now
 unfolding run
-one_event b s e = refl
-
--- ---- coming
-
-pub none_came : (m : MachineRow) (k : ℕ) (before : SinkView) → Came m m k [] before before
-unfolding run happenings_of
-none_came m k before = record { board = refl; state = refl; written = pieces.nothing before }
-
-pub one_came : (m n : MachineRow) (k : ℕ) (e : Event) (h : Happened) (before after : SinkView)
-    → n.state ≡ (happens m.board m.state e).0 → h ≡ (happens m.board m.state e).1 → n.board ≡ m.board
-    → Writes before after (trace_line k h) → Came m n k (e ∷ []) before after
-one_came m n k e h before after state happenings_of board w = record {
-  board = board;
-  state = state ∙ sym (one_event m.board m.state e);
-  written = subst (λ t. Writes before after t) (ap (λ x. trace_line k x) happenings_of ∙ sym (one_line m k e)) w;
+one_came with_lines m n k e h {before} {now} state happened board w = record {
+  left = rw (board, state) refl;
+  written = subst (λ t. Writes before now t) (ap (line_if with_lines k) happened ∙ sym (one_line with_lines m k e)) w;
 }
 
-pub one_fails : (m : MachineRow) (k : ℕ) (e : Event) (h : Happened) (before after : SinkView)
-    → h ≡ (happens m.board m.state e).1
-    → WriteFails before after (trace_line k h) → WriteFails before after (lines_of m k (e ∷ []))
-one_fails m k e h before after happenings_of w = subst (λ t. WriteFails before after t) (ap (λ x. trace_line k x) happenings_of ∙ sym (one_line m k e)) w
+pub one_fails : (with_lines : Bool) (m : MachineRow) (k : ℕ) (e : Event) (h : Happened) {before now : SinkView} → h ≡ (happens m.board m.state e).1
+    → WriteFails before now (line_if with_lines k h) → WriteFails before now (lines_of with_lines m k (e ∷ []))
+one_fails with_lines m k e h {before} {now} happened w = subst (λ t. WriteFails before now t) (ap (line_if with_lines k) happened ∙ sym (one_line with_lines m k e)) w
 
--- an event that tells nothing, of which nothing is written
-pub silent_came : (m n : MachineRow) (k : ℕ) (e : Event) (before : SinkView) → Passed m n (e ∷ []) → (happens m.board m.state e).1 ≡ silence → Came m n k (e ∷ []) before before
-unfolding trace_line
-silent_came m n k e before passed silent = record {
-  board = passed.board;
-  state = passed.state;
-  written = subst (λ t. Writes before before t) (ap (λ x. trace_line k x) (sym silent) ∙ sym (one_line m k e)) (pieces.nothing before);
-}
+-- ---- some events of several
 
-pub both_came : (m n o : MachineRow) (k : ℕ) (es fs : List Event) (before mid after : SinkView)
-    → Came m n k es before mid → Came n o k fs mid after → Came m o k (es ++ fs) before after
-both_came m n o k es fs before mid after a b = record {
-  board = b.board ∙ a.board;
-  state = b.state ∙ (rw (a.board, a.state) refl) ∙ sym (run_append m.board m.state es fs);
-  written = subst (λ t. Writes before after t) (sym (lines_append m n k es fs a.board a.state)) (pieces.both before mid after (lines_of m k es) (lines_of n k fs) a.written b.written);
-}
+lines_append : (with_lines : Bool) (m : MachineRow) (k : ℕ) (es fs : List Event) → lines_of with_lines m k (es ++ fs) ≡ lines_of with_lines m k es ++ lines_of with_lines (after m es) k fs
+lines_append with_lines m k es fs =
+    ap (flat_map (line_if with_lines k)) (told_append m.board m.state es fs)
+    ∙ flat_map-append (line_if with_lines k) (happenings_of m.board m.state es) (happenings_of m.board (run m.board m.state es) fs)
 
-pub first_failed : (m : MachineRow) (k : ℕ) (es fs : List Event) (before after : SinkView)
-    → WriteFails before after (lines_of m k es) → WriteFails before after (lines_of m k (es ++ fs))
-first_failed m k es fs before after w =
-    let there : MachineRow = record { board = m.board; state = run m.board m.state es } in
-    subst (λ t. WriteFails before after t) (sym (lines_append m there k es fs refl refl)) (pieces.first_fails before after (lines_of m k es) (lines_of there k fs) w)
+-- these are left of the events of a round: they leave this machine, and their lines and this rest are left of the text
+pub record Pending (with_lines : Bool) (m : MachineRow) (k : ℕ) (es : List Event) (end : MachineRow) (rest text : List ℕ) (before now : SinkView) : Type 0 where
+  pub leads : after m es ≡ end
+  pub toward : Toward before now (lines_of with_lines m k es ++ rest) text
 
-pub second_failed : (m n : MachineRow) (k : ℕ) (es fs : List Event) (before mid after : SinkView)
-    → Came m n k es before mid → WriteFails mid after (lines_of n k fs) → WriteFails before after (lines_of m k (es ++ fs))
-second_failed m n k es fs before mid after a w =
-    subst (λ t. WriteFails before after t) (sym (lines_append m n k es fs a.board a.state)) (pieces.second_fails before mid after (lines_of m k es) (lines_of n k fs) a.written w)
+module _ (with_lines : Bool) (m : MachineRow) (k : ℕ) (es fs : List Event) {end : MachineRow} {rest text : List ℕ} {before mid : SinkView} where
+  next_lines : Pending with_lines m k (es ++ fs) end rest text before mid → Toward before mid (lines_of with_lines m k es ++ (lines_of with_lines (after m es) k fs ++ rest)) text
+  next_lines p =
+      subst (λ t. Toward before mid t text)
+      (ap (λ t. t ++ rest) (lines_append with_lines m k es fs) ∙ append_assoc (lines_of with_lines m k es) (lines_of with_lines (after m es) k fs) rest) p.toward
 
--- ---- what was counted
+  pub goes_on : {now : SinkView} (n : MachineRow) → Pending with_lines m k (es ++ fs) end rest text before mid → Came with_lines m n k es mid now → Pending with_lines n k fs end rest text before now
+  goes_on {now} n p c =
+      subst (λ z. Pending with_lines z k fs end rest text before now) (sym c.left) (record {
+        leads = ap (λ s. record { board = m.board; state = s }) (sym (run_append m.board m.state es fs)) ∙ p.leads;
+        toward = pieces.goes_on (next_lines p) c.written;
+      })
 
-came_kinds : (m n : MachineRow) (k : ℕ) (es : List Event) (before after : SinkView) → Came m n k es before after → kinds n.state.counts ≡ all_more es (kinds m.state.counts)
-came_kinds m n k es before after c = ap (λ (s : State). kinds s.counts) c.state ∙ run_kinds m.board m.state es
+  pub breaks : {now : SinkView} → Pending with_lines m k (es ++ fs) end rest text before mid → WriteFails mid now (lines_of with_lines m k es) → WriteFails before now text
+  breaks p w = pieces.fails (lines_of with_lines (after m es) k fs ++ rest) (next_lines p) w
 
-pub inputs_kinds : (m n : MachineRow) (gs : List Given) (k : ℕ) (before after : SinkView) → Came m n k (map input_of gs) before after
-    → kinds n.state.counts ≡ record (kinds m.state.counts) { inputs = m.state.counts.inputs + length gs }
-inputs_kinds m n gs k before after c =
-    came_kinds m n k (map input_of gs) before after c
-    ∙ ap (λ es. all_more es (kinds m.state.counts)) (sym (append-nil (map input_of gs)))
-    ∙ inputs_more input_of (λ g k. refl) gs [] (kinds m.state.counts)
+-- ---- what comes before a step
 
-pub came_devices : (m n : MachineRow) (k : ℕ) (es : List Event) (before after : SinkView) → Came m n k es before after → length n.state.devices ≡ length m.state.devices
-came_devices m n k es before after c = ap (λ (s : State). length s.devices) c.state ∙ run_keeps m.board m.state es
+-- these are left of it, and may come
+pub record Coming (with_lines : Bool) (first m : MachineRow) (k : ℕ) (all left : List Event) (before now : SinkView) : Type 0 where
+  pub lawful : AreLawful m.board m.state left
+  pub pending : Pending with_lines m k left (after first all) [] (lines_of with_lines first k all) before now
 
--- what comes before a step
-before_kinds : (m n : MachineRow) (gs : List Given) (due : Bool) (k : ℕ) (before after : SinkView) → Came m n k (before_of gs due) before after
-    → kinds n.state.counts ≡ all_more (ticks_if due) (record (kinds m.state.counts) { inputs = m.state.counts.inputs + length gs })
-before_kinds m n gs due k before after c = came_kinds m n k (before_of gs due) before after c ∙ inputs_more input_of (λ g k. refl) gs (ticks_if due) (kinds m.state.counts)
+module _ (with_lines : Bool) (first : MachineRow) (k : ℕ) (all : List Event) where
+  pub starts : (before : SinkView) → AreLawful first.board first.state all → Coming with_lines first first k all all before before
+  starts before lawful = record {
+    lawful = lawful;
+    pending = record { leads = refl; toward = subst (λ t. Toward before before t (lines_of with_lines first k all)) (sym (append-nil (lines_of with_lines first k all))) (pieces.starts before (lines_of with_lines first k all)) };
+  }
 
-pub before_steps : (m n : MachineRow) (gs : List Given) (due : Bool) (k : ℕ) (before after : SinkView) → Came m n k (before_of gs due) before after → n.state.counts.steps ≡ m.state.counts.steps
-before_steps m n gs true k before after c = ap (λ (x : Kinds). x.steps) (before_kinds m n gs true k before after c)
-before_steps m n gs false k before after c = ap (λ (x : Kinds). x.steps) (before_kinds m n gs false k before after c)
+  pub may_come : (m : MachineRow) (e : Event) (es : List Event) {before now : SinkView} → Coming with_lines first m k all (e ∷ es) before now → is_lawful m.state e ≡ true
+  unfolding AreLawful
+  may_come m e es c = c.lawful.0
 
-pub before_sweeps : (m n : MachineRow) (gs : List Given) (due : Bool) (k : ℕ) (before after : SinkView) → Came m n k (before_of gs due) before after → n.state.counts.sweeps ≡ m.state.counts.sweeps
-before_sweeps m n gs true k before after c = ap (λ (x : Kinds). x.sweeps) (before_kinds m n gs true k before after c)
-before_sweeps m n gs false k before after c = ap (λ (x : Kinds). x.sweeps) (before_kinds m n gs false k before after c)
+  pub comes : (m n : MachineRow) (e : Event) (es : List Event) {before mid now : SinkView} → Coming with_lines first m k all (e ∷ es) before mid → Came with_lines m n k (e ∷ []) mid now → Coming with_lines first n k all es before now
+  unfolding AreLawful run
+  comes m n e es c came = record {
+    lawful = subst (λ (z : MachineRow). AreLawful z.board z.state es) (sym came.left) c.lawful.1;
+    pending = goes_on with_lines m k (e ∷ []) es n c.pending came;
+  }
 
--- a whole round
-round_kinds : (m n : MachineRow) (gs : List Given) (due : Bool) (k : ℕ) (before after : SinkView) → Came m n k (round_of gs due) before after
-    → kinds n.state.counts ≡ all_more (ticks_if due ++ Sweep ∷ Step ∷ []) (record (kinds m.state.counts) { inputs = m.state.counts.inputs + length gs })
-round_kinds m n gs due k before after c =
-    came_kinds m n k (round_of gs due) before after c ∙ inputs_more input_of (λ g k. refl) gs (ticks_if due ++ Sweep ∷ Step ∷ []) (kinds m.state.counts)
+  pub fails : (m : MachineRow) (e : Event) (es : List Event) {before mid now : SinkView} → Coming with_lines first m k all (e ∷ es) before mid → WriteFails mid now (lines_of with_lines m k (e ∷ [])) → WriteFails before now (lines_of with_lines first k all)
+  fails m e es c w = breaks with_lines m k (e ∷ []) es c.pending w
 
-pub round_steps : (m n : MachineRow) (gs : List Given) (due : Bool) (k : ℕ) (before after : SinkView) → Came m n k (round_of gs due) before after → n.state.counts.steps ≡ m.state.counts.steps + 1
-round_steps m n gs true k before after c = ap (λ (x : Kinds). x.steps) (round_kinds m n gs true k before after c)
-round_steps m n gs false k before after c = ap (λ (x : Kinds). x.steps) (round_kinds m n gs false k before after c)
+  pub all_came : (m : MachineRow) {before now : SinkView} → Coming with_lines first m k all [] before now → Came with_lines first m k all before now
+  unfolding run happenings_of
+  all_came m c = record { left = c.pending.leads; written = pieces.whole c.pending.toward }
 
-pub round_sweeps : (m n : MachineRow) (gs : List Given) (due : Bool) (k : ℕ) (before after : SinkView) → Came m n k (round_of gs due) before after → n.state.counts.sweeps ≡ m.state.counts.sweeps + 1
-round_sweeps m n gs true k before after c = ap (λ (x : Kinds). x.sweeps) (round_kinds m n gs true k before after c)
-round_sweeps m n gs false k before after c = ap (λ (x : Kinds). x.sweeps) (round_kinds m n gs false k before after c)
+  -- the last of them
+  pub last_comes : {A B : Type 0} (m n : MachineRow) (e : Event) {before mid : SinkView} (now : SinkView) (result : Result A B) → Coming with_lines first m k all (e ∷ []) before mid → Comes with_lines m n k (e ∷ []) mid now result → Comes with_lines first n k all before now result
+  last_comes m n e now result c came = MatchResult-weaker result came (λ _ w. all_came n (comes m n e [] c w)) (λ _ w. fails m e [] c w)
 
-pub round_inputs : (m n : MachineRow) (gs : List Given) (due : Bool) (k : ℕ) (before after : SinkView) → Came m n k (round_of gs due) before after → n.state.counts.inputs ≡ m.state.counts.inputs + length gs
-round_inputs m n gs true k before after c = ap (λ (x : Kinds). x.inputs) (round_kinds m n gs true k before after c)
-round_inputs m n gs false k before after c = ap (λ (x : Kinds). x.inputs) (round_kinds m n gs false k before after c)
+  -- the next byte
+  pub next_byte : (m : MachineRow) (gs : List Given) (due : Bool) (i : ℕ) (d : Given) {before now : SinkView} → i < length gs
+      → Coming with_lines first m k all (before_of (drop i gs) due) before now → Coming with_lines first m k all (input_of (get_or gs i d) ∷ before_of (drop (i + 1) gs) due) before now
+  next_byte m gs due i d {before} {now} low c =
+      let on : suc i ≡ i + 1 = omega arith in
+      subst (λ n. Coming with_lines first m k all (input_of (get_or gs i d) ∷ before_of (drop n gs) due) before now) on
+      (subst (λ left. Coming with_lines first m k all (before_of left due) before now) (drop-cons gs i d low) c)
 
-pub round_ticks : (m n : MachineRow) (gs : List Given) (due : Bool) (k : ℕ) (before after : SinkView) → Came m n k (round_of gs due) before after → n.state.counts.ticks ≤ m.state.counts.ticks + 1
-round_ticks m n gs true k before after c =
-    let same : n.state.counts.ticks ≡ m.state.counts.ticks + 1 = ap (λ (x : Kinds). x.ticks) (round_kinds m n gs true k before after c) in
-    omega (arith, same)
-round_ticks m n gs false k before after c =
-    let same : n.state.counts.ticks ≡ m.state.counts.ticks = ap (λ (x : Kinds). x.ticks) (round_kinds m n gs false k before after c) in
-    omega (arith, same)
+  -- past the last of them
+  pub no_byte : (m : MachineRow) (gs : List Given) (due : Bool) (i : ℕ) {es : List Event} {before now : SinkView} → length gs ≤ i → ticks_if due ≡ es
+      → Coming with_lines first m k all (before_of (drop i gs) due) before now → Coming with_lines first m k all es before now
+  no_byte m gs due i {es} {before} {now} past is c = subst (λ left. Coming with_lines first m k all left before now) (ap (λ left. before_of left due) (drop_all i gs past) ∙ is) c
+
+-- bytes for which there is room, each to a device, and a tick for which there is
+pub before_lawful : (b : Platform) (s : State) (gs : List Given) (due : Bool) → s.counts.inputs + length gs ≤ MOST_STEPS → All (λ (g : Given). g.device < length s.devices) gs → s.counts.ticks < MOST_STEPS
+    → AreLawful b s (before_of gs due)
+unfolding AreLawful
+before_lawful b s [] true room named ticks = (lt-ltb s.counts.ticks MOST_STEPS ticks, tt)
+before_lawful b s [] false room named ticks = tt
+before_lawful b s (g ∷ gs) due room named ticks =
+    let next : State = (happens b s (input_of g)).0 in
+    let more : next.counts.inputs ≡ s.counts.inputs + 1 = ap (λ (x : Kinds). x.inputs) (event_kinds b s (input_of g)) in
+    let same : next.counts.ticks ≡ s.counts.ticks = ap (λ (x : Kinds). x.ticks) (event_kinds b s (input_of g)) in
+    let left : All (λ (x : Given). x.device < length s.devices) gs = λ j d inside. named (suc j) d (omega (arith, inside)) in (
+      and_from (nat_lt s.counts.inputs MOST_STEPS) (nat_lt g.device (length s.devices)) (lt-ltb s.counts.inputs MOST_STEPS (omega (arith, room))) (lt-ltb g.device (length s.devices) (named 0 g (omega arith))),
+      before_lawful b next gs due (omega (arith, more, room)) (subst (λ n. All (λ (x : Given). x.device < n) gs) (sym (event_keeps b s (input_of g))) left) (omega (arith, same, ticks)),
+    )

@@ -1,7 +1,6 @@
-pub mod Onward
 pub mod Pieces
 pub mod Coming
-pub mod Inputs
+pub mod Text
 pub mod Ticking
 pub mod Going
-pub mod Passing
+pub mod Onward

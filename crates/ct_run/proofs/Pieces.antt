@@ -1,26 +1,35 @@
--- What is left of a text of which a beginning was written.
-use Rattle.std.proofs.Common.{◌≡◌, ℕ, List, [], ◌++◌, ◌∙◌, sym, subst}
+-- A text of which a beginning was written, and what is left of it.
+use Rattle.std.proofs.Common.{◌≡◌, ℕ, List, [], ◌++◌, Result, refl, ◌∙◌, sym, subst}
 use Rattle.std.proofs.lemmas.List.{append-nil}
+use Rattle.std.proofs.lemmas.Result.{MatchResult-weaker}
 use Rattle.def_port.specs.Bytes.{FaultsRose, AppendsBefore, SinkView}
-use Rattle.def_port.specs.Writes.{Writes, WriteFails}
+use Rattle.def_port.specs.Writes.{Writes, WriteFails, WriteAnswers}
 use Rattle.ct_port.proofs.Added as added
 
--- what is left of it is written
-pub rest_written : (old mid new : SinkView) (left text : List ℕ) → AppendsBefore old.bytes mid.bytes left text → mid.faults ≡ old.faults → Writes mid new left → Writes old new text
-rest_written old mid new left text so_far same w =
-    let here : AppendsBefore old.bytes mid.bytes (left ++ []) text = subst (λ t. AppendsBefore old.bytes mid.bytes t text) (sym (append-nil left)) so_far in
-    record {
-      added = added.ends old.bytes new.bytes text (added.goes_on old.bytes mid.bytes new.bytes left [] text here w.added);
-      same = w.same ∙ same;
-    }
+-- so much of a text was written that this is left
+pub record Toward (old now : SinkView) (left text : List ℕ) : Type 0 where
+  pub added : AppendsBefore old.bytes now.bytes left text
+  pub same : now.faults ≡ old.faults
 
--- the next piece of it fails
-pub next_fails : (old mid new : SinkView) (piece left text : List ℕ) → AppendsBefore old.bytes mid.bytes (piece ++ left) text → mid.faults ≡ old.faults → WriteFails mid new piece → WriteFails old new text
-next_fails old mid new piece left text so_far same w = record {
-  added = added.fails old.bytes mid.bytes new.bytes piece left text so_far w.added;
-  rose = let P : ℕ → Type 0 = λ n. FaultsRose n new.faults in subst P same w.rose;
+pub starts : (old : SinkView) (text : List ℕ) → Toward old old text text
+starts old text = record { added = added.starts old.bytes text; same = refl }
+
+pub goes_on : {old mid now : SinkView} {piece left text : List ℕ} → Toward old mid (piece ++ left) text → Writes mid now piece → Toward old now left text
+goes_on {old} {mid} {now} {piece} {left} {text} t w = record { added = added.goes_on old.bytes mid.bytes now.bytes piece left text t.added w.added; same = w.same ∙ t.same }
+
+pub fails : {old mid now : SinkView} {piece text : List ℕ} (left : List ℕ) → Toward old mid (piece ++ left) text → WriteFails mid now piece → WriteFails old now text
+fails {old} {mid} {now} {piece} {text} left t w = record {
+  added = added.fails old.bytes mid.bytes now.bytes piece left text t.added w.added;
+  rose = let P : ℕ → Type 0 = λ n. FaultsRose n now.faults in subst P t.same w.rose;
 }
 
-pub rest_fails : (old mid new : SinkView) (left text : List ℕ) → AppendsBefore old.bytes mid.bytes left text → mid.faults ≡ old.faults → WriteFails mid new left → WriteFails old new text
-rest_fails old mid new left text so_far same w =
-    next_fails old mid new left [] text (subst (λ t. AppendsBefore old.bytes mid.bytes t text) (sym (append-nil left)) so_far) same w
+pub whole : {old now : SinkView} {text : List ℕ} → Toward old now [] text → Writes old now text
+whole {old} {now} {text} t = record { added = added.ends old.bytes now.bytes text t.added; same = t.same }
+
+-- what is left comes by one write
+pub ends : {A B : Type 0} {old mid : SinkView} {left text : List ℕ} (now : SinkView) (result : Result A B) → Toward old mid left text → WriteAnswers mid now left result → WriteAnswers old now text result
+ends {A} {B} {old} {mid} {left} {text} now result t answers =
+    let all : Toward old mid (left ++ []) text = subst (λ piece. Toward old mid piece text) (sym (append-nil left)) t in
+    MatchResult-weaker result answers
+    (λ _ w. whole (goes_on all w))
+    (λ _ w. fails [] all w)

@@ -1,32 +1,27 @@
--- What a run does in parts: some events, and the lines of what they did.
-use Rattle.std.specs.Prelude.{ℕ, ◌≡◌, ◌+◌, ◌*◌, ◌<◌, ◌≤◌, ◌⊎◌, ◌++◌, Bool, suc, List, [], ◌∷◌, All, length, map, if◌then◌else◌}
+-- What a run does in parts: some events, and the lines of what they did. A run has lines, or writes its summary alone.
+use Rattle.std.specs.Prelude.{ℕ, zero, suc, ◌≡◌, ◌+◌, ◌<◌, ◌≤◌, ◌++◌, Bool, List, [], ◌∷◌, Option, Some, None, Result, MatchResult, map, if◌then◌else◌}
+use Rattle.std.specs.Borrow.{Bor}
 use Rattle.std.specs.List.{flat_map}
 use Rattle.def_profile.specs.declared.limits.TheConstants.{MOST_STEPS}
 use Rattle.def_port.specs.Writes.{Writes, WriteFails}
-use Rattle.def_port.specs.Bytes.{AppendsBefore, SinkView}
-use Rattle.def_machine.specs.State.{State}
+use Rattle.def_port.specs.Bytes.{SinkView}
 use Rattle.def_step.specs.declared.Event.{Event}
-use Rattle.def_step.specs.declared.Event.TheVariants.{Tick, Sweep, Step}
-use Rattle.def_step.specs.Events.{run, happenings_of}
+use Rattle.def_step.specs.declared.Event.TheVariants.{Tick}
+use Rattle.def_step.specs.Events.{run, happenings_of, end_of}
 use Rattle.def_machine.specs.Platform.{MachineRow}
 use Rattle.ct_entry.specs.declared.acts.Happened.{Happened}
 use Rattle.def_trace.specs.Trace.{trace_line}
 use Rattle.def_script.specs.declared.Given.{Given}
 use Rattle.def_script.specs.Script.{Due, given_at}
-use Rattle.def_program.specs.Runs.{input_of, last_line, run_lines}
+use Rattle.ct_script.specs.declared.script.Script.{Script}
+use Rattle.def_program.specs.Runs.{input_of, last_line, or_last, round}
 use Rattle.def_events.specs.Kinds.{IsUncounted}
-use Rattle.ct_machine.specs.Onward.{RanOn}
 
 -- no event has come yet, a quantum is a step at least, and no more steps are asked for than may be made
 pub record MayRun (m : MachineRow) (each most : ℕ) : Type 0 where
   pub booted : IsUncounted m.state.counts
   pub quantum : 1 ≤ each
   pub limit : most ≤ MOST_STEPS
-
--- so many bytes may come, and each to a device
-pub record HasInputs (s : State) (givens : List Given) : Type 0 where
-  pub room : s.counts.inputs + length givens ≤ MOST_STEPS
-  pub named : All (λ (g : Given). g.device < length s.devices) givens
 
 -- a tick, where it is due
 abbrev pub ticks_if : Bool → List Event
@@ -36,32 +31,36 @@ ticks_if due = if due then Tick ∷ [] else []
 abbrev pub before_of : List Given → Bool → List Event
 before_of givens due = map input_of givens ++ ticks_if due
 
--- and with it a slice of a sweep, and the step
-abbrev pub round_of : List Given → Bool → List Event
-round_of givens due = map input_of givens ++ (ticks_if due ++ Sweep ∷ Step ∷ [])
+-- the machine after some events
+abbrev pub after : MachineRow → List Event → MachineRow
+after m events = record { board = m.board; state = run m.board m.state events }
 
--- the lines of what events before step k and that step did
-abbrev pub lines_of : MachineRow → ℕ → List Event → List ℕ
-lines_of m k events = flat_map (trace_line k) (happenings_of m.board m.state events)
+-- what is written of what happened with step k
+abbrev pub line_if : Bool → ℕ → Happened → List ℕ
+line_if with_lines k happened = if with_lines then trace_line k happened else []
+
+-- and of what events before step k and that step did
+abbrev pub lines_of : Bool → MachineRow → ℕ → List Event → List ℕ
+lines_of with_lines m k events =
+    flat_map (line_if with_lines k) (happenings_of m.board m.state events)
 
 -- these events came, and their lines were written
-pub record Came (old new : MachineRow) (k : ℕ) (events : List Event) (before after : SinkView)
-    : Type 0 where
-  pub board : new.board ≡ old.board
-  pub state : new.state ≡ run old.board old.state events
-  pub written : Writes before after (lines_of old k events)
+pub record Came (with_lines : Bool) (old new : MachineRow) (k : ℕ) (events : List Event)
+    (before now : SinkView) : Type 0 where
+  pub left : new ≡ after old events
+  pub written : Writes before now (lines_of with_lines old k events)
 
--- these events came, and nothing was written of them
-pub record Passed (old new : MachineRow) (events : List Event) : Type 0 where
-  pub board : new.board ≡ old.board
-  pub state : new.state ≡ run old.board old.state events
+-- or a write failed
+abbrev pub Comes : {A B : Type 0} → Bool → MachineRow → MachineRow → ℕ → List Event
+    → SinkView → SinkView → Result A B → Type 0
+Comes with_lines old new k events before now result =
+    MatchResult result (λ _. Came with_lines old new k events before now)
+    (λ _. WriteFails before now (lines_of with_lines old k events))
 
--- after so many steps a tick is due as soon as so many more were made: whole quanta are over then
-pub record IsLeft (quantum done left : ℕ) : Type 0 where
-  pub quanta : ℕ
-  pub whole : done + left ≡ suc quanta * quantum
-  pub most : left ≤ quantum
-  pub first : (done ≡ 0) ⊎ (left < quantum)
+-- the bytes of a script; without one none
+abbrev pub dues_of : Option (Bor Script) → List Due
+dues_of (Some script) = script.now
+dues_of None = []
 
 -- so many rounds may come after so many steps: before the next tick, up to the limit, and before each but the first no
 -- byte of the script
@@ -71,26 +70,10 @@ pub record AreBare (script : List Due) (left limit done most : ℕ) : Type 0 whe
   pub early : most ≤ left
   pub bare : (k : ℕ) → 0 < k → k < most → given_at script (done + 1 + k) ≡ []
 
--- so many rounds came after so many steps, and the line of what the last told was written
-pub record WentOn (m n : MachineRow) (most done count : ℕ) (before after : SinkView) : Type 0 where
-  pub some : 1 ≤ count
-  pub few : count ≤ most
-  pub told : Happened
-  pub ran : RanOn m n count told
-  pub written : Writes before after (trace_line (done + count) told)
-
--- rounds came, and the line of what the last told wasn't written whole
-pub record FailedOn (m n : MachineRow) (most done : ℕ) (before after : SinkView) : Type 0 where
-  pub count : ℕ
-  pub some : 1 ≤ count
-  pub few : count ≤ most
-  pub told : Happened
-  pub ran : RanOn m n count told
-  pub failed : WriteFails before after (trace_line (done + count) told)
-
--- the run of a machine that was so first came to its end: the summary is left to be written
-pub record IsOver (first m : MachineRow) (script : List Due) (quantum limit : ℕ)
-    (before after : SinkView) : Type 0 where
-  pub written : AppendsBefore before.bytes after.bytes (last_line m.state)
-      (run_lines first script quantum limit)
-  pub same : after.faults ≡ before.faults
+-- what is written from step k on, of at most n steps: the lines of a run that has lines, and the summary
+unfoldable pub text_from : Bool → MachineRow → List Due → ℕ → ℕ → ℕ → List ℕ
+text_from with_lines m script quantum k zero = last_line m.state
+text_from with_lines m script quantum k (suc n) =
+    or_last (end_of m.state) m.state
+    (lines_of with_lines m k (round script quantum k)
+    ++ text_from with_lines (after m (round script quantum k)) script quantum (k + 1) n)

@@ -40,10 +40,7 @@ pub fn write_run<M: Memory + Drop, S: Sink>(
         (report.now ++ run_lines machine.old script.now quantum limit) result }
 {
     match sink.write(report) {
-        Ok(()) => match rounds::write_rounds(machine, script, quantum, limit, sink) {
-            Ok(()) => lines::write_last(machine, sink),
-            Err(failed) => Err(failed),
-        },
+        Ok(()) => rounds::write_rounds(machine, Some(script), quantum, limit, true, sink),
         Err(failed) => Err(failed),
     }
 }
@@ -63,6 +60,5 @@ pub fn write_summary<M: Memory + Drop, S: Sink>(
     ensures { WriteAnswers (S.shows sink.old) (S.shows sink.new)
         (summary_after machine.old quantum limit) result }
 {
-    rounds::make_rounds(machine, quantum, limit);
-    lines::write_last(machine, sink)
+    rounds::write_rounds(machine, None, quantum, limit, false, sink)
 }

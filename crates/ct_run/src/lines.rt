@@ -6,6 +6,7 @@ ghost use Rattle.def_port.specs.Writes.{WriteAnswers};
 ghost use Rattle.def_step.specs.Events.{end_of};
 ghost use Rattle.def_trace.specs.Trace.{trace_line};
 ghost use Rattle.def_program.specs.Runs.{last_line};
+ghost use Rattle.ct_run.specs.Rounds.{line_if};
 
 use ct_entry::{End, Happened};
 use ct_machine::Machine;
@@ -33,17 +34,22 @@ fn write_all<S: Sink>(happened: &Happened, number: u32, sink: &mut S) -> Result<
     write_line(&line(happened, number), sink)
 }
 
-/// Writes the lines of what happened with the step of this number. Where nothing happened no line is
-/// made.
+/// Writes the lines of what happened with the step of this number, where the run has lines. No line is made where
+/// nothing happened.
+#[inline(always)]
 #[tactic(auto, unfolding(def_trace::specs::Trace::trace_line), using(ct_port::proofs::Pieces::wrote_nothing))]
 pub(crate) fn write_happened<S: Sink>(
     happened: &Happened,
     number: u32,
+    with_lines: bool,
     sink: &mut S,
 ) -> Result<(), WriteFailed>
     ensures { WriteAnswers (S.shows sink.old) (S.shows sink.new)
-        (trace_line number happened.now) result }
+        (line_if with_lines number happened.now) result }
 {
+    if !with_lines {
+        return Ok(());
+    }
     match happened.deed {
         Some(_) => write_all(happened, number, sink),
         None => match happened.off {

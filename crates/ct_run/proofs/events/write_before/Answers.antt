@@ -1,20 +1,31 @@
-use Rattle.std.proofs.Common.{ap, arith}
-use Rattle.std.proofs.lemmas.Result.{MatchResult-weaker}
-use Rattle.def_events.specs.Kinds.{Kinds}
-use Rattle.ct_run.proofs.Coming.{both_came, first_failed, second_failed, inputs_kinds}
+use Rattle.std.proofs.Common.{[], ap}
+use Rattle.def_script.specs.declared.Given.{Given}
+use Rattle.def_step.specs.declared.Event.TheVariants.{Tick}
+use Rattle.ct_run.specs.Rounds.{ticks_if}
+use Rattle.ct_run.proofs.Coming.{all_came, comes, fails, last_comes, may_come, next_byte, no_byte, starts}
 use Rattle.ct_run.proofs.events.write_before.Goals as goal
 
-pub write_tick-requires : goal.write_tick-requires
-write_tick-requires g c =
-    let ticks = ap (λ (x : Kinds). x.ticks) (inputs_kinds _ _ _ _ _ _ c.in-Ok.ensures) in
-    let few = c.requires.ticks in
-    omega (arith, ticks, few)
+abbrev none : Given
+none = record { device = 0; byte = 0 }
 
-pub returns-in-Ok : goal.returns-in-Ok
-returns-in-Ok g c =
-    MatchResult-weaker c.write_tick.result c.write_tick.ensures
-    (λ _ w. both_came _ _ _ _ _ _ _ _ _ c.in-Ok.ensures w)
-    (λ _ w. second_failed _ _ _ _ _ _ _ _ c.in-Ok.ensures w)
+pub loop-given-init : goal.loop-given-init
+loop-given-init g c = starts _ _ _ _ _ c.requires
+
+pub write_event-requires : goal.write_event-requires
+write_event-requires g c = may_come _ _ _ _ _ _ _ (next_byte _ _ _ _ _ _ _ _ none c.loop-given-test.true c.loop-given.invariant)
+
+pub loop-given-preserved : goal.loop-given-preserved
+loop-given-preserved g c = comes _ _ _ _ _ _ _ _ (next_byte _ _ _ _ _ _ _ _ none c.loop-given-test.true c.loop-given.invariant) c.in-Ok.ensures
 
 pub returns-in-Err : goal.returns-in-Err
-returns-in-Err g c = first_failed _ _ _ _ _ _ c.in-Err.ensures
+returns-in-Err g c = fails _ _ _ _ _ _ _ (next_byte _ _ _ _ _ _ _ _ none c.loop-given-test.true c.loop-given.invariant) c.in-Err.ensures
+
+pub write_event-requires-then-due : goal.write_event-requires-then-due
+write_event-requires-then-due g c = may_come _ _ _ _ _ Tick [] (no_byte _ _ _ _ _ _ _ _ c.loop-given-test.false (ap ticks_if c.if-due.true) c.loop-given.invariant)
+
+pub returns-then-due : goal.returns-then-due
+returns-then-due g c =
+    last_comes _ _ _ _ _ _ Tick _ c.write_event-then-due.result (no_byte _ _ _ _ _ _ _ _ c.loop-given-test.false (ap ticks_if c.if-due.true) c.loop-given.invariant) c.write_event-then-due.ensures
+
+pub returns : goal.returns
+returns g c = all_came _ _ _ _ _ (no_byte _ _ _ _ _ _ _ _ c.loop-given-test.false (ap ticks_if c.if-due.false) c.loop-given.invariant)
