@@ -1,12 +1,13 @@
 -- What each answer of `read` says.
 use Rattle.std.specs.Prelude.{◌≡◌, ℕ, List, Some, None}
 use Rattle.serde_json.specs.Data.{Data}
-use Rattle.serde_json.specs.Errors.{IsMemory}
-use Rattle.serde_json.specs.declared.error.Error.{Error}
 use Rattle.def_desc.specs.Rows.{DescRow}
 use Rattle.def_desc.specs.Reading.{description_of}
 use Rattle.def_desc.specs.Walk.{place}
-use Rattle.def_desc.specs.WellFormed.{IsFaulty, fault, fault_of, json_fault}
+use Rattle.def_desc.specs.WellFormed.{IsFaulty, fault, fault_of}
+use Rattle.ct_json.specs.declared.unread.Unread.{Unread}
+use Rattle.ct_json.specs.declared.unread.Unread.TheVariants as unread
+use Rattle.def_desc.specs.declared.faults.PartWord.TheVariants.{Firmware}
 use Rattle.ct_desc.specs.declared.DescFault.{DescFault}
 use Rattle.ct_desc.specs.declared.DescFault.TheVariants.{At, NoMemory}
 
@@ -22,8 +23,7 @@ abbrev pub Faulty : Data → DescFault → Type 0
 Faulty d (At number part index item) = fault_of d ≡ Some (fault number (place part index item))
 Faulty d NoMemory = Unit {0}
 
--- an error of the JSON reader: F1 where it isn't want of memory
-abbrev pub Unread : Error → DescFault → Type 0
-Unread e (At number part index item) =
-    (fault number (place part index item) ≡ json_fault) × ¬ IsMemory e
-Unread e NoMemory = Unit {0}
+-- why a text isn't read: F1, or want of memory
+abbrev pub unread_fault : Unread → DescFault
+unread_fault unread.Invalid = At 1 Firmware 0 0
+unread_fault unread.NoMemory = NoMemory

@@ -1,16 +1,17 @@
 //! F2 to F6 in one walk over the places: the first place of each rule so far.
 
-ghost use Rattle.std.specs.Prelude.{◌≡◌, [], ◌∷◌, List, map, IfOk, OnOk};
+ghost use Rattle.std.specs.Prelude.{◌≡◌, [], ◌∷◌, List, IfOk, OnOk};
 ghost use Rattle.def_desc.specs.Names.{spot_name};
-ghost use Rattle.def_desc.specs.Walk.{Spot as SpotRow};
-ghost use Rattle.def_desc.specs.WellFormed as spec;
-ghost use Rattle.ct_desc_value.specs.Seen.{spot_view};
+ghost use Rattle.def_desc.specs.Walk.{Spot as SpotRow, spots_of as spots_in};
+ghost use Rattle.ct_json.specs.Values.{data_of};
+ghost use Rattle.ct_desc_value.specs.Seen.{spot_view, spots_left};
 ghost use Rattle.ct_desc.specs.Judged.{after_kinds, after_members, after_names, after_twice, after_limits, place_faults};
 
 use crate::fault;
 use crate::naming::{is_well_named, name_at};
 use crate::spaces::Spaces;
-use ct_desc_value::{Spot, has_kinds, has_only, keeps_limits};
+use ct_desc_value::{Spot, Spots, has_kinds, has_only, keeps_limits, spots_of};
+use ct_json::Json;
 use def_desc::{Fault, Place};
 use std::alloc::{AllocError, Global};
 
@@ -88,7 +89,7 @@ impl Firsts {
         if self.names.is_some() {
             return Ok(());
         }
-        let name = name_at(alloc, spot.place.part, spot.value)?;
+        let name = name_at(alloc, spot.place.part, &spot.value)?;
         if !is_well_named(spot.place.part, name.as_str()) {
             self.names = Some(spot.place);
             return Ok(());
@@ -130,12 +131,12 @@ impl Firsts {
     }
 
     /// F2 to F6 at each of these places, in order.
-    fn judge_all(&mut self, alloc: Global, spots: &[Spot]) -> Result<(), AllocError>
+    fn judge_all(&mut self, alloc: Global, mut spots: Spots) -> Result<(), AllocError>
         ensures { OnOk result
-            (after_kinds self.new [] ≡ after_kinds self.old (map spot_view spots.now)) }
+            (after_kinds self.new [] ≡ after_kinds self.old (spots_left spots.entry)) }
     {
-        for spot in spots {
-            self.judge(alloc, spot)?;
+        while let Some(spot) = spots.next()? {
+            self.judge(alloc, &spot)?;
         }
         Ok(())
     }
@@ -165,11 +166,11 @@ impl Firsts {
 }
 
 /// F2 to F6, which need what stands at the places alone.
-pub(crate) fn place_fault(alloc: Global, spots: &[Spot]) -> Result<Option<Fault>, AllocError>
-    ensures { IfOk result (λ f. f ≡ place_faults (map spot_view spots.now)) }
+pub(crate) fn place_fault(alloc: Global, value: &Json) -> Result<Option<Fault>, AllocError>
+    ensures { IfOk result (λ f. f ≡ place_faults (spots_in (data_of value.now))) }
 {
     let mut firsts = Firsts::new(alloc);
-    let judged = firsts.judge_all(alloc, spots);
+    let judged = firsts.judge_all(alloc, spots_of(value));
     let least = firsts.least();
     drop(firsts);
     match judged {

@@ -1,8 +1,8 @@
 //! The faults of a value, the least number first.
 
-ghost use Rattle.std.specs.Prelude.{◌≡◌, map, IfOk, MatchResult};
-ghost use Rattle.serde_json.specs.View.{view};
-ghost use Rattle.ct_desc_value.specs.Seen.{spot_view};
+ghost use Rattle.std.specs.Prelude.{◌≡◌, IfOk, MatchResult};
+ghost use Rattle.ct_json.specs.Values.{data_of};
+ghost use Rattle.def_desc.specs.Walk.{spots_of};
 ghost use Rattle.ct_desc.specs.Answers.{Good, Faulty};
 ghost use Rattle.ct_desc.specs.Judged.{name_faults, row_faults, value_faults};
 
@@ -12,25 +12,25 @@ use crate::references::Named;
 use crate::rules::Rule;
 use crate::{DescFault, fault};
 use ct_desc_rows::{Desc, rows_of};
-use ct_desc_value::{Spot, spots_of};
+use ct_json::Json;
 use def_desc::Fault;
-use serde_json::Value;
 use std::alloc::{AllocError, Global};
 
 /// F7 to F9, which need what may be named too.
 #[tactic(auto, unfolding(crate::specs::Judged::name_faults))]
-fn name_fault(named: &Named, spots: &[Spot]) -> Option<Fault>
-    ensures { result ≡ name_faults (view named.now.value.now) (map spot_view spots.now) }
+fn name_fault(named: &Named) -> Result<Option<Fault>, AllocError>
+    ensures { IfOk result (λ f. f
+        ≡ name_faults (data_of named.now.value) (spots_of (data_of named.now.value))) }
 {
-    if let Some(place) = named.first_unresolved(spots) {
-        return fault(7, place);
+    if let Some(place) = named.first_unresolved()? {
+        return Ok(fault(7, place));
     }
-    if let Some(place) = Rule::Rights.first_failing(spots) {
-        return fault(8, place);
+    if let Some(place) = Rule::Rights.first_failing(&named.value)? {
+        return Ok(fault(8, place));
     }
-    match Rule::Services.first_failing(spots) {
-        Some(place) => fault(9, place),
-        None => None,
+    match Rule::Services.first_failing(&named.value)? {
+        Some(place) => Ok(fault(9, place)),
+        None => Ok(None),
     }
 }
 
@@ -57,23 +57,23 @@ fn refused(fault: Fault) -> DescFault
 }
 
 /// The fault of a value before its rows are read.
-fn value_fault(alloc: Global, value: &Value) -> Result<Option<Fault>, AllocError>
-    ensures { IfOk result (λ f. f ≡ value_faults (view value.now)) }
+fn value_fault(alloc: Global, value: &Json) -> Result<Option<Fault>, AllocError>
+    ensures { IfOk result (λ f. f ≡ value_faults (data_of value.now)) }
 {
-    let spots = spots_of(alloc, value)?;
-    if let Some(fault) = place_fault(alloc, spots.as_slice())? {
+    if let Some(fault) = place_fault(alloc, value)? {
         return Ok(Some(fault));
     }
     let named = Named::of(alloc, value)?;
-    let fault = name_fault(&named, spots.as_slice());
+    let fault = name_fault(&named);
     drop(named);
-    Ok(fault)
+    fault
 }
 
 /// The rows of a value that is a well-formed description.
 #[tactic(auto, using(crate::proofs::Steps::fault_in_steps))]
-pub(crate) fn read_value(alloc: Global, value: &Value) -> Result<Desc, DescFault>
-    ensures { MatchResult result (λ d. Good (view value.now) d) (λ e. Faulty (view value.now) e) }
+pub(crate) fn read_value(alloc: Global, value: &Json) -> Result<Desc, DescFault>
+    ensures { MatchResult result
+        (λ d. Good (data_of value.now) d) (λ e. Faulty (data_of value.now) e) }
 {
     if let Some(fault) = value_fault(alloc, value)? {
         return Err(refused(fault));

@@ -2,15 +2,15 @@
 
 ghost use Rattle.std.specs.Prelude.{◌≡◌, true, if◌then◌else◌, IfOk};
 ghost use Rattle.std.specs.Cow.{cow_str_bytes};
-ghost use Rattle.serde_json.specs.View.{view};
+ghost use Rattle.ct_json.specs.Values.{data_of};
 ghost use Rattle.def_texts.specs.Names as name;
 ghost use Rattle.def_desc.specs.Names as spec;
 
 use ct_desc_rows::key_name;
 use ct_desc_value::members::{number_in, text_or};
+use ct_json::Json;
 use ct_texts::is_name;
 use def_desc::PartWord;
-use serde_json::Value;
 use std::alloc::{AllocError, Global};
 use std::borrow::CowStr;
 
@@ -18,9 +18,9 @@ use std::borrow::CowStr;
 pub(crate) fn name_at<'a>(
     alloc: Global,
     part: PartWord,
-    value: &'a Value,
+    value: &Json<'_, 'a>,
 ) -> Result<CowStr<'a, Global>, AllocError>
-    ensures { IfOk result (λ n. cow_str_bytes n ≡ spec.part_name part (view value.now)) }
+    ensures { IfOk result (λ n. cow_str_bytes n ≡ spec.part_name part (data_of value.now)) }
 {
     match part {
         PartWord::Ram => Ok(CowStr::Borrowed("")),

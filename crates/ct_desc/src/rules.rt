@@ -1,18 +1,22 @@
 //! F8 and F9: rights and services that aren't listed.
 
-ghost use Rattle.std.specs.Prelude.{◌≡◌, map};
+ghost use Rattle.std.specs.Prelude.{◌≡◌, map, IfOk};
 ghost use Rattle.def_texts.specs.Names.{among};
 ghost use Rattle.def_desc.specs.References as spec;
 ghost use Rattle.def_desc.specs.WellFormed.{first_failing as first_of};
+ghost use Rattle.def_desc.specs.Walk.{spots_of as spots_in};
+ghost use Rattle.ct_json.specs.Values.{data_of};
 ghost use Rattle.ct_desc_value.specs.Seen.{spot_view};
 
 use ct_desc_rows::target_at;
-use ct_desc_value::Spot;
 use ct_desc_value::members::text_or;
 use ct_desc_value::tables::service_of;
+use ct_desc_value::{Spot, spots_of};
+use ct_json::Json;
 use def_desc::tables::{DEVICE_RIGHTS, SHARED_RIGHTS};
 use def_desc::{Form, PartWord, Place};
 use def_native::LAST_NATIVE;
+use std::alloc::AllocError;
 
 /// A rule that is judged at each place by what stands there.
 #[derive(Clone, Copy, PartialEq, Eq, Drop)]
@@ -49,8 +53,8 @@ fn rights_fit_at(spot: &Spot) -> bool
     ensures { result ≡ spec.rights_fit_at (spot_view spot.now) }
 {
     match spot.place.part {
-        PartWord::Import => match target_at(spot.value) {
-            Some(target) => rights_fit(target.form, text_or(spot.value, "rights")),
+        PartWord::Import => match target_at(&spot.value) {
+            Some(target) => rights_fit(target.form, text_or(&spot.value, "rights")),
             None => true,
         },
         _ => true,
@@ -79,7 +83,7 @@ fn is_served_at(spot: &Spot) -> bool
     ensures { result ≡ spec.is_served_at (spot_view spot.now) }
 {
     match spot.place.part {
-        PartWord::Import => match target_at(spot.value) {
+        PartWord::Import => match target_at(&spot.value) {
             Some(target) => is_served(target.form, target.name),
             None => true,
         },
@@ -100,15 +104,17 @@ impl Rule {
         }
     }
 
-    /// The first place at which the rule doesn't hold.
-    pub fn first_failing(self, spots: &[Spot]) -> Option<Place>
-        ensures { result ≡ first_of (test_of self) (map spot_view spots.now) }
+    /// The first place of a value at which the rule doesn't hold.
+    pub fn first_failing(self, value: &Json) -> Result<Option<Place>, AllocError>
+        ensures { IfOk result
+            (λ p. p ≡ first_of (test_of self) (spots_in (data_of value.now))) }
     {
-        for spot in spots {
-            if !self.holds(spot) {
-                return Some(spot.place);
+        let mut spots = spots_of(value);
+        while let Some(spot) = spots.next()? {
+            if !self.holds(&spot) {
+                return Ok(Some(spot.place));
             }
         }
-        None
+        Ok(None)
     }
 }

@@ -2,7 +2,7 @@
 
 ghost use Rattle.std.specs.Prelude.{◌≡◌, codes, IfOk, map, option_map, string_bytes};
 ghost use Rattle.serde_json.specs.Data.{Data};
-ghost use Rattle.serde_json.specs.View.{view};
+ghost use Rattle.ct_json.specs.Values.{data_of, items_left};
 ghost use Rattle.def_desc.specs.Limits.{number_or_zero as spec_number_in};
 ghost use Rattle.def_desc.specs.Members as member;
 ghost use Rattle.def_desc.specs.Reading as spec;
@@ -18,10 +18,10 @@ use ct_desc_value::members::{
 use ct_desc_value::tables::{kind_of, library_posture_of, passes_of, posture_of};
 use ct_desc_value::{bytes_of, word_of};
 use ct_entry::{Device, DeviceKind, Mode};
+use ct_json::{Items, Json};
 use def_desc::tables::QUANTUM;
 use def_desc::{Passes, Ram};
 use def_profile::limits::{MOST_ARGUMENTS, SWEEP_RATE};
-use serde_json::Value;
 use std::alloc::{AllocError, Global};
 
 /// A row that is read of a value.
@@ -29,54 +29,54 @@ trait Row: Drop {
     /// What a value stands for.
     ghost meaning: { Data → Self };
 
-    fn of(alloc: Global, value: &Value) -> Result<Self, AllocError>
-        ensures { IfOk result (λ x. x ≡ meaning (view value.now)) };
+    fn of(alloc: Global, value: &Json) -> Result<Self, AllocError>
+        ensures { IfOk result (λ x. x ≡ meaning (data_of value.now)) };
 }
 
 /// The rows of the elements of a list.
-fn all_of<R: Row>(alloc: Global, values: &[Value]) -> Result<Vec<R>, AllocError>
-    ensures { IfOk result (λ v. v.items ≡ map R.meaning (map view values.now)) }
+fn all_of<R: Row>(alloc: Global, values: Items) -> Result<Vec<R>, AllocError>
+    ensures { IfOk result (λ v. v.items ≡ map R.meaning (items_left values.entry)) }
 {
     let mut all = Vec::new(alloc);
     for value in values {
-        all.push(R::of(alloc, value)?)?;
+        all.push(R::of(alloc, &value)?)?;
     }
     Ok(all)
 }
 
-fn words_of(alloc: Global, values: &[Value]) -> Result<Vec<u32>, AllocError>
+fn words_of(alloc: Global, values: Items) -> Result<Vec<u32>, AllocError>
     ensures { IfOk result
         (λ v. v.items ≡ map (λ w. spec.hexadecimal_word (member.text_value w))
-        (map view values.now)) }
+        (items_left values.entry)) }
 {
     let mut all = Vec::new(alloc);
     for value in values {
-        all.push(word_of(text_of(value).as_bytes()))?;
+        all.push(word_of(text_of(&value).as_bytes()))?;
     }
     Ok(all)
 }
 
-fn keys_of(alloc: Global, values: &[Value]) -> Result<Vec<u64>, AllocError>
-    ensures { IfOk result (λ v. v.items ≡ map spec_number_in (map view values.now)) }
+fn keys_of(alloc: Global, values: Items) -> Result<Vec<u64>, AllocError>
+    ensures { IfOk result (λ v. v.items ≡ map spec_number_in (items_left values.entry)) }
 {
     let mut all = Vec::new(alloc);
     for value in values {
-        all.push(number_in(value))?;
+        all.push(number_in(&value))?;
     }
     Ok(all)
 }
 
 /// The text at a key, or the empty text.
-fn text_owned(alloc: Global, value: &Value, key: &str) -> Result<String, AllocError>
-    ensures { IfOk result (λ s. string_bytes s ≡ member.text_or key.now (view value.now)) }
+fn text_owned(alloc: Global, value: &Json, key: &str) -> Result<String, AllocError>
+    ensures { IfOk result (λ s. string_bytes s ≡ member.text_or key.now (data_of value.now)) }
 {
     String::from_str(alloc, text_or(value, key))
 }
 
 /// The text at a key, if there is one.
-fn text_there(alloc: Global, value: &Value, key: &str) -> Result<Option<String>, AllocError>
+fn text_there(alloc: Global, value: &Json, key: &str) -> Result<Option<String>, AllocError>
     ensures { IfOk result
-        (λ o. option_map string_bytes o ≡ member.text_at key.now (view value.now)) }
+        (λ o. option_map string_bytes o ≡ member.text_at key.now (data_of value.now)) }
 {
     match text_at(value, key) {
         Some(text) => Ok(Some(String::from_str(alloc, text)?)),
@@ -84,8 +84,8 @@ fn text_there(alloc: Global, value: &Value, key: &str) -> Result<Option<String>,
     }
 }
 
-fn code_in(alloc: Global, value: &Value) -> Result<Code, AllocError>
-    ensures { IfOk result (λ x. x ≡ spec.code_of_object (view value.now)) }
+fn code_in(alloc: Global, value: &Json) -> Result<Code, AllocError>
+    ensures { IfOk result (λ x. x ≡ spec.code_of_object (data_of value.now)) }
 {
     Ok(Code {
         words: words_of(alloc, list_at(value, "words"))?,
@@ -94,12 +94,12 @@ fn code_in(alloc: Global, value: &Value) -> Result<Code, AllocError>
 }
 
 /// The code of a compartment or library.
-fn code_of(alloc: Global, owner: &Value) -> Result<Code, AllocError>
+fn code_of(alloc: Global, owner: &Json) -> Result<Code, AllocError>
     ensures { IfOk result
-        (λ x. x ≡ spec.code_of_object (member.member_at (codes "code") (view owner.now))) }
+        (λ x. x ≡ spec.code_of_object (member.member_at (codes "code") (data_of owner.now))) }
 {
     match owner.get("code") {
-        Some(code) => code_in(alloc, code),
+        Some(code) => code_in(alloc, &code),
         None => Ok(Code {
             words: Vec::new(alloc),
             file: None,
@@ -107,8 +107,8 @@ fn code_of(alloc: Global, owner: &Value) -> Result<Code, AllocError>
     }
 }
 
-fn at_of(alloc: Global, value: &Value) -> Result<At, AllocError>
-    ensures { IfOk result (λ x. x ≡ spec.at_of (view value.now)) }
+fn at_of(alloc: Global, value: &Json) -> Result<At, AllocError>
+    ensures { IfOk result (λ x. x ≡ spec.at_of (data_of value.now)) }
 {
     Ok(At {
         label: text_there(alloc, value, "at")?,
@@ -116,13 +116,13 @@ fn at_of(alloc: Global, value: &Value) -> Result<At, AllocError>
     })
 }
 
-fn ram_of(value: &Value) -> Ram
-    ensures { result ≡ spec.ram_of (member.member_at (codes "ram") (view value.now)) }
+fn ram_of(value: &Json) -> Ram
+    ensures { result ≡ spec.ram_of (member.member_at (codes "ram") (data_of value.now)) }
 {
     match value.get("ram") {
         Some(ram) => Ram {
-            base: word_at(ram, "base"),
-            size: word_at(ram, "size"),
+            base: word_at(&ram, "base"),
+            size: word_at(&ram, "size"),
         },
         None => Ram { base: 0, size: 0 },
     }
@@ -131,7 +131,7 @@ fn ram_of(value: &Value) -> Ram
 impl Row for Device {
     ghost meaning = { spec.device_of };
 
-    fn of(alloc: Global, value: &Value) -> Result<Device, AllocError> {
+    fn of(alloc: Global, value: &Json) -> Result<Device, AllocError> {
         Ok(Device {
             name: text_owned(alloc, value, "name")?,
             kind: kind_of(text_or(value, "kind")).unwrap_or(DeviceKind::Uart),
@@ -143,7 +143,7 @@ impl Row for Device {
 impl Row for Shared {
     ghost meaning = { spec.shared_of };
 
-    fn of(alloc: Global, value: &Value) -> Result<Shared, AllocError> {
+    fn of(alloc: Global, value: &Json) -> Result<Shared, AllocError> {
         Ok(Shared {
             name: text_owned(alloc, value, "name")?,
             size: word_at(value, "size"),
@@ -154,7 +154,7 @@ impl Row for Shared {
 impl Row for Sealed {
     ghost meaning = { spec.sealed_of };
 
-    fn of(alloc: Global, value: &Value) -> Result<Sealed, AllocError> {
+    fn of(alloc: Global, value: &Json) -> Result<Sealed, AllocError> {
         Ok(Sealed {
             name: text_owned(alloc, value, "name")?,
             seal: word_at(value, "type"),
@@ -166,7 +166,7 @@ impl Row for Sealed {
 impl Row for Import {
     ghost meaning = { spec_import_of };
 
-    fn of(alloc: Global, value: &Value) -> Result<Import, AllocError> {
+    fn of(alloc: Global, value: &Json) -> Result<Import, AllocError> {
         Ok(Import {
             alias: text_owned(alloc, value, "as")?,
             device: text_there(alloc, value, "device")?,
@@ -183,7 +183,7 @@ impl Row for Import {
 impl Row for Quota {
     ghost meaning = { spec.quota_of };
 
-    fn of(alloc: Global, value: &Value) -> Result<Quota, AllocError> {
+    fn of(alloc: Global, value: &Json) -> Result<Quota, AllocError> {
         Ok(Quota {
             name: text_owned(alloc, value, "name")?,
             limit: word_at(value, "limit"),
@@ -194,7 +194,7 @@ impl Row for Quota {
 impl Row for Export {
     ghost meaning = { spec.export_of };
 
-    fn of(alloc: Global, value: &Value) -> Result<Export, AllocError> {
+    fn of(alloc: Global, value: &Json) -> Result<Export, AllocError> {
         Ok(Export {
             name: text_owned(alloc, value, "name")?,
             at: at_of(alloc, value)?,
@@ -209,7 +209,7 @@ impl Row for Export {
 impl Row for Compartment {
     ghost meaning = { spec.compartment_of_object };
 
-    fn of(alloc: Global, value: &Value) -> Result<Compartment, AllocError> {
+    fn of(alloc: Global, value: &Json) -> Result<Compartment, AllocError> {
         Ok(Compartment {
             name: text_owned(alloc, value, "name")?,
             code: code_of(alloc, value)?,
@@ -225,7 +225,7 @@ impl Row for Compartment {
 impl Row for LibraryImport {
     ghost meaning = { spec.limport_of };
 
-    fn of(alloc: Global, value: &Value) -> Result<LibraryImport, AllocError> {
+    fn of(alloc: Global, value: &Json) -> Result<LibraryImport, AllocError> {
         Ok(LibraryImport {
             alias: text_owned(alloc, value, "as")?,
             library: text_owned(alloc, value, "library")?,
@@ -236,7 +236,7 @@ impl Row for LibraryImport {
 impl Row for LibraryExport {
     ghost meaning = { spec.lexport_of };
 
-    fn of(alloc: Global, value: &Value) -> Result<LibraryExport, AllocError> {
+    fn of(alloc: Global, value: &Json) -> Result<LibraryExport, AllocError> {
         Ok(LibraryExport {
             name: text_owned(alloc, value, "name")?,
             at: at_of(alloc, value)?,
@@ -248,7 +248,7 @@ impl Row for LibraryExport {
 impl Row for Library {
     ghost meaning = { spec.library_of };
 
-    fn of(alloc: Global, value: &Value) -> Result<Library, AllocError> {
+    fn of(alloc: Global, value: &Json) -> Result<Library, AllocError> {
         Ok(Library {
             name: text_owned(alloc, value, "name")?,
             code: code_of(alloc, value)?,
@@ -261,7 +261,7 @@ impl Row for Library {
 impl Row for Thread {
     ghost meaning = { spec.thread_of };
 
-    fn of(alloc: Global, value: &Value) -> Result<Thread, AllocError> {
+    fn of(alloc: Global, value: &Json) -> Result<Thread, AllocError> {
         Ok(Thread {
             name: text_owned(alloc, value, "name")?,
             entry: text_owned(alloc, value, "entry")?,
@@ -275,8 +275,8 @@ impl Row for Thread {
 /// The rows of any value. What is missing or not of its kind reads as its default, or else as 0, the
 /// empty text or the empty list; a number that 32 bits don't hold reads as 0, but keys and the
 /// offsets of exports keep their numbers. An error is want of memory.
-pub fn rows_of(alloc: Global, value: &Value) -> Result<Desc, AllocError>
-    ensures { IfOk result (λ x. x ≡ spec.description_of (view value.now)) }
+pub fn rows_of(alloc: Global, value: &Json) -> Result<Desc, AllocError>
+    ensures { IfOk result (λ x. x ≡ spec.description_of (data_of value.now)) }
 {
     Ok(Desc {
         firmware: text_owned(alloc, value, "firmware")?,

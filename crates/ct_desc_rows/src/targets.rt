@@ -1,14 +1,14 @@
 //! What an import names.
 
 ghost use Rattle.std.specs.Prelude.{◌≡◌, option_map, string_bytes};
-ghost use Rattle.serde_json.specs.View.{view};
+ghost use Rattle.ct_json.specs.Values.{data_of};
 ghost use Rattle.def_desc.specs.References as spec;
 ghost use Rattle.ct_desc_rows.specs.Named.{named};
 
 use crate::parts::Import;
 use ct_desc_value::members::text_at;
+use ct_json::Json;
 use def_desc::Form;
-use serde_json::Value;
 
 /// What an import names: by which member, and the text there.
 #[derive(Clone, Copy, PartialEq, Eq, Drop)]
@@ -28,8 +28,8 @@ fn target_or<'a>(form: Form, name: Option<&'a str>, rest: Option<Target<'a>>) ->
 }
 
 /// What the import that a value stands for names, by the first of its members that is there.
-pub fn target_at(value: &Value) -> Option<Target<'_>>
-    ensures { option_map named result ≡ spec.target_of (spec.import_of (view value.now)) }
+pub fn target_at<'a>(value: &Json<'_, 'a>) -> Option<Target<'a>>
+    ensures { option_map named result ≡ spec.target_of (spec.import_of (data_of value.now)) }
 {
     let library = target_or(Form::Library, text_at(value, "library"), None);
     let service = target_or(Form::Service, text_at(value, "service"), library);

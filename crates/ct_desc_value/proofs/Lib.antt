@@ -1,2 +1,3 @@
-pub mod Back
+pub mod Lists
 pub mod NamedRows
+pub mod Walks

@@ -1,8 +1,9 @@
 //! F2: a member is missing, or not of its kind.
 
-ghost use Rattle.std.specs.Prelude.{◌≡◌, codes, count_by, map};
+ghost use Rattle.std.specs.Prelude.{◌≡◌, count_by, is_some, map};
+ghost use Rattle.serde_json.specs.Find.{as_array};
 ghost use Rattle.std.specs.List.{list_all, list_any};
-ghost use Rattle.serde_json.specs.View.{view};
+ghost use Rattle.ct_json.specs.Values.{data_of, items_left};
 ghost use Rattle.def_desc.specs.Kinds as spec;
 ghost use Rattle.def_desc.specs.Members as members;
 ghost use Rattle.def_desc.specs.Tables as table;
@@ -12,9 +13,9 @@ use crate::digits::{are_pairs, is_word};
 use crate::members::{has, has_text, list_at, text_of};
 use crate::tables::{Member, kind_of, library_posture_of, members_of, passes_of, posture_of};
 use crate::walk::Spot;
+use ct_json::{Items, Json};
 use def_desc::tables::{FORMS, RIGHTED};
 use def_desc::{Choice, PartWord, Shape};
-use serde_json::Value;
 
 fn is_choice(choice: Choice, text: &str) -> bool
     ensures { result ≡ spec.is_choice choice text.now }
@@ -27,25 +28,41 @@ fn is_choice(choice: Choice, text: &str) -> bool
     }
 }
 
-fn are_words(values: &[Value]) -> bool
-    ensures { result ≡ list_all (λ w. spec.is_word (members.text_value w)) (map view values.now) }
+fn are_words(values: Items) -> bool
+    ensures { result
+        ≡ list_all (λ w. spec.is_word (members.text_value w)) (items_left values.entry) }
 {
     for value in values {
-        if !is_word(text_of(value).as_bytes()) {
+        if !is_word(text_of(&value).as_bytes()) {
             return false;
         }
     }
     true
 }
 
-fn has_words(value: &Value) -> bool
-    ensures { result ≡ spec.has_words (view value.now) }
+fn is_list(value: &Json) -> bool
+    ensures { result ≡ is_some (as_array (data_of value.now)) }
 {
-    value.get("words").and_then(Value::as_array).is_some() && are_words(list_at(value, "words"))
+    value.items().is_some()
 }
 
-fn is_code(value: &Value) -> bool
-    ensures { result ≡ spec.is_code_object (view value.now) }
+fn has_list(value: &Json, key: &str) -> bool
+    ensures { result ≡ spec.has_list key.now (data_of value.now) }
+{
+    match value.get(key) {
+        Some(list) => is_list(&list),
+        None => false,
+    }
+}
+
+fn has_words(value: &Json) -> bool
+    ensures { result ≡ spec.has_words (data_of value.now) }
+{
+    has_list(value, "words") && are_words(list_at(value, "words"))
+}
+
+fn is_code(value: &Json) -> bool
+    ensures { result ≡ spec.is_code_object (data_of value.now) }
 {
     if has(value, "words") {
         !has(value, "file") && has_words(value)
@@ -54,34 +71,34 @@ fn is_code(value: &Value) -> bool
     }
 }
 
-fn is_kind(shape: Shape, value: &Value) -> bool
-    ensures { result ≡ spec.is_kind shape (view value.now) }
+fn is_kind(shape: Shape, value: &Json) -> bool
+    ensures { result ≡ spec.is_kind shape (data_of value.now) }
 {
     match shape {
         Shape::Text => value.as_str().is_some(),
         Shape::Among { choice } => is_choice(choice, text_of(value)),
         Shape::Number { .. } => value.as_u64().is_some(),
         Shape::Multiple { .. } => value.as_u64().is_some(),
-        Shape::List { .. } => value.as_array().is_some(),
-        Shape::Object => value.as_object().is_some(),
+        Shape::List { .. } => is_list(value),
+        Shape::Object => value.is_object(),
         Shape::Bytes { .. } => value.as_str().is_some() && are_pairs(text_of(value).as_bytes()),
         Shape::Offset => value.as_str().is_some() || value.as_u64().is_some(),
         Shape::Code => is_code(value),
     }
 }
 
-fn has_member(value: &Value, name: &str, shape: Shape, needed: bool) -> bool
-    ensures { result ≡ spec.has_member (view value.now) (table.row name.now shape needed) }
+fn has_member(value: &Json, name: &str, shape: Shape, needed: bool) -> bool
+    ensures { result ≡ spec.has_member (data_of value.now) (table.row name.now shape needed) }
 {
     match value.get(name) {
-        Some(there) => is_kind(shape, there),
+        Some(there) => is_kind(shape, &there),
         None => !needed,
     }
 }
 
-fn has_each(value: &Value, members: &[Member]) -> bool
+fn has_each(value: &Json, members: &[Member]) -> bool
     ensures { result
-        ≡ list_all (spec.has_member (view value.now))
+        ≡ list_all (spec.has_member (data_of value.now))
         (map (λ r. table.row r.0.now r.1 r.2) members.now) }
 {
     for (name, shape, needed) in members {
@@ -92,9 +109,9 @@ fn has_each(value: &Value, members: &[Member]) -> bool
     true
 }
 
-fn has_any(value: &Value, names: &[&'static str]) -> bool
+fn has_any(value: &Json, names: &[&'static str]) -> bool
     ensures { result
-        ≡ list_any (λ name. members.has_key name (view value.now)) (map (λ n. n.now) names.now) }
+        ≡ list_any (λ name. members.has_key name (data_of value.now)) (map (λ n. n.now) names.now) }
 {
     for name in names {
         if has(value, *name) {
@@ -104,9 +121,9 @@ fn has_any(value: &Value, names: &[&'static str]) -> bool
     false
 }
 
-fn count_of(value: &Value, names: &[&'static str]) -> usize
+fn count_of(value: &Json, names: &[&'static str]) -> usize
     ensures { result
-        ≡ count_by (λ name. members.has_key name (view value.now)) (map (λ n. n.now) names.now) }
+        ≡ count_by (λ name. members.has_key name (data_of value.now)) (map (λ n. n.now) names.now) }
 {
     let mut count = 0;
     for name in names {
@@ -119,36 +136,27 @@ fn count_of(value: &Value, names: &[&'static str]) -> usize
 
 /// An import has a member beside which rights stand.
 #[tactic(auto, unfolding(def_desc::specs::Tables::righted_names))]
-pub(crate) fn takes_rights(value: &Value) -> bool
-    ensures { result ≡ spec.takes_rights (view value.now) }
+pub(crate) fn takes_rights(value: &Json) -> bool
+    ensures { result ≡ spec.takes_rights (data_of value.now) }
 {
     has_any(value, &RIGHTED)
 }
 
 #[tactic(auto, unfolding(def_desc::specs::Tables::form_names))]
-fn has_one_form(value: &Value) -> bool
-    ensures { result ≡ spec.has_one_form (view value.now) }
+fn has_one_form(value: &Json) -> bool
+    ensures { result ≡ spec.has_one_form (data_of value.now) }
 {
     count_of(value, &FORMS) == 1
-}
-
-fn has_labels(owner: &Value) -> bool
-    ensures { result ≡ spec.has_labels (view owner.now) }
-{
-    match owner.get("code") {
-        Some(code) => !has(code, "words"),
-        None => true,
-    }
 }
 
 fn has_its_place(spot: &Spot) -> bool
     ensures { result ≡ spec.has_its_place (spot_view spot.now) }
 {
-    has_labels(spot.owner) || !has_text(spot.value, "at")
+    spot.owner.labels || !has_text(&spot.value, "at")
 }
 
-fn has_its_rights(value: &Value) -> bool
-    ensures { result ≡ spec.has_its_rights (view value.now) }
+fn has_its_rights(value: &Json) -> bool
+    ensures { result ≡ spec.has_its_rights (data_of value.now) }
 {
     !takes_rights(value) || has_text(value, "rights")
 }
@@ -157,7 +165,7 @@ fn has_more(part: PartWord, spot: &Spot) -> bool
     ensures { result ≡ spec.has_more part (spot_view spot.now) }
 {
     match part {
-        PartWord::Import => has_one_form(spot.value) && has_its_rights(spot.value),
+        PartWord::Import => has_one_form(&spot.value) && has_its_rights(&spot.value),
         PartWord::Key => spot.value.as_u64().is_some(),
         PartWord::Export => has_its_place(spot),
         PartWord::Lexport => has_its_place(spot),
@@ -169,5 +177,5 @@ fn has_more(part: PartWord, spot: &Spot) -> bool
 pub fn has_kinds(spot: &Spot) -> bool
     ensures { result ≡ spec.has_kinds (spot_view spot.now) }
 {
-    has_each(spot.value, members_of(spot.place.part)) && has_more(spot.place.part, spot)
+    has_each(&spot.value, members_of(spot.place.part)) && has_more(spot.place.part, spot)
 }

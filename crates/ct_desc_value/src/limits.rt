@@ -4,7 +4,7 @@ ghost use Rattle.std.specs.Prelude.{◌≡◌, Bool, codes, count_by, map, not};
 ghost use Rattle.def_desc.specs.Members as members;
 ghost use Rattle.std.specs.List.{list_all};
 ghost use Rattle.std.specs.Int.{is_in_range};
-ghost use Rattle.serde_json.specs.View.{view};
+ghost use Rattle.ct_json.specs.Values.{data_of};
 ghost use Rattle.def_desc.specs.Limits as spec;
 ghost use Rattle.def_desc.specs.Tables as table;
 ghost use Rattle.ct_desc_value.specs.Seen.{spot_view};
@@ -12,12 +12,12 @@ ghost use Rattle.ct_desc_value.specs.Seen.{spot_view};
 use crate::members::{list_at, list_in, number_in, number_or, text_at, text_of};
 use crate::tables::{Member, members_of};
 use crate::walk::Spot;
+use ct_json::Json;
 use def_desc::{PartWord, Shape};
 use def_image::versions::{is_sweep_rate, most_ram, most_threads};
 use def_profile::layout::REGION_UNIT;
 use def_profile::limits::{LAST_VERSION, MOST_BYTES, MOST_FILE_NAME, RAM_END, SWEEP_RATE};
 use def_profile::seals::{FIRST_KEY_TYPE, LAST_KEY_TYPE};
-use serde_json::Value;
 
 fn is_in_range(low: u32, high: u32, n: u64) -> bool
     ensures { result ≡ is_in_range low high n }
@@ -38,8 +38,8 @@ fn characters(text: &[u8]) -> usize
     count
 }
 
-fn keeps_file(value: &Value) -> bool
-    ensures { result ≡ spec.keeps_file (members.text_at (codes "file") (view value.now)) }
+fn keeps_file(value: &Json) -> bool
+    ensures { result ≡ spec.keeps_file (members.text_at (codes "file") (data_of value.now)) }
 {
     match text_at(value, "file") {
         Some(name) => is_in_range(1, MOST_FILE_NAME, characters(name.as_bytes()) as u64),
@@ -47,14 +47,14 @@ fn keeps_file(value: &Value) -> bool
     }
 }
 
-fn keeps_code(value: &Value) -> bool
-    ensures { result ≡ spec.keeps_code (view value.now) }
+fn keeps_code(value: &Json) -> bool
+    ensures { result ≡ spec.keeps_code (data_of value.now) }
 {
-    list_at(value, "words").len() <= MOST_BYTES as usize / 4 && keeps_file(value)
+    list_at(value, "words").are_at_most(MOST_BYTES as u64 / 4) && keeps_file(value)
 }
 
-fn keeps(shape: Shape, value: &Value) -> bool
-    ensures { result ≡ spec.keeps shape (view value.now) }
+fn keeps(shape: Shape, value: &Json) -> bool
+    ensures { result ≡ spec.keeps shape (data_of value.now) }
 {
     match shape {
         Shape::Number { low, high } => is_in_range(low, high, number_in(value)),
@@ -62,7 +62,7 @@ fn keeps(shape: Shape, value: &Value) -> bool
             let n = number_in(value);
             is_in_range(low, high, n) && n % REGION_UNIT as u64 == 0
         }
-        Shape::List { most } => list_in(value).len() as u64 <= most as u64,
+        Shape::List { most } => list_in(value).are_at_most(most as u64),
         Shape::Bytes { least, most } => is_in_range(least, most, text_of(value).len() as u64 / 2),
         Shape::Code => keeps_code(value),
         Shape::Text => true,
@@ -72,19 +72,19 @@ fn keeps(shape: Shape, value: &Value) -> bool
     }
 }
 
-fn keeps_member(value: &Value, name: &str, shape: Shape) -> bool
+fn keeps_member(value: &Json, name: &str, shape: Shape) -> bool
     ensures { (needed : Bool)
-        → result ≡ spec.keeps_member (view value.now) (table.row name.now shape needed) }
+        → result ≡ spec.keeps_member (data_of value.now) (table.row name.now shape needed) }
 {
     match value.get(name) {
-        Some(there) => keeps(shape, there),
+        Some(there) => keeps(shape, &there),
         None => true,
     }
 }
 
-fn keeps_each(value: &Value, members: &[Member]) -> bool
+fn keeps_each(value: &Json, members: &[Member]) -> bool
     ensures { result
-        ≡ list_all (spec.keeps_member (view value.now))
+        ≡ list_all (spec.keeps_member (data_of value.now))
         (map (λ r. table.row r.0.now r.1 r.2) members.now) }
 {
     for (name, shape, _) in members {
@@ -95,24 +95,24 @@ fn keeps_each(value: &Value, members: &[Member]) -> bool
     true
 }
 
-fn keeps_version(version: u64, value: &Value) -> bool
-    ensures { result ≡ spec.keeps_version version (view value.now) }
+fn keeps_version(version: u64, value: &Json) -> bool
+    ensures { result ≡ spec.keeps_version version (data_of value.now) }
 {
     version <= LAST_VERSION as u64
         && is_sweep_rate(version, number_or(value, "sweep", SWEEP_RATE as u64))
-        && list_at(value, "threads").len() as u64 <= most_threads(version) as u64
+        && list_at(value, "threads").are_at_most(most_threads(version) as u64)
 }
 
-fn keeps_ram(version: u64, value: &Value) -> bool
-    ensures { result ≡ spec.keeps_ram version (view value.now) }
+fn keeps_ram(version: u64, value: &Json) -> bool
+    ensures { result ≡ spec.keeps_ram version (data_of value.now) }
 {
     let base = number_or(value, "base", 0) as u128;
     let size = number_or(value, "size", 0) as u128;
     size <= most_ram(version) as u128 && base + size <= RAM_END as u128
 }
 
-fn version_in(value: &Value) -> u64
-    ensures { result ≡ spec.version_of (view value.now) }
+fn version_in(value: &Json) -> u64
+    ensures { result ≡ spec.version_of (data_of value.now) }
 {
     number_or(value, "version", 1)
 }
@@ -121,9 +121,9 @@ fn keeps_more(part: PartWord, spot: &Spot) -> bool
     ensures { result ≡ spec.keeps_more part (spot_view spot.now) }
 {
     match part {
-        PartWord::Firmware => keeps_version(version_in(spot.value), spot.value),
-        PartWord::Ram => keeps_ram(version_in(spot.owner), spot.value),
-        PartWord::Key => is_in_range(FIRST_KEY_TYPE, LAST_KEY_TYPE, number_in(spot.value)),
+        PartWord::Firmware => keeps_version(version_in(&spot.value), &spot.value),
+        PartWord::Ram => keeps_ram(version_in(&spot.owner.value), &spot.value),
+        PartWord::Key => is_in_range(FIRST_KEY_TYPE, LAST_KEY_TYPE, number_in(&spot.value)),
         _ => true,
     }
 }
@@ -132,5 +132,5 @@ fn keeps_more(part: PartWord, spot: &Spot) -> bool
 pub fn keeps_limits(spot: &Spot) -> bool
     ensures { result ≡ spec.keeps_limits (spot_view spot.now) }
 {
-    keeps_each(spot.value, members_of(spot.place.part)) && keeps_more(spot.place.part, spot)
+    keeps_each(&spot.value, members_of(spot.place.part)) && keeps_more(spot.place.part, spot)
 }

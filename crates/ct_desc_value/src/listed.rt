@@ -1,21 +1,21 @@
 //! F3: a member that isn't listed.
 
-ghost use Rattle.std.specs.Prelude.{◌≡◌, bytes_eq, codes, map};
+ghost use Rattle.std.specs.Prelude.{◌≡◌, ◌&&◌, ◌||◌, ℕ, List, bytes_eq, codes, map};
 ghost use Rattle.std.specs.List.{list_all, list_any};
-ghost use Rattle.serde_json.specs.View.{members_view, view};
+ghost use Rattle.ct_json.specs.Values.{data_of, keys_left};
 ghost use Rattle.def_texts.specs.Names.{among};
 ghost use Rattle.def_desc.specs.Kinds as spec;
-ghost use Rattle.def_desc.specs.Members.{keys_of, member_at, names_in};
+ghost use Rattle.def_desc.specs.Members.{keys_of, member_at};
 ghost use Rattle.def_desc.specs.Tables as table;
 ghost use Rattle.def_desc.specs.Tables.{code_names};
-ghost use Rattle.ct_desc_value.specs.Seen.{spot_view};
+ghost use Rattle.ct_desc_value.specs.Seen.{is_listed_beside, spot_view};
 
 use crate::kinds::takes_rights;
 use crate::tables::{Member, members_of};
 use crate::walk::Spot;
+use ct_json::{Json, Keys};
 use def_desc::PartWord;
 use def_desc::tables::CODE;
-use serde_json::{Map, Value};
 
 fn is_among(name: &str, members: &[Member]) -> bool
     ensures { result
@@ -36,41 +36,44 @@ fn is_member(part: PartWord, name: &str) -> bool
     is_among(name, members_of(part))
 }
 
-fn stands_beside(part: PartWord, value: &Value, name: &str) -> bool
-    ensures { result ≡ spec.stands_beside part (view value.now) name.now }
+/// `rights` may stand in a value of a part.
+fn takes_rights_at(part: PartWord, value: &Json) -> bool
+    ensures { (name : List ℕ) → spec.stands_beside part (data_of value.now) name
+        ≡ (result && bytes_eq name (codes "rights")) }
 {
     match part {
-        PartWord::Import => takes_rights(value) && name == "rights",
+        PartWord::Import => takes_rights(value),
         _ => false,
     }
 }
 
-fn is_listed(part: PartWord, value: &Value, name: &str) -> bool
-    ensures { result ≡ spec.is_listed_member part (view value.now) name.now }
+fn is_listed(part: PartWord, righted: bool, name: &str) -> bool
+    ensures { result ≡ is_listed_beside part righted name.now }
 {
-    is_member(part, name) || stands_beside(part, value, name)
+    is_member(part, name) || (righted && name == "rights")
 }
 
-#[tactic(auto, using(crate::proofs::Back::names_back))]
-fn are_listed(keys: &Map<String, Value>, part: PartWord, value: &Value) -> bool
-    ensures { result
-        ≡ list_all (spec.is_listed_member part (view value.now))
-        (names_in (members_view keys.now.entries)) }
+fn are_listed(keys: Keys, part: PartWord, righted: bool) -> bool
+    ensures { result ≡ list_all (is_listed_beside part righted) (keys_left keys.entry) }
 {
-    for key in keys.keys() {
-        if !is_listed(part, value, key.as_str()) {
+    for key in keys {
+        if !is_listed(part, righted, key) {
             return false;
         }
     }
     true
 }
 
-fn members_are_listed(part: PartWord, value: &Value) -> bool
+/// An object may say `rights` as often as its text has room for, so it is asked once whether they may
+/// stand.
+#[tactic(auto, using(crate::proofs::Lists::keys_there, crate::proofs::Lists::no_keys, crate::proofs::Lists::listed_beside))]
+fn members_are_listed(part: PartWord, value: &Json) -> bool
     ensures { result
-        ≡ list_all (spec.is_listed_member part (view value.now)) (keys_of (view value.now)) }
+        ≡ list_all (spec.is_listed_member part (data_of value.now)) (keys_of (data_of value.now)) }
 {
-    match value.as_object() {
-        Some(keys) => are_listed(keys, part, value),
+    let righted = takes_rights_at(part, value);
+    match value.keys() {
+        Some(keys) => are_listed(keys, part, righted),
         None => true,
     }
 }
@@ -82,30 +85,39 @@ fn is_of_code(name: &str) -> bool
     name == CODE[0] || name == CODE[1]
 }
 
-#[tactic(auto, using(crate::proofs::Back::names_back))]
-fn are_of_code(keys: &Map<String, Value>) -> bool
-    ensures { result ≡ spec.all_among code_names (names_in (members_view keys.now.entries)) }
+fn are_of_code(keys: Keys) -> bool
+    ensures { result ≡ spec.all_among code_names (keys_left keys.entry) }
 {
-    for key in keys.keys() {
-        if !is_of_code(key.as_str()) {
+    for key in keys {
+        if !is_of_code(key) {
             return false;
         }
     }
     true
 }
 
-fn code_has_only(value: &Value) -> bool
-    ensures { result
-        ≡ spec.all_among code_names (keys_of (member_at (codes "code") (view value.now))) }
+#[tactic(auto, using(crate::proofs::Lists::keys_there, crate::proofs::Lists::no_keys))]
+fn object_has_only_code(value: &Json) -> bool
+    ensures { result ≡ spec.all_among code_names (keys_of (data_of value.now)) }
 {
-    match value.get("code").and_then(Value::as_object) {
+    match value.keys() {
         Some(keys) => are_of_code(keys),
         None => true,
     }
 }
 
-fn code_is_listed(part: PartWord, value: &Value) -> bool
-    ensures { result ≡ spec.code_is_listed part (view value.now) }
+fn code_has_only(value: &Json) -> bool
+    ensures { result
+        ≡ spec.all_among code_names (keys_of (member_at (codes "code") (data_of value.now))) }
+{
+    match value.get("code") {
+        Some(code) => object_has_only_code(&code),
+        None => true,
+    }
+}
+
+fn code_is_listed(part: PartWord, value: &Json) -> bool
+    ensures { result ≡ spec.code_is_listed part (data_of value.now) }
 {
     match part {
         PartWord::Compartment => code_has_only(value),
@@ -118,5 +130,5 @@ fn code_is_listed(part: PartWord, value: &Value) -> bool
 pub fn has_only(spot: &Spot) -> bool
     ensures { result ≡ spec.has_only (spot_view spot.now) }
 {
-    members_are_listed(spot.place.part, spot.value) && code_is_listed(spot.place.part, spot.value)
+    members_are_listed(spot.place.part, &spot.value) && code_is_listed(spot.place.part, &spot.value)
 }

@@ -1,0 +1,33 @@
+use Rattle.std.proofs.Common.{◌+◌, ◌*◌, length, map}
+use Rattle.ct_json.specs.Rows.{row}
+use Rattle.ct_json.proofs.Reading.{ItemsSoFar, MembersSoFar}
+use Rattle.ct_json.proofs.read.+read.Given as goal
+
+abbrev pub decreases-read_value : goal.decreases-read_value
+decreases-read_value l = 3 * l.depth + 2
+
+abbrev pub decreases-read_list : goal.decreases-read_list
+decreases-read_list l = 3 * l.depth + 1
+
+abbrev pub decreases-read_object : goal.decreases-read_object
+decreases-read_object l = 3 * l.depth + 1
+
+abbrev pub decreases-read_items : goal.decreases-read_items
+decreases-read_items l = 3 * l.depth + 3
+
+abbrev pub decreases-read_members : goal.decreases-read_members
+decreases-read_members l = 3 * l.depth + 3
+
+abbrev pub invariant-read_items-items : goal.invariant-read_items-items
+invariant-read_items-items l =
+    ItemsSoFar l.depth l.initial.reader (map row l.initial.nodes.items) l.reader (map row l.nodes.items)
+
+abbrev pub decreases-read_items-items : goal.decreases-read_items-items
+decreases-read_items-items l = length l.reader
+
+abbrev pub invariant-read_members-members : goal.invariant-read_members-members
+invariant-read_members-members l =
+    MembersSoFar l.depth l.initial.reader (map row l.initial.nodes.items) l.reader (map row l.nodes.items)
+
+abbrev pub decreases-read_members-members : goal.decreases-read_members-members
+decreases-read_members-members l = length l.reader
