@@ -62,8 +62,9 @@ PYTHON
 }
 
 # descriptions FILE FORM..: into the folder, of each form 1, 4 and 16 MiB: blanks before the small description in the
-# file, it with many devices or exports of distinct names or with many words of code, or open brackets alone; and the
-# largest lawful one
+# file, it with many devices or exports of distinct names, with many words of code or with many devices that are small
+# values of one kind, with many members that no description has, or half of these in a compartment and half exports,
+# or open brackets alone; and the largest lawful one
 descriptions() {
     python3 -B - "$here/bench" "$work" "$@" <<'PYTHON'
 import sys
@@ -86,11 +87,23 @@ def many(size, member, element):
     return tiny.replace(f'"{member}":[', f'"{member}":[' + "".join(element(i) + "," for i in range(count)))
 
 
+def idle(size, text):
+    """A description, about as long as told by members of no meaning at the front of its first compartment."""
+    return text.replace('"compartments":[{', '"compartments":[{' + '"":0,' * ((size - len(text)) // 5))
+
+
 FORMS = {
     "blanks": lambda size: " " * (size - len(tiny)) + tiny,
     "devices": lambda size: many(size, "devices", '{"name":"d%07d","kind":"uart","base":268435456}'.__mod__),
     "exports": lambda size: many(size, "exports", '{"name":"e%07d","at":0}'.__mod__),
     "words": lambda size: many(size, "words", lambda i: '"00000297"'),
+    "objects": lambda size: many(size, "devices", lambda i: '{"a":0}'),
+    "empties": lambda size: many(size, "devices", lambda i: "{}"),
+    "lists": lambda size: many(size, "devices", lambda i: "[]"),
+    "numbers": lambda size: many(size, "devices", lambda i: "0"),
+    "escapes": lambda size: many(size, "devices", lambda i: r'"\n"'),
+    "members": lambda size: idle(size, tiny),
+    "halves": lambda size: idle(size, many(size // 2, "exports", '{"name":"e%07d","at":0}'.__mod__)),
     "brackets": lambda size: "[" * size,
 }
 for mib in (1, 4, 16):

@@ -1,18 +1,18 @@
 #!/bin/bash
 # How long the program's commands take: audits of 1, 4 and 16 MiB of JSON that is accepted (the small sample after
-# blanks) and that is refused (many devices and many exports of distinct names, many words of code, open brackets
-# alone), and of the largest lawful description, each beside Python's json.load of the same text; each other command on
-# the largest, and on its image; checks of the largest by policies of 16 MiB, whose lines are one rule that holds; and a
-# run by scripts of 4 and 16 MiB.
+# blanks) and that is refused (many devices and many exports of distinct names, many words of code, many small values of
+# each kind, many members that no description has, open brackets alone), and of the largest lawful description, each
+# beside Python's json.load of the same text; each other command on the largest, and on its image; checks of the largest
+# by policies of 16 MiB, whose lines are one rule that holds; and a run by scripts of 4 and 16 MiB.
 source "$(dirname "$0")/common.sh"
 tiny=$here/samples/tiny/tiny.json
-descriptions "$tiny" blanks devices exports words brackets
+descriptions "$tiny" blanks devices exports words objects empties lists numbers escapes members halves brackets
 
-# told WORD..: a line with the status of a command, how much it wrote and how long it took
+# told WORD..: a line with the status of a command, how much it wrote, how long it took and what memory
 told() {
     used "$program" "$@"
-    printf '%-9s %-11s %9d bytes, status %d, %8d bytes written, %s s' "$1" "$(basename "$2")" \
-        "$(stat -c %s "$2")" "$status" "$(stat -c %s "$output")" "$seconds"
+    printf '%-9s %-11s %9d bytes, status %d, %8d bytes written, %s s, %s MiB' "$1" "$(basename "$2")" \
+        "$(stat -c %s "$2")" "$status" "$(stat -c %s "$output")" "$seconds" "$held"
 }
 for file in $(ls -v "$work"); do
     told audit "$work/$file"

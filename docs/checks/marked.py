@@ -95,11 +95,16 @@ MARKED = {
     "law_secret_samples": {
         "instance": "walls_stand",
     },
+    "ct_json": {
+        "inner":
+            "Document::read Document::root Json::as_str Json::as_u64 Json::is_object Json::items Json::keys "
+            "Json::get Items::none Items::are_at_most",
+    },
     "ct_desc_value": {
         "inner":
             "word_of bytes_of has_kinds keeps_limits has_only text_at number_at list_in list_at has has_text "
             "number_or word_or word_at text_or text_of number_in kind_of posture_of library_posture_of "
-            "passes_of service_of members_of inner_lists spots_of",
+            "passes_of service_of members_of inner_lists spots_of Spots::next",
     },
     "law_desc": {
         "instance": "samples_are_judged",
@@ -181,7 +186,7 @@ MARKED = {
         "inner": "answer switch allocate remaining rest wait wake token_key token_new",
     },
     "ct_boot": {
-        "inner": "launch Start::new Start::first",
+        "inner": "launch",
     },
     "ct_machine": {
         "inner": "Known::of Machine::lawful Machine::totals",

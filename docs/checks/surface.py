@@ -51,7 +51,7 @@ SURFACE = {
     "ct_handler": "Start record_at write_record fresh answer",
     "ct_sched": "Sched Status Sched::new Sched::pick Sched::tick Sched::sleep Sched::wait Sched::wake Sched::end "
                 "Sched::status",
-    "ct_boot": "Start First boot Start::new Start::first",
+    "ct_boot": "First boot first_of",
     "ct_machine": "Machine Event Machine::start Machine::lawful Machine::advance Machine::ended Machine::totals",
     "ct_trace": "Line line summary",
     "ct_top": "Status capfw ready",
@@ -81,7 +81,6 @@ SURFACE_WORDS = {
     "ct_entries::entries": ("two crates", "crates-that-stand-between"),
     "ct_report::text": ("two crates", "crates-that-stand-between"),
     "ct_loadstore::loadstore": ("asks less than it might", "the-machine"),
-    "ct_boot::Start": ("keeps capabilities", "images"),
     "ct_machine::Machine": ("what its type keeps", "the-machine"),
 }
 
