@@ -10,6 +10,9 @@ MARKED = {
     "ct_texts": {
         "inner": "number_of is_name",
     },
+    "ct_keyed": {
+        "inner": "HashKey::of HashKey::of_digest",
+    },
     "ct_port": {
         "inner":
             "DiskFolder::new WriterSink::new FolderMem::new FolderMem::add FolderMem::fail_at FolderMem::read "

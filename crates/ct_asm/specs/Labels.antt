@@ -39,6 +39,16 @@ abbrev pub AreFirst : Labels → ℕ → Statements → Type 0
 AreFirst labels k [] = Unit {0}
 AreFirst labels k (s ∷ ss) = IsFirst labels k s.part × AreFirst labels (k + 1) ss
 
+-- a label's name, and a line feed, which no name holds
+abbrev pub label_line : Part Name → List ℕ
+label_line (part.Label name) = name ++ 10 ∷ []
+label_line _ = []
+
+-- the names of the labels in order, each on a line of its own
+abbrev pub label_lines : Statements → List ℕ
+label_lines [] = []
+label_lines (s ∷ ss) = label_line s.part ++ label_lines ss
+
 -- an object: its bytes, and the labels that it keeps
 pub record Assembled : Type 0 where
   pub text : List ℕ

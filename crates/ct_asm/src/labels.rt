@@ -3,15 +3,16 @@
 ghost use Rattle.std.specs.Prelude.{◌≡◌, [], OnOk, IfOk, is_none};
 ghost use Rattle.ct_asm.specs.Labels.{label_named, with_label};
 
+use ct_keyed::HashKey;
 use def_object::Label;
 use indexmap::IndexMap;
 use std::alloc::{AllocError, Global};
 use std::marker::Model;
 
-/// Labels by name.
+/// Labels by name, which are looked up in constant time, whoever chose them: the table hashes by a key of their names.
 #[derive(Drop)]
 pub struct Labels {
-    table: IndexMap<Vec<u8>, Label>,
+    table: IndexMap<Vec<u8>, Label, HashKey>,
 }
 
 impl Model for Labels {
@@ -25,12 +26,12 @@ impl Model for Labels {
 }
 
 impl Labels {
-    /// No labels.
-    pub fn new(alloc: Global) -> Labels
+    /// No labels, of those whose names have this key.
+    pub fn new(alloc: Global, key: HashKey) -> Labels
         ensures { result ≡ [] }
     {
         Labels {
-            table: IndexMap::new(alloc),
+            table: IndexMap::with_hasher(alloc, key),
         }
     }
 

@@ -7,6 +7,7 @@ mod bytes;
 mod emit;
 mod faults;
 mod instructions;
+mod keying;
 mod labels;
 mod names;
 mod object;

@@ -11,6 +11,7 @@ use crate::faults::least_fault;
 use crate::labels::Labels;
 use crate::names::Names;
 use crate::tables::labels_of;
+use ct_keyed::HashKey;
 use ct_source::compact::CompactStatement;
 use def_source::AsmFault;
 use def_source::parts::Section;
@@ -43,7 +44,7 @@ impl Object {
         Object {
             text,
             init: Vec::new(alloc),
-            labels: Labels::new(alloc),
+            labels: Labels::new(alloc, HashKey::of(&[])),
         }
     }
 

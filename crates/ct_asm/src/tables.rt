@@ -7,6 +7,7 @@ ghost use Rattle.ct_source.specs.Views.{statements_view};
 ghost use Rattle.ct_source.specs.Compact.{compact_part};
 ghost use Rattle.ct_asm.specs.Labels.{label_named, noted, is_new, AreFirst};
 
+use crate::keying::key_of_labels;
 use crate::labels::Labels;
 use crate::names::Names;
 use crate::places::{START, advanced, offset};
@@ -64,7 +65,7 @@ pub(crate) fn labels_of(
         (λ t. t.distinct ≡ true
         → AreFirst (λ n. label_named n t.labels) 0 (statements_view statements.now)) }
 {
-    let mut labels = Labels::new(alloc);
+    let mut labels = Labels::new(alloc, key_of_labels(statements));
     let mut distinct = true;
     let mut place = START;
     for (k, s) in statements.iter().enumerate() {

@@ -12,6 +12,7 @@ use crate::naming::{is_well_named, name_at};
 use crate::spaces::Spaces;
 use ct_desc_value::{Spot, Spots, has_kinds, has_only, keeps_limits, spots_of};
 use ct_json::Json;
+use ct_keyed::HashKey;
 use def_desc::{Fault, Place};
 use std::alloc::{AllocError, Global};
 
@@ -29,9 +30,9 @@ struct Firsts {
 }
 
 impl Firsts {
-    /// Nothing is judged yet.
+    /// Nothing is judged yet of a text that has this key.
     #[tactic(auto, unfolding(crate::specs::Judged::place_faults, crate::specs::Judged::after_kinds, crate::specs::Judged::after_members, crate::specs::Judged::after_names, crate::specs::Judged::after_twice, crate::specs::Judged::after_limits))]
-    fn new(alloc: Global) -> Firsts
+    fn new(alloc: Global, key: HashKey) -> Firsts
         ensures { (ss : List SpotRow) → after_kinds result ss ≡ place_faults ss }
     {
         Firsts {
@@ -40,7 +41,7 @@ impl Firsts {
             names: None,
             twice: None,
             limits: None,
-            spaces: Spaces::new(alloc),
+            spaces: Spaces::new(alloc, key),
         }
     }
 
@@ -166,10 +167,14 @@ impl Firsts {
 }
 
 /// F2 to F6, which need what stands at the places alone.
-pub(crate) fn place_fault(alloc: Global, value: &Json) -> Result<Option<Fault>, AllocError>
+pub(crate) fn place_fault(
+    alloc: Global,
+    key: HashKey,
+    value: &Json,
+) -> Result<Option<Fault>, AllocError>
     ensures { IfOk result (λ f. f ≡ place_faults (spots_in (data_of value.now))) }
 {
-    let mut firsts = Firsts::new(alloc);
+    let mut firsts = Firsts::new(alloc, key);
     let judged = firsts.judge_all(alloc, spots_of(value));
     let least = firsts.least();
     drop(firsts);

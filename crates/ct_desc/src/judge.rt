@@ -13,6 +13,7 @@ use crate::rules::Rule;
 use crate::{DescFault, fault};
 use ct_desc_rows::{Desc, rows_of};
 use ct_json::Json;
+use ct_keyed::HashKey;
 use def_desc::Fault;
 use std::alloc::{AllocError, Global};
 
@@ -57,25 +58,25 @@ fn refused(fault: Fault) -> DescFault
 }
 
 /// The fault of a value before its rows are read.
-fn value_fault(alloc: Global, value: &Json) -> Result<Option<Fault>, AllocError>
+fn value_fault(alloc: Global, key: HashKey, value: &Json) -> Result<Option<Fault>, AllocError>
     ensures { IfOk result (λ f. f ≡ value_faults (data_of value.now)) }
 {
-    if let Some(fault) = place_fault(alloc, value)? {
+    if let Some(fault) = place_fault(alloc, key, value)? {
         return Ok(Some(fault));
     }
-    let named = Named::of(alloc, value)?;
+    let named = Named::of(alloc, key, value)?;
     let fault = name_fault(&named);
     drop(named);
     fault
 }
 
-/// The rows of a value that is a well-formed description.
+/// The rows of a value that is a well-formed description, whose text has this key.
 #[tactic(auto, using(crate::proofs::Steps::fault_in_steps))]
-pub(crate) fn read_value(alloc: Global, value: &Json) -> Result<Desc, DescFault>
+pub(crate) fn read_value(alloc: Global, key: HashKey, value: &Json) -> Result<Desc, DescFault>
     ensures { MatchResult result
         (λ d. Good (data_of value.now) d) (λ e. Faulty (data_of value.now) e) }
 {
-    if let Some(fault) = value_fault(alloc, value)? {
+    if let Some(fault) = value_fault(alloc, key, value)? {
         return Err(refused(fault));
     }
     let desc = rows_of(alloc, value)?;

@@ -5,7 +5,7 @@
 //! JSON is read by ct_json. The places of the value are walked once for F2 to F6, all of which are
 //! judged at a place before the next, and once for each of F7 to F9: members, limits and tables are
 //! judged in ct_desc_value, rows are read in ct_desc_rows, and names, references and addresses are
-//! judged here.
+//! judged here. Sets of names hash by a key of the text, so that no writer can choose names against them.
 #![tactic(auto)]
 
 mod addresses;
@@ -24,6 +24,7 @@ ghost use Rattle.ct_desc.specs.Answers.{Refused, unread_fault};
 
 use ct_desc_rows::Desc;
 use ct_json::{Document, Unread};
+use ct_keyed::HashKey;
 use def_desc::{Fault, PartWord, Place};
 use json::Scratch;
 use std::alloc::{AllocError, Global};
@@ -82,7 +83,7 @@ fn read_text(alloc: Global, text: &str) -> Result<Desc, DescFault>
 {
     let mut scratch = Scratch::new(alloc);
     match Document::read(alloc, text, &mut scratch) {
-        Ok(document) => judge::read_value(alloc, &document.root()),
+        Ok(document) => judge::read_value(alloc, HashKey::of(text.as_bytes()), &document.root()),
         Err(e) => Err(text_fault(e)),
     }
 }

@@ -3,14 +3,16 @@
 ghost use Rattle.std.specs.Prelude.{◌≡◌, [], IfOk, OnOk};
 ghost use Rattle.def_texts.specs.Names.{among, with_name};
 
+use ct_keyed::HashKey;
 use indexmap::IndexSet;
 use std::alloc::{AllocError, Global};
 use std::marker::Model;
 
-/// Names, each once, which are looked up in constant time.
+/// Names, each once, which are looked up in constant time, whoever chose them: the set hashes by a key of the text
+/// that they stand in.
 #[derive(Drop)]
 pub(crate) struct Names {
-    set: IndexSet<String>,
+    set: IndexSet<String, HashKey>,
 }
 
 impl Model for Names {
@@ -22,12 +24,12 @@ impl Model for Names {
 }
 
 impl Names {
-    /// No names.
-    pub fn new(alloc: Global) -> Names
+    /// No names of a text that has this key.
+    pub fn new(alloc: Global, key: HashKey) -> Names
         ensures { result ≡ [] }
     {
         Names {
-            set: IndexSet::new(alloc),
+            set: IndexSet::with_hasher(alloc, key),
         }
     }
 

@@ -15,6 +15,7 @@ use ct_desc_rows::target_at;
 use ct_desc_value::members::{list_at, text_or};
 use ct_desc_value::{Spot, spots_of};
 use ct_json::{Items, Json};
+use ct_keyed::HashKey;
 use def_desc::{Form, PartWord, Place};
 use std::alloc::{AllocError, Global};
 
@@ -80,8 +81,8 @@ struct Sets {
 }
 
 impl Sets {
-    /// No names.
-    fn new(alloc: Global) -> Sets
+    /// No names of a text that has this key.
+    fn new(alloc: Global, key: HashKey) -> Sets
         ensures devices { result.devices ≡ [] }
         ensures shared { result.shared ≡ [] }
         ensures sealed { result.sealed ≡ [] }
@@ -89,11 +90,11 @@ impl Sets {
         ensures libraries { result.libraries ≡ [] }
     {
         Sets {
-            devices: Names::new(alloc),
-            shared: Names::new(alloc),
-            sealed: Names::new(alloc),
-            calls: Names::new(alloc),
-            libraries: Names::new(alloc),
+            devices: Names::new(alloc, key),
+            shared: Names::new(alloc, key),
+            sealed: Names::new(alloc, key),
+            calls: Names::new(alloc, key),
+            libraries: Names::new(alloc, key),
         }
     }
 
@@ -138,11 +139,15 @@ pub(crate) struct Named<'t, 'a> {
 }
 
 impl<'t, 'a> Named<'t, 'a> {
-    /// What may be named in a description.
-    pub fn of(alloc: Global, value: &Json<'t, 'a>) -> Result<Named<'t, 'a>, AllocError>
+    /// What may be named in a description whose text has this key.
+    pub fn of(
+        alloc: Global,
+        key: HashKey,
+        value: &Json<'t, 'a>,
+    ) -> Result<Named<'t, 'a>, AllocError>
         ensures { IfOk result (λ n. n.value ≡ value.now) }
     {
-        let mut sets = Sets::new(alloc);
+        let mut sets = Sets::new(alloc, key);
         match sets.fill(alloc, value) {
             Ok(()) => Ok(Named {
                 value: *value,

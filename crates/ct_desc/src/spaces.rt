@@ -6,13 +6,16 @@ ghost use Rattle.def_texts.specs.Names.{among};
 ghost use Rattle.def_desc.specs.Names as spec;
 
 use crate::names::Names;
+use ct_keyed::HashKey;
 use def_desc::PartWord;
 use std::alloc::{AllocError, Global};
 use std::marker::Model;
 
-/// The names of each space so far. Slots and exports are those of one compartment or library.
+/// The names of each space so far. Slots and exports are those of one compartment or library. Each set of names
+/// hashes by the text's key.
 #[derive(Drop)]
 pub(crate) struct Spaces {
+    key: HashKey,
     devices: Names,
     shared: Names,
     sealed: Names,
@@ -37,26 +40,27 @@ impl Model for Spaces {
 }
 
 /// The slots of a compartment before its imports: `switch`.
-fn first_slots(alloc: Global) -> Result<Names, AllocError>
+fn first_slots(alloc: Global, key: HashKey) -> Result<Names, AllocError>
     ensures { IfOk result (λ n. n ≡ codes "switch" ∷ []) }
 {
-    let mut slots = Names::new(alloc);
+    let mut slots = Names::new(alloc, key);
     slots.add(alloc, "switch")?;
     Ok(slots)
 }
 
 impl Spaces {
-    /// No names.
-    pub fn new(alloc: Global) -> Spaces
+    /// No names of a text that has this key.
+    pub fn new(alloc: Global, key: HashKey) -> Spaces
         ensures { result ≡ spec.no_names }
     {
         Spaces {
-            devices: Names::new(alloc),
-            shared: Names::new(alloc),
-            sealed: Names::new(alloc),
-            owners: Names::new(alloc),
-            slots: Names::new(alloc),
-            exports: Names::new(alloc),
+            key,
+            devices: Names::new(alloc, key),
+            shared: Names::new(alloc, key),
+            sealed: Names::new(alloc, key),
+            owners: Names::new(alloc, key),
+            slots: Names::new(alloc, key),
+            exports: Names::new(alloc, key),
         }
     }
 
@@ -66,8 +70,8 @@ impl Spaces {
             (self.new ≡ spec.with_part_name PartWord.Compartment name.now self.old) }
     {
         let twice = self.owners.add(alloc, name)?;
-        self.slots = first_slots(alloc)?;
-        self.exports = Names::new(alloc);
+        self.slots = first_slots(alloc, self.key)?;
+        self.exports = Names::new(alloc, self.key);
         Ok(twice)
     }
 
@@ -77,8 +81,8 @@ impl Spaces {
             (self.new ≡ spec.with_part_name PartWord.Library name.now self.old) }
     {
         let twice = self.owners.add(alloc, name)?;
-        self.slots = Names::new(alloc);
-        self.exports = Names::new(alloc);
+        self.slots = Names::new(alloc, self.key);
+        self.exports = Names::new(alloc, self.key);
         Ok(twice)
     }
 
