@@ -7,7 +7,10 @@ use Rattle.serde_json.specs.Find.{as_u64}
 use Rattle.serde_json.specs.Read.{number_of, number_from, float_of}
 
 float_is_none : (sign : Bool) (p : Parts) → option_and_then as_u64 (float_of sign p) ≡ None
-float_is_none sign p = elim (float_is_finite (nearest binary64 sign p)) as (λ b. option_and_then as_u64 (cond b (Some (float (nearest binary64 sign p))) None) ≡ None) [ true ↦ refl | false ↦ refl ]
+float_is_none sign p =
+    elim (float_is_finite (nearest binary64 sign p)) as
+    (λ b. option_and_then as_u64 (cond b (Some (float (nearest binary64 sign p))) None) ≡ None)
+    [ true ↦ refl | false ↦ refl ]
 
 pub minus_is_none : (s : List ℕ) → (get_or s 0 0 == 45) ≡ true → option_and_then as_u64 (number_of s) ≡ None
 unfolding number_of

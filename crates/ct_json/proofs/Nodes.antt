@@ -8,7 +8,8 @@ use Rattle.ct_json.specs.declared.node.Node.TheVariants.{Null, Key}
 use Rattle.ct_json.specs.Rows.{row, inside, span, value_of, value_at, items_of, pairs_of}
 use Rattle.ct_json.proofs.Turns.{is_key, value_of-nil, value_of-cons, items_of-cons, items_of-nil, items_of-zero, pairs_of-key, pairs_of-other, pairs_of-zero, pairs_of-nil}
 
-pub first_seen : (ns : List Node) → value_of (map row ns) ≡ value_at (row (unwrap_or (slice_get ns 0) Null)) (drop 1 (map row ns))
+pub first_seen : (ns : List Node)
+    → value_of (map row ns) ≡ value_at (row (unwrap_or (slice_get ns 0) Null)) (drop 1 (map row ns))
 first_seen [] = value_of-nil
 first_seen (n ∷ ns) = value_of-cons (row n) (map row ns)
 
@@ -32,7 +33,9 @@ abbrev pairs : ℕ → List Node → List (List ℕ × Data)
 pairs left ns = pairs_of left (map row ns)
 
 pub pairs_next : (left : ℕ) (ns : List Node) (k : Bor (List ℕ)) → Key k ≡ unwrap_or (slice_get ns 0) Null → 0 < left
-    → pairs left ns ≡ (k.now, value_of (map row (drop 1 ns))) ∷ pairs (left - 1 - span (map row (drop 1 ns))) (drop (span (map row (drop 1 ns))) (drop 1 ns))
+    → pairs left ns
+    ≡ (k.now, value_of (map row (drop 1 ns))) ∷ pairs (left - 1 - span (map row (drop 1 ns)))
+    (drop (span (map row (drop 1 ns))) (drop 1 ns))
 pairs_next zero ns k e a = absurd (omega arith)
 pairs_next (suc left) [] k e a = cc
 pairs_next (suc left) (n ∷ ns) k e a =
@@ -42,6 +45,7 @@ pairs_next (suc left) (n ∷ ns) k e a =
 pub no_pairs_left : (left : ℕ) (ns : List Node) → left ≡ 0 → pairs left ns ≡ []
 no_pairs_left left ns e = rw e (pairs_of-zero (map row ns))
 
-pub no_key_first : (left : ℕ) (ns : List Node) → is_key (row (unwrap_or (slice_get ns 0) Null)) ≡ false → pairs left ns ≡ []
+pub no_key_first : (left : ℕ) (ns : List Node) → is_key (row (unwrap_or (slice_get ns 0) Null)) ≡ false
+    → pairs left ns ≡ []
 no_key_first left [] e = pairs_of-nil left
 no_key_first left (n ∷ ns) e = pairs_of-other left (row n) (map row ns) e

@@ -44,7 +44,8 @@ AreValue-text s = record {
 
 -- ---- a list and an object, before what stands inside
 
-pub AreValue-list : (rows : List Row) (ds : Items) → AreItems rows ds → AreValue (list (length rows) ∷ rows) (value.array ds)
+pub AreValue-list : (rows : List Row) (ds : Items) → AreItems rows ds
+    → AreValue (list (length rows) ∷ rows) (value.array ds)
 AreValue-list rows ds are = record {
   some = omega arith;
   span = λ more. refl;
@@ -53,7 +54,8 @@ AreValue-list rows ds are = record {
       rw t.1 (ap value.array (are t.0 more (omega (arith, t.1))));
 }
 
-pub AreValue-object : (rows : List Row) (ms : Members) → AreMembers rows ms → AreValue (object (length rows) ∷ rows) (value.object ms)
+pub AreValue-object : (rows : List Row) (ms : Members) → AreMembers rows ms
+    → AreValue (object (length rows) ∷ rows) (value.object ms)
 AreValue-object rows ms are = record {
   some = omega arith;
   span = λ more. refl;
@@ -83,7 +85,8 @@ items_in-none zero more = refl
 items_in-none (suc n) more = refl
 
 -- one item, and what follows it
-items_in-item : (rows : List Row) (d : Data) → AreValue rows d → (turns n : ℕ) (more : List Row) → 2 * length rows < turns
+items_in-item : (rows : List Row) (d : Data) → AreValue rows d → (turns n : ℕ) (more : List Row)
+    → 2 * length rows < turns
     → items_in turns (length rows + n) (rows ++ more) ≡ item d (items_in (turns - 1) n more)
 items_in-item [] d are turns n more h = absurd (omega (arith, are.some))
 items_in-item (x ∷ xs) d are zero n more h = absurd (omega arith)
@@ -96,21 +99,24 @@ items_in-item (x ∷ xs) d are (suc turns) n more h =
     let less : suc turns - 1 ≡ turns = omega arith in
     rw (count, here, left, after, less)
 
-pub AreFirstItems-one_more : (rows : List Row) (before : Items → Items) → AreFirstItems rows before → (added : List Row) (d : Data) → AreValue added d
+pub AreFirstItems-one_more : (rows : List Row) (before : Items → Items) → AreFirstItems rows before
+    → (added : List Row) (d : Data) → AreValue added d
     → AreFirstItems (rows ++ added) (λ ds. before (item d ds))
 AreFirstItems-one_more rows before first added d are = record {
   count = first.count + 1;
   counted = omega (arith, first.counted, are.some, length-append rows added);
   items = λ turns n more h.
       let lengths : 2 * length rows + 2 * length added < turns = omega (arith, length-append rows added) in
-      let count : length (rows ++ added) + n ≡ length rows + (length added + n) = omega (arith, length-append rows added) in
+      let count : length (rows ++ added) + n ≡ length rows + (length added + n) =
+      omega (arith, length-append rows added) in
       ap₂ (items_in turns) count (append_assoc rows added more)
       ∙ first.items turns (length added + n) (added ++ more) (omega arith)
       ∙ ap before (items_in-item added d are (turns - first.count) n more (omega (arith, first.counted)))
       ∙ ap (λ k. before (item d (items_in k n more))) (omega arith);
 }
 
-pub AreItems-all : (rows : List Row) (before : Items → Items) → AreFirstItems rows before → AreItems rows (before no_items)
+pub AreItems-all : (rows : List Row) (before : Items → Items) → AreFirstItems rows before
+    → AreItems rows (before no_items)
 AreItems-all rows before first turns more h =
     let count : length rows ≡ length rows + 0 = omega arith in
     let none : items_in (turns - first.count) 0 more ≡ no_items = items_in-none (turns - first.count) more in
@@ -123,7 +129,8 @@ pub record AreFirstMembers (rows : List Row) (found : Members) : Type 0 where
   pub count : ℕ
   pub counted : count ≤ length rows
   pub members : (turns n : ℕ) (more : List Row) → 2 * length rows < turns
-      → put_all (pairs_in turns (length rows + n) (rows ++ more)) no_members ≡ put_all (pairs_in (turns - count) n more) found
+      → put_all (pairs_in turns (length rows + n) (rows ++ more)) no_members
+      ≡ put_all (pairs_in (turns - count) n more) found
 
 pub AreFirstMembers-none : AreFirstMembers [] no_members
 AreFirstMembers-none = record {
@@ -137,8 +144,10 @@ pairs_in-none zero more = refl
 pairs_in-none (suc n) more = refl
 
 -- one member, and what follows it
-put_all-member : (k : List ℕ) (rows : List Row) (d : Data) → AreValue rows d → (found : Members) (turns n : ℕ) (more : List Row) → 2 * length rows + 1 < turns
-    → put_all (pairs_in turns (length (key k ∷ rows) + n) ((key k ∷ rows) ++ more)) found ≡ put_all (pairs_in (turns - 1) n more) (put k d found)
+put_all-member : (k : List ℕ) (rows : List Row) (d : Data) → AreValue rows d
+    → (found : Members) (turns n : ℕ) (more : List Row) → 2 * length rows + 1 < turns
+    → put_all (pairs_in turns (length (key k ∷ rows) + n) ((key k ∷ rows) ++ more)) found
+    ≡ put_all (pairs_in (turns - 1) n more) (put k d found)
 put_all-member k rows d are found zero n more h = absurd (omega arith)
 put_all-member k rows d are found (suc turns) n more h =
     let count : length (key k ∷ rows) + n ≡ suc (length rows + n) = omega arith in
@@ -148,14 +157,17 @@ put_all-member k rows d are found (suc turns) n more h =
     let less : suc turns - 1 ≡ turns = omega arith in
     rw (count, here, are.span more, left, after, less)
 
-pub AreFirstMembers-one_more : (rows : List Row) (found : Members) → AreFirstMembers rows found → (k : List ℕ) (added : List Row) (d : Data) → AreValue added d
+pub AreFirstMembers-one_more : (rows : List Row) (found : Members) → AreFirstMembers rows found
+    → (k : List ℕ) (added : List Row) (d : Data) → AreValue added d
     → AreFirstMembers (rows ++ key k ∷ added) (put k d found)
 AreFirstMembers-one_more rows found first k added d are = record {
   count = first.count + 1;
   counted = omega (arith, first.counted, length-append rows (key k ∷ added));
   members = λ turns n more h.
-      let lengths : 2 * length rows + 2 * length (key k ∷ added) < turns = omega (arith, length-append rows (key k ∷ added)) in
-      let count : length (rows ++ key k ∷ added) + n ≡ length rows + (length (key k ∷ added) + n) = omega (arith, length-append rows (key k ∷ added)) in
+      let lengths : 2 * length rows + 2 * length (key k ∷ added) < turns =
+      omega (arith, length-append rows (key k ∷ added)) in
+      let count : length (rows ++ key k ∷ added) + n ≡ length rows + (length (key k ∷ added) + n) =
+      omega (arith, length-append rows (key k ∷ added)) in
       ap₂ (λ m xs. put_all (pairs_in turns m xs) no_members) count (append_assoc rows (key k ∷ added) more)
       ∙ first.members turns (length (key k ∷ added) + n) ((key k ∷ added) ++ more) (omega arith)
       ∙ put_all-member k added d are found (turns - first.count) n more (omega (arith, first.counted))

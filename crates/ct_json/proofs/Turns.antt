@@ -17,10 +17,12 @@ mutual
   value_turns (suc f) zero (x ∷ xs) a b = absurd (omega arith)
   value_turns (suc f) (suc g) [] a b = refl
   value_turns (suc f) (suc g) (list n ∷ xs) a b = ap value.array (items_turns f g n xs (omega arith) (omega arith))
-  value_turns (suc f) (suc g) (object n ∷ xs) a b = ap (λ ps. value.object (put_all ps value.no_members)) (pairs_turns f g n xs (omega arith) (omega arith))
+  value_turns (suc f) (suc g) (object n ∷ xs) a b =
+      ap (λ ps. value.object (put_all ps value.no_members)) (pairs_turns f g n xs (omega arith) (omega arith))
   value_turns (suc f) (suc g) (x ∷ xs) a b = refl
 
-  pub items_turns : (f g n : ℕ) (xs : List Row) → 2 * length xs + 1 ≤ f → 2 * length xs + 1 ≤ g → items_in f n xs ≡ items_in g n xs
+  pub items_turns : (f g n : ℕ) (xs : List Row) → 2 * length xs + 1 ≤ f → 2 * length xs + 1 ≤ g
+      → items_in f n xs ≡ items_in g n xs
   items_turns zero g n xs a b = absurd (omega arith)
   items_turns (suc f) zero n xs a b = absurd (omega arith)
   items_turns (suc f) (suc g) zero xs a b = refl
@@ -28,10 +30,12 @@ mutual
   items_turns (suc f) (suc g) (suc n) (x ∷ xs) a b =
       rw (
         value_turns f g (x ∷ xs) (omega arith) (omega arith),
-        items_turns f g (n - inside x) (drop (inside x) xs) (omega (arith, length-drop (inside x) xs)) (omega (arith, length-drop (inside x) xs)),
+        items_turns f g (n - inside x) (drop (inside x) xs) (omega (arith, length-drop (inside x) xs))
+            (omega (arith, length-drop (inside x) xs)),
       )
 
-  pub pairs_turns : (f g n : ℕ) (xs : List Row) → 2 * length xs + 1 ≤ f → 2 * length xs + 1 ≤ g → pairs_in f n xs ≡ pairs_in g n xs
+  pub pairs_turns : (f g n : ℕ) (xs : List Row) → 2 * length xs + 1 ≤ f → 2 * length xs + 1 ≤ g
+      → pairs_in f n xs ≡ pairs_in g n xs
   pairs_turns zero g n xs a b = absurd (omega arith)
   pairs_turns (suc f) zero n xs a b = absurd (omega arith)
   pairs_turns (suc f) (suc g) zero xs a b = refl
@@ -39,7 +43,8 @@ mutual
   pairs_turns (suc f) (suc g) (suc n) (key s ∷ xs) a b =
       rw (
         value_turns f g xs (omega arith) (omega arith),
-        pairs_turns f g (n - span xs) (drop (span xs) xs) (omega (arith, length-drop (span xs) xs)) (omega (arith, length-drop (span xs) xs)),
+        pairs_turns f g (n - span xs) (drop (span xs) xs) (omega (arith, length-drop (span xs) xs))
+            (omega (arith, length-drop (span xs) xs)),
       )
   pairs_turns (suc f) (suc g) (suc n) (x ∷ xs) a b = refl
 
@@ -50,7 +55,8 @@ value_of-nil = refl
 value_in-cons : (x : Row) (xs : List Row) (f : ℕ) → 2 * length xs + 1 ≤ f → value_in (suc f) (x ∷ xs) ≡ value_at x xs
 unfolding items_of pairs_of
 value_in-cons (list n) xs f h = ap value.array (items_turns f _ n xs h (omega arith))
-value_in-cons (object n) xs f h = ap (λ ps. value.object (put_all ps value.no_members)) (pairs_turns f _ n xs h (omega arith))
+value_in-cons (object n) xs f h =
+    ap (λ ps. value.object (put_all ps value.no_members)) (pairs_turns f _ n xs h (omega arith))
 value_in-cons x xs f h = refl
 
 pub value_of-cons : (x : Row) (xs : List Row) → value_of (x ∷ xs) ≡ value_at x xs
@@ -74,10 +80,12 @@ unfolding items_of value_of
 items_at f n x xs h =
     rw (
       value_turns f (2 * length (x ∷ xs)) (x ∷ xs) (omega arith) (omega arith),
-      items_turns f (2 * length (drop (inside x) xs) + 1) (n - inside x) (drop (inside x) xs) (omega (arith, length-drop (inside x) xs)) (omega arith),
+      items_turns f (2 * length (drop (inside x) xs) + 1) (n - inside x) (drop (inside x) xs)
+          (omega (arith, length-drop (inside x) xs)) (omega arith),
     )
 
-pub items_of-cons : (n : ℕ) (x : Row) (xs : List Row) → items_of (suc n) (x ∷ xs) ≡ value.item (value_of (x ∷ xs)) (items_of (n - inside x) (drop (inside x) xs))
+pub items_of-cons : (n : ℕ) (x : Row) (xs : List Row)
+    → items_of (suc n) (x ∷ xs) ≡ value.item (value_of (x ∷ xs)) (items_of (n - inside x) (drop (inside x) xs))
 unfolding items_of
 items_of-cons n x xs =
     let turns : 2 * length (x ∷ xs) + 1 ≡ suc (2 * length (x ∷ xs)) = omega arith in
@@ -98,10 +106,12 @@ unfolding pairs_of value_of
 pairs_at f n s xs h =
     rw (
       value_turns f (2 * length xs) xs (omega arith) (omega arith),
-      pairs_turns f (2 * length (drop (span xs) xs) + 1) (n - span xs) (drop (span xs) xs) (omega (arith, length-drop (span xs) xs)) (omega arith),
+      pairs_turns f (2 * length (drop (span xs) xs) + 1) (n - span xs) (drop (span xs) xs)
+          (omega (arith, length-drop (span xs) xs)) (omega arith),
     )
 
-pub pairs_of-key : (n : ℕ) (s : List ℕ) (xs : List Row) → pairs_of (suc n) (key s ∷ xs) ≡ (s, value_of xs) ∷ pairs_of (n - span xs) (drop (span xs) xs)
+pub pairs_of-key : (n : ℕ) (s : List ℕ) (xs : List Row)
+    → pairs_of (suc n) (key s ∷ xs) ≡ (s, value_of xs) ∷ pairs_of (n - span xs) (drop (span xs) xs)
 unfolding pairs_of
 pairs_of-key n s xs =
     let turns : 2 * length (key s ∷ xs) + 1 ≡ suc (2 * length (key s ∷ xs)) = omega arith in

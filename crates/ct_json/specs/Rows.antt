@@ -41,21 +41,25 @@ abbrev pub put_all : List (List ℕ × Data) → Members → Members
 put_all [] before = before
 put_all (p ∷ ps) before = put_all ps (put p.0 p.1 before)
 
+-- the value that a node begins, by the items or the members that stand inside it
+abbrev pub value_holding : Row → Items → List (List ℕ × Data) → Data
+value_holding null ds ps = value.null
+value_holding (boolean b) ds ps = value.boolean b
+value_holding (number s) ds ps =
+    unwrap_or (option_map value.number (number_of s)) value.null
+value_holding (text s) ds ps = value.string s
+value_holding (list n) ds ps = value.array ds
+value_holding (object n) ds ps = value.object (put_all ps value.no_members)
+value_holding (key s) ds ps = value.null
+
 -- The first number bounds the turns; twice the count of the nodes is always enough. The second is how
 -- many nodes are left of the list or object.
 abbrev mutual
   pub value_in : ℕ → List Row → Data
   value_in zero xs = value.null
   value_in (suc f) [] = value.null
-  value_in (suc f) (null ∷ xs) = value.null
-  value_in (suc f) (boolean b ∷ xs) = value.boolean b
-  value_in (suc f) (number s ∷ xs) =
-      unwrap_or (option_map value.number (number_of s)) value.null
-  value_in (suc f) (text s ∷ xs) = value.string s
-  value_in (suc f) (list n ∷ xs) = value.array (items_in f n xs)
-  value_in (suc f) (object n ∷ xs) =
-      value.object (put_all (pairs_in f n xs) value.no_members)
-  value_in (suc f) (key s ∷ xs) = value.null
+  value_in (suc f) (x ∷ xs) =
+      value_holding x (items_in f (inside x) xs) (pairs_in f (inside x) xs)
 
   pub items_in : ℕ → ℕ → List Row → Items
   items_in zero n xs = value.no_items
@@ -87,10 +91,4 @@ pairs_of n xs = pairs_in (2 * length xs + 1) n xs
 
 -- the value that a node begins, with the nodes that follow it
 abbrev pub value_at : Row → List Row → Data
-value_at null xs = value.null
-value_at (boolean b) xs = value.boolean b
-value_at (number s) xs = unwrap_or (option_map value.number (number_of s)) value.null
-value_at (text s) xs = value.string s
-value_at (list n) xs = value.array (items_of n xs)
-value_at (object n) xs = value.object (put_all (pairs_of n xs) value.no_members)
-value_at (key s) xs = value.null
+value_at x xs = value_holding x (items_of (inside x) xs) (pairs_of (inside x) xs)

@@ -40,7 +40,7 @@ members_read depth ts =
 pub record Adds {A : Type 0} (Are : List Row → A → Type 0) (outcome : Option (A × List Token))
     (old new : List Row) (rest : List Token) : Type 0 where
   pub rows : List Row
-  pub found : A
-  pub are : Are rows found
-  pub read : outcome ≡ Some (found, rest)
-  pub added : new ≡ old ++ rows
+  pub content : A
+  pub are : Are rows content
+  pub answer : outcome ≡ Some (content, rest)
+  pub growth : new ≡ old ++ rows

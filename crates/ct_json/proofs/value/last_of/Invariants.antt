@@ -5,4 +5,5 @@ use Rattle.ct_json.proofs.value.last_of.Given as goal
 
 abbrev pub invariant-loop-name : goal.invariant-loop-name
 invariant-loop-name l =
-    found_in l.key (members_left l.name-iterator) (option_map data_of l.found) ≡ found_in l.key (members_left l.fn.pairs) None
+    found_in l.key (members_left l.name-iterator) (option_map data_of l.found) ≡ found_in l.key
+    (members_left l.fn.pairs) None

@@ -10,4 +10,5 @@ returns c =
     let text : c.in_ok-reader.reader ≡ tokens c.args.text.now = search rules in
     let over : c.read_value.new.reader ≡ [] = search rules in
     let fresh : map row c.in_ok-nodes.nodes.items ≡ [] = ap (map row) none in
-    whole_text c.args.text.now (map row c.read_value.new.nodes.items) (rw (text, fresh, over) at c.in_ok-read_value.ensures.ok)
+    whole_text c.args.text.now (map row c.read_value.new.nodes.items)
+    (rw (text, fresh, over) at c.in_ok-read_value.ensures.ok)
