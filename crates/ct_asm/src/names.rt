@@ -8,7 +8,7 @@ use indexmap::IndexSet;
 use std::alloc::Global;
 use std::marker::Model;
 
-/// Names in slot order, each once.
+/// Names in slot order, each once. A description has few slots of an owner, so the set keeps the kit's hash.
 #[derive(Drop)]
 pub struct Names {
     set: IndexSet<Vec<u8>>,

@@ -18,8 +18,8 @@ among_end x [] name = or-false (bytes_eq x name)
 among_end x (n ∷ names) name = ap (λ b. bytes_eq x n || b) (among_end x names name) ∙ sym (or_assoc (bytes_eq x n) (among x names) (bytes_eq x name))
 
 -- a name that is among them already
-known : (x name : List ℕ) (seen : List (List ℕ)) → among name seen ≡ true → among x seen ≡ (among x seen || bytes_eq x name)
-known x name seen there = by_test (bytes_eq x name) refl
+name_again : (x name : List ℕ) (seen : List (List ℕ)) → among name seen ≡ true → among x seen ≡ (among x seen || bytes_eq x name)
+name_again x name seen there = by_test (bytes_eq x name) refl
   where
     by_test : (b : Bool) → bytes_eq x name ≡ b → among x seen ≡ (among x seen || b)
     by_test false e = sym (or-false (among x seen))
@@ -29,7 +29,7 @@ with_one : (x : List ℕ) (seen : List (List ℕ)) (name : List ℕ) → among x
 with_one x seen name = by_test (among name seen) refl
   where
     by_test : (b : Bool) → among name seen ≡ b → among x (cond b seen (seen ++ name ∷ [])) ≡ (among x seen || bytes_eq x name)
-    by_test true e = known x name seen e
+    by_test true e = name_again x name seen e
     by_test false e = among_end x seen name
 
 once : (x : List ℕ) (seen names : List (List ℕ)) → among x (with_names seen names) ≡ (among x seen || among x names)

@@ -30,8 +30,8 @@ pub(crate) enum Rule {
 fn is_one_of(text: &str, texts: &[&'static str]) -> bool
     ensures { result ≡ among text.now (map (λ t. t.now) texts.now) }
 {
-    for known in texts {
-        if text == *known {
+    for choice in texts {
+        if text == *choice {
             return true;
         }
     }

@@ -25,10 +25,10 @@ pub no_keys : (test : List ℕ → Bool) (o : Option Members) → None ≡ optio
 no_keys test (Some ms) e = absurd (none-some (list_all test (names_in ms)) e)
 no_keys test None e = refl
 
-pub listed_beside : (part : PartWord) (d : Data) (righted : Bool) (names : List (List ℕ))
-    → ((name : List ℕ) → stands_beside part d name ≡ (righted && bytes_eq name (codes "rights")))
-    → list_all (is_listed_beside part righted) names ≡ list_all (is_listed_member part d) names
-listed_beside part d righted [] same = refl
-listed_beside part d righted (n ∷ ns) same =
-    ap (λ b. (is_member part n || b) && list_all (is_listed_beside part righted) ns) (sym (same n))
-    ∙ ap (λ b. is_listed_member part d n && b) (listed_beside part d righted ns same)
+pub listed_beside : (part : PartWord) (d : Data) (rights : Bool) (names : List (List ℕ))
+    → ((name : List ℕ) → stands_beside part d name ≡ (rights && bytes_eq name (codes "rights")))
+    → list_all (is_listed_beside part rights) names ≡ list_all (is_listed_member part d) names
+listed_beside part d rights [] same = refl
+listed_beside part d rights (n ∷ ns) same =
+    ap (λ b. (is_member part n || b) && list_all (is_listed_beside part rights) ns) (sym (same n))
+    ∙ ap (λ b. is_listed_member part d n && b) (listed_beside part d rights ns same)

@@ -47,17 +47,17 @@ fn takes_rights_at(part: PartWord, value: &Json) -> bool
     }
 }
 
-fn is_listed(part: PartWord, righted: bool, name: &str) -> bool
-    ensures { result ≡ is_listed_beside part righted name.now }
+fn is_listed(part: PartWord, rights: bool, name: &str) -> bool
+    ensures { result ≡ is_listed_beside part rights name.now }
 {
-    is_member(part, name) || (righted && name == "rights")
+    is_member(part, name) || (rights && name == "rights")
 }
 
-fn are_listed(keys: Keys, part: PartWord, righted: bool) -> bool
-    ensures { result ≡ list_all (is_listed_beside part righted) (keys_left keys.entry) }
+fn are_listed(keys: Keys, part: PartWord, rights: bool) -> bool
+    ensures { result ≡ list_all (is_listed_beside part rights) (keys_left keys.entry) }
 {
     for key in keys {
-        if !is_listed(part, righted, key) {
+        if !is_listed(part, rights, key) {
             return false;
         }
     }
@@ -71,9 +71,9 @@ fn members_are_listed(part: PartWord, value: &Json) -> bool
     ensures { result
         ≡ list_all (spec.is_listed_member part (data_of value.now)) (keys_of (data_of value.now)) }
 {
-    let righted = takes_rights_at(part, value);
+    let rights = takes_rights_at(part, value);
     match value.keys() {
-        Some(keys) => are_listed(keys, part, righted),
+        Some(keys) => are_listed(keys, part, rights),
         None => true,
     }
 }

@@ -14,7 +14,7 @@ pub struct Owner<'t, 'a> {
     /// Exports may begin at labels. It is asked once of each owner, and not at each export, since an
     /// owner may have as many members as its text has room for.
     pub labels: bool,
-    ghost known: { labels ≡ spec.has_labels (data_of value) },
+    ghost of_labels: { labels ≡ spec.has_labels (data_of value) },
 }
 
 fn has_labels(owner: &Json) -> bool

@@ -15,8 +15,8 @@ use def_desc::{PartWord, Passes, Shape};
 fn find<T: Copy>(table: &[(&'static str, T)], name: &[u8]) -> Option<T>
     ensures { result ≡ says (λ r. r.0.now) (λ r. r.1) name.now table.now }
 {
-    for (known, value) in table {
-        if name == known.as_bytes() {
+    for (word, value) in table {
+        if name == word.as_bytes() {
             return Some(*value);
         }
     }

@@ -8,7 +8,10 @@ use Rattle.ct_keyed.specs.declared.HashKey.{HashKey}
 
 -- the first sixteen bytes of a digest, as two numbers, the lowest byte first
 abbrev pub key_of_digest : List ℕ → HashKey
-key_of_digest digest = record { first = from_le_bytes w64 (take 8 digest); second = from_le_bytes w64 (take 8 (drop 8 digest)) }
+key_of_digest digest = record {
+  first = from_le_bytes w64 (take 8 digest);
+  second = from_le_bytes w64 (take 8 (drop 8 digest));
+}
 
 -- the hash key of a text, from its SHA-256 digest
 abbrev pub key_of : List ℕ → HashKey

@@ -6,5 +6,5 @@ use Rattle.ct_desc_value.proofs.listed.are_listed.Given as goal
 
 abbrev pub invariant-loop-key : goal.invariant-loop-key
 invariant-loop-key l =
-    list_all (is_listed_beside l.part l.righted) (keys_left l.key-iterator)
-    ≡ list_all (is_listed_beside l.part l.righted) (keys_left l.initial.key-iterator)
+    list_all (is_listed_beside l.part l.rights) (keys_left l.key-iterator)
+    ≡ list_all (is_listed_beside l.part l.rights) (keys_left l.initial.key-iterator)
