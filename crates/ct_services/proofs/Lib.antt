@@ -3,3 +3,4 @@ pub mod Switching
 pub mod Held
 pub mod Granted
 pub mod Sealed
+pub mod Statuses
