@@ -25,7 +25,8 @@ use Rattle.ct_engine.specs.Seen as engine
 use Rattle.ct_engine.specs.Seen.{resumed, with_running, Seen}
 use Rattle.ct_machine.specs.Parts.{state_by, IsKept}
 use Rattle.ct_machine.specs.Going.{clock_on, sleepers_on}
-use Rattle.ct_machine.proofs.Statuses.{like_with, set_with, statuses_with, timed_with}
+use Rattle.ct_services.proofs.Statuses.{changed_with, like_with, statuses_with}
+use Rattle.ct_machine.proofs.Statuses.{timed_with}
 use Rattle.law_events.proofs.Waiting.{given_status}
 
 -- RAM begins where the image says
@@ -153,8 +154,7 @@ module _ (b : Platform) (e : Seen) (r : SchedRow) (pending : Bool) (devices : Li
   picked_is t kept idle is =
       let there : with_statuses (set e.threads t (picked_with (filtered_in e.region.ram e.granules) (get_or e.threads t nobody))) r.statuses
       ≡ set (with_statuses e.threads r.statuses) t (picked_with (filtered_in e.region.ram e.granules) (get_or (with_statuses e.threads r.statuses) t nobody)) =
-      set_with e.threads r.statuses t (picked_with (filtered_in e.region.ram e.granules) (get_or e.threads t nobody)) kept.statuses
-      ∙ ap (λ (x : Thread). set (with_statuses e.threads r.statuses) t (picked_with (filtered_in e.region.ram e.granules) x)) (sym (given_status e.threads r.statuses t kept.statuses)) in
+      sym (changed_with (picked_with (filtered_in e.region.ram e.granules)) (λ x q. refl) e.threads r.statuses t) in
       rw (there, ram_is b.image e r kept) (sym (picks_as (Some t) kept idle is))
 
   pub none_is : (r' : SchedRow) → IsKept b.image e r → None ≡ e.running → None ≡ pick r.priorities r.statuses r.order → r' ≡ after_pick r None

@@ -4,3 +4,4 @@ pub mod Held
 pub mod Granted
 pub mod Sealed
 pub mod Statuses
+pub mod Rests

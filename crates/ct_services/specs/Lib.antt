@@ -2,3 +2,4 @@ pub mod Served
 pub mod Granted
 pub mod Sealed
 pub mod Serves
+pub mod Conditions

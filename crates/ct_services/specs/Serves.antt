@@ -1,6 +1,6 @@
 -- What the code of a native routine comes to: what the written routine comes to, in each state of the machine that holds
 -- what is seen of the engine.
-use Rattle.std.specs.Prelude.{ℕ, ◌+◌, ◌≡◌, ◌≤◌, ◌×◌, List, length, Option, Some, None}
+use Rattle.std.specs.Prelude.{ℕ, ◌+◌, ◌≡◌, ◌≤◌, List, length, Option, Some, None}
 use Rattle.def_words.specs.declared.Trap as words
 use Rattle.def_words.specs.Traps.{plain_trap}
 use Rattle.def_profile.specs.declared.traps.TheConstants.{ILLEGAL_INSTRUCTION}

@@ -22,8 +22,8 @@ switch-requires-clause-may g c =
     (may_call i.plan _ i.engine c.args.t
     (shows_caller i.plan i.engine i.sched i.pending i.bus.states i.time i.counts c.args.t c.self.invariant.0 c.entries.ensures.sound may.keeps.confined some) some)
 
-pub invariant_of-self : goal.invariant_of-self
-invariant_of-self g c =
+pub invariant_of-self-then-number-eq-SWITCH : goal.invariant_of-self-then-number-eq-SWITCH
+invariant_of-self-then-number-eq-SWITCH g c =
     let i = c.self.inside in
     let runs = subst (λ (m : MachineRow). Runs m c.args.t) (sym c.self.view_is) c.requires.runs in
     let some = some_seen i.plan i.engine i.sched i.pending i.bus.states i.time i.counts c.args.t runs.some in
@@ -46,12 +46,34 @@ returns-then-number-eq-SWITCH-clause-came g c =
     (came_call i.plan i.engine i.sched i.bus i.pending i.time i.counts c.args.t c.self.invariant.0 placed.base_is placed.room_is c.entries.result.now c.switch.new.engine c.switch.result
     c.entries.ensures.is (λ export high enters. entered_stands i.plan _ i.engine c.args.t export high shows enters) c.switch.ensures.result c.switch.ensures.engine))
 
-pub serve_heap-requires-clause-heap : goal.serve_heap-requires-clause-heap
-serve_heap-requires-clause-heap g c =
+pub serve-requires-clause-may : goal.serve-requires-clause-may
+serve-requires-clause-may g c =
+    let i = c.self.inside in
+    may_serve i.plan i.engine i.sched i.bus i.pending i.time i.counts c.args.t c.self.invariant.0 c.ram.result (subst MayGoOn (sym c.self.view_is) c.requires.may)
+    (subst (λ (m : MachineRow). Runs m c.args.t) (sym c.self.view_is) c.requires.runs) (subst (λ (m : MachineRow). m.state.next ≤ m.state.counts.steps) (sym c.self.view_is) c.requires.made)
+    c.self.invariant.1 c.ram.ensures
+
+pub serve-requires-clause-routine : goal.serve-requires-clause-routine
+serve-requires-clause-routine g c =
     let other = c.requires.routine.other in
-    let switch = c.if-number-eq-SWITCH.false in
-    let yields = c.if-number-eq-YIELD.false in
-    let sleeps = c.if-number-eq-SLEEP.false in
-    let waits = c.if-number-eq-WAIT.false in
-    let wakes = c.if-number-eq-WAKE.false in
-    omega (arith, other, switch, yields, sleeps, waits, wakes)
+    let switches = c.if-number-eq-SWITCH.false in
+    (omega (arith, other, switches), c.requires.routine.few)
+
+pub invariant_of-self : goal.invariant_of-self
+invariant_of-self g c =
+    let i = c.self.inside in
+    serving_kept i.plan i.engine i.sched i.bus i.pending i.time i.counts c.args.t c.self.invariant.0 c.args.number c.serve.new.engine c.serve.new.sched c.serve.result
+    c.serve.ensures.sched c.serve.ensures.serves c.self.invariant.1 (subst (λ (m : MachineRow). m.state.next ≤ m.state.counts.steps) (sym c.self.view_is) c.requires.made)
+
+pub returns-clause-came : goal.returns-clause-came
+returns-clause-came g c =
+    let i = c.self.inside in
+    came_by (λ (m : MachineRow). served m.board m.state c.args.t (native m.board.image m.state c.args.t c.args.number)) c.self.view_is refl
+    (came_serving i.plan i.engine i.sched i.bus i.pending i.time i.counts c.args.t c.self.invariant.0 c.args.number c.serve.new.engine c.serve.new.sched c.serve.result
+    c.serve.ensures.sched c.serve.ensures.serves)
+
+pub returns-clause-done : goal.returns-clause-done
+returns-clause-done g c =
+    let i = c.self.inside in
+    serving_done i.plan i.engine i.sched i.bus i.pending i.time i.counts c.args.t c.self.invariant.0 c.args.number c.serve.new.engine c.serve.new.sched c.serve.result
+    c.serve.ensures.sched c.serve.ensures.serves
