@@ -1,4 +1,3 @@
 pub mod Served
-pub mod Granted
-pub mod Sealed
+pub mod Arguments
 pub mod Serves
