@@ -26,7 +26,7 @@ use Rattle.ct_execute.specs.declared.ran.Ran.{Ran}
 use Rattle.ct_execute.specs.declared.ran.Ran.TheVariants.{Went, Returned, Native, Trapped}
 use Rattle.ct_execute.specs.Deciding.{IfUnfinished}
 use Rattle.ct_services.specs.Conditions.{MayServe}
-use Rattle.ct_services.specs.Granted.{NamesQuota}
+use Rattle.ct_services.specs.Arguments.{NamesQuota}
 use Rattle.ct_services.specs.Serves.{Holds, ComesTo, Serves, routine_or_trap}
 use Rattle.ct_services.proofs.Rests.{register_with}
 use Rattle.ct_machine.specs.Parts.{state_by, IsKept, IsCounted}

@@ -4,33 +4,27 @@ use Rattle.std.specs.Prelude.{find}
 use Rattle.std.specs.List.{list_any}
 use Rattle.std.proofs.lemmas.Bool.{eqb-true, and_parts, and_from}
 use Rattle.law_lists.proofs.Tests.{bool_tells, eq_tells}
-use Rattle.def_profile.specs.declared.answers.TheConstants.{NO_OBJECT, NO_KEY, NO_TOKEN}
+use Rattle.def_profile.specs.declared.answers.TheConstants.{NO_OBJECT, NO_TOKEN}
 use Rattle.def_profile.specs.declared.rights.TheConstants.{HEAP_RIGHTS}
 use Rattle.def_profile.specs.declared.seals.TheConstants.{TOKEN_TYPE}
 use Rattle.def_words.specs.declared.Cap.{Cap}
 use Rattle.def_words.specs.Authority.{cap_base, cap_top}
 use Rattle.def_words.specs.Derive.{derive, memory_root}
 use Rattle.def_words.specs.Seals.{cap_seal}
-use Rattle.def_machine.specs.State.{Object, Token}
+use Rattle.def_machine.specs.Image.{Image}
+use Rattle.def_machine.specs.State.{State, Object, Token}
 use Rattle.def_machine.specs.Objects.{charges}
-use Rattle.def_step.specs.Quotas.{Allocation, Made}
+use Rattle.def_step.specs.Quotas as quotas
+use Rattle.def_step.specs.Routines as routine
 use Rattle.def_step.specs.Routines.{code}
+use Rattle.def_step.specs.Tokens as tokens
 use Rattle.def_step.specs.Tokens.{is_key_row, is_row_of, is_all_of, sealed_object, as_key, as_token, sealed_token, opened_token}
-use Rattle.ct_entry.specs.declared.acts.Act.TheVariants.{Allocate}
-use Rattle.ct_heap.specs.declared.rows.Object as heap
 use Rattle.ct_heap.specs.declared.rows.Found.{Found}
 use Rattle.ct_heap.specs.Told.{object_row, found}
-use Rattle.ct_heap.specs.Lookups.{spans, spans_of, whole_at, whole_of, found_as}
-use Rattle.ct_engine.specs.Seen.{Seen}
-use Rattle.ct_engine.specs.Grants.{new_object, with_sealed, IsTold, whole_in}
+use Rattle.ct_heap.specs.Lookups.{spans, spans_of, whole_at, found_as}
 use Rattle.ct_engine.proofs.Freeing.{found_first, found_later, found_passes}
-use Rattle.ct_execute.specs.declared.ran.Ran.{Ran}
-use Rattle.ct_execute.specs.declared.ran.Ran.TheVariants.{Went}
-use Rattle.ct_execute.specs.Deciding.{act_by}
-use Rattle.ct_services.specs.Granted.{tells, gives_back, freed_as}
-use Rattle.ct_services.specs.Sealed.{number_of, made_token, by_key, opens, frees_token}
-use Rattle.ct_services.specs.Served.{answered_in}
-use Rattle.ct_services.proofs.Granted.{if_true, handed}
+use Rattle.ct_services.specs.Arguments.{number_of}
+use Rattle.ct_services.proofs.Granted.{if_true}
 
 -- ---- by its bounds
 
@@ -82,15 +76,6 @@ key_else os ks o f e row =
 pub key_none : (os : List Object) (ks : List Token) (o : Option Object) → None ≡ found_as os o → None ≡ number_of (as_key ks o)
 key_none os ks o e = ap (λ (x : Option Object). number_of (as_key ks x)) (sym (none_says os o e))
 
--- what comes by it
-pub by_some : (s : Seen) (t n : ℕ) (o : Option Object) (ran : ℕ → Seen × Ran) → Some n ≡ number_of o → ran n ≡ by_key s t o ran
-by_some s t n None ran e = absurd (let clash : Some n ≡ None = e in cc)
-by_some s t n (Some key) ran e = ap ran (let one : Some n ≡ Some key.number = e in cc)
-
-pub by_none : (s : Seen) (t : ℕ) (o : Option Object) (ran : ℕ → Seen × Ran) → None ≡ number_of o → tells s t (code NO_KEY) ≡ by_key s t o ran
-by_none s t None ran e = refl
-by_none s t (Some key) ran e = absurd (let clash : None ≡ Some key.number = e in cc)
-
 -- ---- a token
 
 pub token_then : (os : List Object) (ks : List Token) (key : ℕ) (o : Option Object) (f : Found) → Some f ≡ found_as os o
@@ -119,35 +104,17 @@ token_none os ks key o e = ap (λ (x : Option Object). found_as os (as_token ks 
 
 -- ---- it is opened
 
-pub opens_some : (s : Seen) (t : ℕ) (c : Cap) (o : Option Object) (f : Found) → Some f ≡ found_as s.objects o → tells s t (opened_token c) ≡ opens s t c o
-opens_some s t c o f e = ap (opens s t c) (sym (found_says s.objects o f e).is)
+pub opens_some : (m : State) (t : ℕ) (c : Cap) (os : List Object) (o : Option Object) (f : Found) → Some f ≡ found_as os o → tokens.opens m t c o ≡ routine.tells m t (opened_token c)
+opens_some m t c os o f e = ap (tokens.opens m t c) (found_says os o f e).is
 
-pub opens_none : (s : Seen) (t : ℕ) (c : Cap) (o : Option Object) → None ≡ found_as s.objects o → tells s t (code NO_TOKEN) ≡ opens s t c o
-opens_none s t c o e = ap (opens s t c) (sym (none_says s.objects o e))
+pub opens_none : (m : State) (t : ℕ) (c : Cap) (os : List Object) (o : Option Object) → None ≡ found_as os o → tokens.opens m t c o ≡ routine.tells m t (code NO_TOKEN)
+opens_none m t c os o e = ap (tokens.opens m t c) (none_says os o e)
 
--- ---- an object with a row
+-- ---- its capability is derived with the type of keys and tokens
 
--- its capability is derived with the type of keys and tokens
 pub token_derived : (r : Object) → derive memory_root r.base r.length HEAP_RIGHTS r.base TOKEN_TYPE (record { root = r.quota; source = r.number }) ≡ sealed_token r
 unfolding derive
 token_derived r = refl
-
--- as its object is told
-value_is : (quota number base long : ℕ) (r : Object) → quota ≡ r.quota → number ≡ r.number → base ≡ r.base → long ≡ r.length
-    → derive memory_root base long HEAP_RIGHTS base TOKEN_TYPE (record { root = quota; source = number }) ≡ sealed_token r
-value_is quota number base long r quota_is number_is base_is long_is = rw (quota_is, number_is, base_is, long_is) (token_derived r)
-
-pub sealed_out : (s u new : Seen) (t quota size : ℕ) (key : Option ℕ) (o : heap.Object) (value : Cap) (ran : Ran) (a : Allocation)
-    → u ≡ with_sealed s (new_object s quota size o.base) key → IsTold u o (new_object s quota size o.base) → a ≡ Made (new_object s quota size o.base)
-    → value ≡ derive memory_root o.base o.length HEAP_RIGHTS o.base TOKEN_TYPE (record { root = quota; source = o.number })
-    → ◌≡◌ {A = Seen × Ran} (new, ran) (answered_in u t value, Went (Some (act_by quota (Allocate o.number o.base o.length o.live))))
-    → ◌≡◌ {A = Seen × Ran} (new, ran) (made_token s t key a)
-sealed_out s u new t quota size key o value ran a left is_told made derived is =
-    let r : Object = new_object s quota size o.base in
-    let out : Seen → Seen × Ran = λ x. (answered_in x t (sealed_token r), Went (Some (act_by r.quota (Allocate r.number r.base r.length (charges r.quota x.objects))))) in
-    handed u new t quota o r (sealed_token r) value ran is_told refl (derived ∙ value_is quota o.number o.base o.length r refl is_told.number is_told.base is_told.length) is
-    ∙ ap out left
-    ∙ ap (made_token s t key) (sym made)
 
 -- ---- a token is freed
 
@@ -166,7 +133,7 @@ narrower p q r (x ∷ os) implies passes e = elim (bool_tells (p x)) [
 ]
 
 -- a capability's object is the one of its quota with its bounds
-whole_is : (os : List Object) (c : Cap) (r : Object) → sealed_object os c ≡ Some r → whole_of r.quota r.base (r.base + r.length) os ≡ Some r
+whole_is : (os : List Object) (c : Cap) (r : Object) → sealed_object os c ≡ Some r → find (spans_of r.quota r.base (r.base + r.length)) os ≡ Some r
 whole_is os c r e = elim (bool_tells (c.tag && (cap_seal c == TOKEN_TYPE))) [
   | inl sealed ↦
       let there : find (is_all_of c) os ≡ Some r = sym (if_true (c.tag && (cap_seal c == TOKEN_TYPE)) (find (is_all_of c) os) sealed) ∙ e in
@@ -200,33 +167,29 @@ token_object ks key (Some q) r e = elim (bool_tells (list_any (is_row_of key q.n
   | inr gone ↦ absurd (let clash : None ≡ Some r = ap (λ b. if b then Some q else None) (sym gone) ∙ e in cc)
 ]
 
-module _ (s : Seen) (t quota key : ℕ) (c : Cap) (f : Found) (w : IsFound s.objects (as_token s.tokens key (sealed_object s.objects c)) f) where
+module _ (i : Image) (m : State) (t quota key : ℕ) (c : Cap) (os : List Object) (ks : List Token) (f : Found) (w : IsFound os (as_token ks key (sealed_object os c)) f) where
   charged : f.quota ≡ w.object.quota
   charged = ap (λ (x : Found). x.quota) w.same
 
-  frees_as : (if w.object.quota == quota then gives_back s t w.object else tells s t (code NO_OBJECT)) ≡ frees_token s t quota (as_token s.tokens key (sealed_object s.objects c))
-  frees_as = ap (frees_token s t quota) (sym w.is)
+  frees_so : (b : Bool) → (w.object.quota == quota) ≡ b
+      → tokens.frees_token i m t quota (as_token ks key (sealed_object os c)) ≡ (if b then quotas.gives_back i m t w.object else routine.tells m t (code NO_OBJECT))
+  frees_so b is = ap (tokens.frees_token i m t quota) w.is ∙ ap (λ z. if z then quotas.gives_back i m t w.object else routine.tells m t (code NO_OBJECT)) is
 
   -- it is charged to another quota
-  pub frees_other : (f.quota ≡ quota → ⊥) → tells s t (code NO_OBJECT) ≡ frees_token s t quota (as_token s.tokens key (sealed_object s.objects c))
-  frees_other other =
-      let not_it : (w.object.quota == quota) ≡ false = elim (eq_tells w.object.quota quota) [ inl a ↦ absurd (other (charged ∙ a.1)) | inr a ↦ a.0 ] in
-      ap (λ b. if b then gives_back s t w.object else tells s t (code NO_OBJECT)) (sym not_it) ∙ frees_as
+  pub frees_other : (f.quota ≡ quota → ⊥) → tokens.frees_token i m t quota (as_token ks key (sealed_object os c)) ≡ routine.tells m t (code NO_OBJECT)
+  frees_other other = frees_so false (elim (eq_tells w.object.quota quota) [ inl a ↦ absurd (other (charged ∙ a.1)) | inr a ↦ a.0 ])
 
   -- it is charged to this one
   pub frees_whole : (base top : ℕ) → f.quota ≡ quota → base ≡ f.object.base → top ≡ f.object.base + f.object.length
-      → freed_as s t (whole_in s quota base top) ≡ frees_token s t quota (as_token s.tokens key (sealed_object s.objects c))
+      → tokens.frees_token i m t quota (as_token ks key (sealed_object os c)) ≡ quotas.freed_as i m t (find (spans_of quota base top) os)
   frees_whole base top same base_is top_is =
       let of : w.object.quota ≡ quota = sym charged ∙ same in
-      let is_it : (w.object.quota == quota) ≡ true = eq-eqb w.object.quota quota of in
       let low : base ≡ w.object.base = base_is ∙ ap (λ (x : Found). x.object.base) w.same in
       let high : top ≡ w.object.base + w.object.length = top_is ∙ ap (λ (x : Found). x.object.base + x.object.length) w.same in
-      let there : whole_in s quota base top ≡ Some w.object =
-      ap (λ n. whole_of n base top s.objects) (sym of) ∙ ap (λ n. whole_of w.object.quota n top s.objects) low ∙ ap (λ n. whole_of w.object.quota w.object.base n s.objects) high
-      ∙ whole_is s.objects c w.object (token_object s.tokens key (sealed_object s.objects c) w.object w.is) in
-      ap (λ (x : Option Object). freed_as s t x) there
-      ∙ ap (λ b. if b then gives_back s t w.object else tells s t (code NO_OBJECT)) (sym is_it)
-      ∙ frees_as
+      let there : find (spans_of quota base top) os ≡ Some w.object =
+      ap (λ n. find (spans_of n base top) os) (sym of) ∙ ap (λ n. find (spans_of w.object.quota n top) os) low ∙ ap (λ n. find (spans_of w.object.quota w.object.base n) os) high
+      ∙ whole_is os c w.object (token_object ks key (sealed_object os c) w.object w.is) in
+      frees_so true (eq-eqb w.object.quota quota of) ∙ ap (quotas.freed_as i m t) (sym there)
 
-pub frees_none : (s : Seen) (t quota : ℕ) (o : Option Object) → None ≡ found_as s.objects o → tells s t (code NO_TOKEN) ≡ frees_token s t quota o
-frees_none s t quota o e = ap (frees_token s t quota) (sym (none_says s.objects o e))
+pub frees_none : (i : Image) (m : State) (t quota : ℕ) (os : List Object) (o : Option Object) → None ≡ found_as os o → tokens.frees_token i m t quota o ≡ routine.tells m t (code NO_TOKEN)
+frees_none i m t quota os o e = ap (tokens.frees_token i m t quota) (none_says os o e)

@@ -7,7 +7,7 @@ use Rattle.def_sched.specs.Statuses.{status_of}
 use Rattle.def_machine.specs.Rows.{RowsFit}
 use Rattle.ct_engine.specs.Seen.{Seen}
 use Rattle.ct_engine.specs.Bursts.{IsOpen}
-use Rattle.ct_services.specs.Granted.{NamesQuota}
+use Rattle.ct_services.specs.Arguments.{NamesQuota}
 
 -- Thread t runs and is ready, a quota that it names is one of the heap's, nothing is hidden that it may load, an object
 -- more may be made, and each row of a key or a token is of a live object.

@@ -1,6 +1,7 @@
 -- What the code of a native routine comes to: what the written routine comes to, in each state of the machine that holds
 -- what is seen of the engine.
-use Rattle.std.specs.Prelude.{ℕ, ◌+◌, ◌≡◌, ◌≤◌, List, length, Option, Some, None}
+use Rattle.std.specs.Prelude.{ℕ, ◌+◌, ◌≡◌, ◌≤◌, List, length, Option, Some, None, option_map}
+use Rattle.ct_entry.specs.declared.acts.Act.{Act}
 use Rattle.def_words.specs.declared.Trap as words
 use Rattle.def_words.specs.Traps.{plain_trap}
 use Rattle.def_profile.specs.declared.traps.TheConstants.{ILLEGAL_INSTRUCTION}
@@ -13,6 +14,7 @@ use Rattle.def_step.specs.Routines as routine
 use Rattle.def_step.specs.Routines.{Traps, Leaves}
 use Rattle.ct_engine.specs.Seen.{Seen}
 use Rattle.ct_engine.specs.Written.{HasHeap, state_with}
+use Rattle.ct_execute.specs.declared.ran.ActBy.{ActBy}
 use Rattle.ct_execute.specs.declared.ran.Ran.{Ran}
 use Rattle.ct_execute.specs.declared.ran.Ran.TheVariants.{Went, Returned, Native, Trapped}
 use Rattle.ct_execute.specs.Deciding.{IfUnfinished}
@@ -23,10 +25,13 @@ pub record Holds (i : Image) (s : Seen) (ss : List Status) : Type 0 where
   pub heap : HasHeap i s
   pub statuses : length ss ≡ length s.threads
 
+-- an act with the entry that it was done by, as a routine tells it
+abbrev pub told_by : ActBy → ℕ × Act
+told_by d = (d.entry, d.act)
+
 -- what the code came to, and the state that it left, are what the routine comes to
 abbrev pub ComesTo : State → Ran → routine.Ran → Type 0
-ComesTo after (Went None) x = x ≡ Leaves after None
-ComesTo after (Went (Some d)) x = x ≡ Leaves after (Some (d.entry, d.act))
+ComesTo after (Went done) x = x ≡ Leaves after (option_map told_by done)
 ComesTo after (Trapped why) x = x ≡ Traps why
 ComesTo after Returned x = ⊥
 ComesTo after (Native number) x = ⊥

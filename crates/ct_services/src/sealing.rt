@@ -3,21 +3,18 @@
 ghost use Rattle.std.specs.Prelude.{◌≡◌, ◌≤◌, ◌<◌, Some, None, IfSome, length, true};
 ghost use Rattle.std.specs.List.{list_any};
 ghost use Rattle.def_machine.specs.Rows.{RowsFit};
-ghost use Rattle.def_profile.specs.declared.layout.TheConstants as layout;
 ghost use Rattle.def_profile.specs.declared.limits.TheConstants.{MOST_STEPS};
 ghost use Rattle.def_words.specs.Authority.{cap_address};
-ghost use Rattle.def_machine.specs.State.{register};
-ghost use Rattle.def_step.specs.Checks.{first_failed};
-ghost use Rattle.def_step.specs.Switch.{return_checks};
-ghost use Rattle.def_step.specs.Tokens.{is_key_row, sealed_object};
+ghost use Rattle.def_machine.specs.State.{register, thread};
+ghost use Rattle.def_step.specs.Quotas.{allocation};
+ghost use Rattle.def_step.specs.Tokens as tokens;
+ghost use Rattle.def_step.specs.Tokens.{is_key_row, sealed_object, as_key, as_token, key_of, token_object};
 ghost use Rattle.ct_heap.specs.Lookups.{found_as};
-ghost use Rattle.ct_engine.specs.Seen.{thread};
-ghost use Rattle.ct_engine.specs.Grants.{allocation_in};
-ghost use Rattle.ct_services.specs.Granted.{NamesQuota, quota_in, by_quota, checked};
-ghost use Rattle.ct_services.specs.Sealed.{key_of, token_of, number_of, made_token, by_key, opens, frees_token};
+ghost use Rattle.ct_services.specs.Arguments.{NamesQuota, number_of};
+ghost use Rattle.ct_services.specs.Serves.{ServesAlone};
 
-use crate::answering::code;
-use crate::granting::{base_of, capability, decline, free_whole, hand_out, quota_named, tell};
+use crate::answering::{refuse, tell};
+use crate::granting::{base_of, capability, decline, free_whole, hand_out, quota_named};
 use ct_cap::Live;
 use ct_engine::{Engine, Found};
 use ct_execute::Ran;
@@ -40,7 +37,8 @@ fn sealed_in<M: Memory + Drop>(engine: &Engine<M>, c: Live) -> Option<Found>
 
 /// The number of the live key that a capability is of.
 fn key_in<M: Memory + Drop>(engine: &Engine<M>, c: Live) -> Option<u32>
-    ensures is { result ≡ number_of (key_of engine.now c) }
+    ensures is { result
+        ≡ number_of (as_key engine.now.tokens (sealed_object engine.now.objects c)) }
     ensures key { IfSome result (λ n. list_any (is_key_row n) engine.now.tokens ≡ true) }
 {
     match sealed_in(engine, c) {
@@ -59,7 +57,9 @@ fn key_in<M: Memory + Drop>(engine: &Engine<M>, c: Live) -> Option<u32>
 /// The live token that a capability is of, where it was made with this key.
 fn token_in<M: Memory + Drop>(engine: &Engine<M>, key: u32, c: Live) -> Option<Found>
     requires { list_any (is_key_row key) engine.now.tokens ≡ true }
-    ensures { result ≡ found_as engine.now.objects (token_of engine.now key c) }
+    ensures { result
+        ≡ found_as engine.now.objects
+        (as_token engine.now.tokens key (sealed_object engine.now.objects c)) }
 {
     match sealed_in(engine, c) {
         Some(found) => {
@@ -86,8 +86,8 @@ fn seal_new<M: Memory + Drop>(
     requires quota { quota < length engine.old.limits }
     requires few { engine.old.next ≤ MOST_STEPS }
     requires rows { RowsFit engine.old.objects engine.old.tokens }
-    ensures { (engine.new, result)
-        ≡ made_token engine.old t key (allocation_in engine.old quota size) }
+    ensures { ServesAlone engine.old engine.new result
+        (λ i m. tokens.made_token m t key (allocation i m quota size)) }
 {
     match engine.allocate_sealed(quota, size, key) {
         Ok(object) => hand_out(
@@ -113,15 +113,12 @@ pub fn token_key<M: Memory + Drop>(engine: &mut Engine<M>, t: u32) -> Ran
     requires quota { NamesQuota engine.old t }
     requires few { engine.old.next ≤ MOST_STEPS }
     requires rows { RowsFit engine.old.objects engine.old.tokens }
-    ensures { (engine.new, result)
-        ≡ by_quota engine.old t
-        (made_token engine.old t None
-        (allocation_in engine.old (quota_in engine.old t) layout.GRANULE)) }
+    ensures { ServesAlone engine.old engine.new result (λ i m. tokens.token_key i m t) }
 {
     match quota_named(engine, t) {
         Err(trap) => Ran::Trapped { trap },
         Ok(Some(quota)) => seal_new(engine, t, quota, GRANULE, None),
-        Ok(None) => tell(engine, t, code(NO_QUOTA)),
+        Ok(None) => refuse(engine, t, NO_QUOTA),
     }
 }
 
@@ -131,10 +128,10 @@ fn make_token<M: Memory + Drop>(engine: &mut Engine<M>, t: u32, quota: u32) -> R
     requires quota { quota < length engine.old.limits }
     requires few { engine.old.next ≤ MOST_STEPS }
     requires rows { RowsFit engine.old.objects engine.old.tokens }
-    ensures { (engine.new, result)
-        ≡ by_key engine.old t (key_of engine.old (register (thread engine.old t) 12))
-        (λ key. made_token engine.old t (Some key)
-        (allocation_in engine.old quota (cap_address (register (thread engine.old t) 11)))) }
+    ensures { ServesAlone engine.old engine.new result
+        (λ i m. tokens.by_key m t (key_of m (register (thread m t) 12))
+        (λ key. tokens.made_token m t (Some key)
+        (allocation i m quota (cap_address (register (thread m t) 11))))) }
 {
     let c = engine.register(t, 12);
     match key_in(engine, c) {
@@ -142,7 +139,7 @@ fn make_token<M: Memory + Drop>(engine: &mut Engine<M>, t: u32, quota: u32) -> R
             let size = engine.register(t, 11).address();
             seal_new(engine, t, quota, size, Some(key))
         }
-        None => tell(engine, t, code(NO_KEY)),
+        None => refuse(engine, t, NO_KEY),
     }
 }
 
@@ -158,17 +155,12 @@ pub fn token_new<M: Memory + Drop>(engine: &mut Engine<M>, t: u32) -> Ran
     requires quota { NamesQuota engine.old t }
     requires few { engine.old.next ≤ MOST_STEPS }
     requires rows { RowsFit engine.old.objects engine.old.tokens }
-    ensures { (engine.new, result)
-        ≡ by_quota engine.old t
-        (by_key engine.old t (key_of engine.old (register (thread engine.old t) 12))
-        (λ key. made_token engine.old t (Some key)
-        (allocation_in engine.old (quota_in engine.old t)
-        (cap_address (register (thread engine.old t) 11))))) }
+    ensures { ServesAlone engine.old engine.new result (λ i m. tokens.token_new i m t) }
 {
     match quota_named(engine, t) {
         Err(trap) => Ran::Trapped { trap },
         Ok(Some(quota)) => make_token(engine, t, quota),
-        Ok(None) => tell(engine, t, code(NO_QUOTA)),
+        Ok(None) => refuse(engine, t, NO_QUOTA),
     }
 }
 
@@ -176,29 +168,29 @@ pub fn token_new<M: Memory + Drop>(engine: &mut Engine<M>, t: u32) -> Ran
 fn open_token<M: Memory + Drop>(engine: &mut Engine<M>, t: u32, key: u32) -> Ran
     requires runs { engine.old.running ≡ Some t }
     requires key { list_any (is_key_row key) engine.old.tokens ≡ true }
-    ensures { (engine.new, result)
-        ≡ opens engine.old t (register (thread engine.old t) 11)
-        (token_of engine.old key (register (thread engine.old t) 11)) }
+    ensures { ServesAlone engine.old engine.new result
+        (λ i m. tokens.opens m t (register (thread m t) 11)
+        (token_object m key (register (thread m t) 11))) }
 {
     let c = engine.register(t, 11);
     match token_in(engine, key, c) {
         Some(_) => tell(engine, t, opened(c)),
-        None => tell(engine, t, code(NO_TOKEN)),
+        None => refuse(engine, t, NO_TOKEN),
     }
 }
 
 /// The token that c11 is, of the key that c10 is, is opened.
 fn open_by_key<M: Memory + Drop>(engine: &mut Engine<M>, t: u32) -> Ran
     requires { engine.old.running ≡ Some t }
-    ensures { (engine.new, result)
-        ≡ by_key engine.old t (key_of engine.old (register (thread engine.old t) 10))
-        (λ key. opens engine.old t (register (thread engine.old t) 11)
-        (token_of engine.old key (register (thread engine.old t) 11))) }
+    ensures { ServesAlone engine.old engine.new result
+        (λ i m. tokens.by_key m t (key_of m (register (thread m t) 10))
+        (λ key. tokens.opens m t (register (thread m t) 11)
+        (token_object m key (register (thread m t) 11)))) }
 {
     let c = engine.register(t, 10);
     match key_in(engine, c) {
         Some(key) => open_token(engine, t, key),
-        None => tell(engine, t, code(NO_KEY)),
+        None => refuse(engine, t, NO_KEY),
     }
 }
 
@@ -209,11 +201,7 @@ fn open_by_key<M: Memory + Drop>(engine: &mut Engine<M>, t: u32) -> Ran
 /// check of c1 that fails; then nothing changes.
 pub fn token_open<M: Memory + Drop>(engine: &mut Engine<M>, t: u32) -> Ran
     requires { engine.old.running ≡ Some t }
-    ensures { (engine.new, result)
-        ≡ checked (first_failed (return_checks (register (thread engine.old t) 1))) engine.old
-        (by_key engine.old t (key_of engine.old (register (thread engine.old t) 10))
-        (λ key. opens engine.old t (register (thread engine.old t) 11)
-        (token_of engine.old key (register (thread engine.old t) 11)))) }
+    ensures { ServesAlone engine.old engine.new result (λ i m. tokens.token_open m t) }
 {
     match return_trap(engine.register(t, 1)) {
         Some(trap) => Ran::Trapped { trap },
@@ -226,15 +214,15 @@ fn free_token<M: Memory + Drop>(engine: &mut Engine<M>, t: u32, quota: u32, key:
     requires runs { engine.old.running ≡ Some t }
     requires quota { quota < length engine.old.limits }
     requires key { list_any (is_key_row key) engine.old.tokens ≡ true }
-    ensures { (engine.new, result)
-        ≡ frees_token engine.old t quota
-        (token_of engine.old key (register (thread engine.old t) 12)) }
+    ensures { ServesAlone engine.old engine.new result
+        (λ i m. tokens.frees_token i m t quota
+        (token_object m key (register (thread m t) 12))) }
 {
     let c = engine.register(t, 12);
     match token_in(engine, key, c) {
         Some(found) => {
             if found.quota != quota {
-                return tell(engine, t, code(NO_OBJECT));
+                return refuse(engine, t, NO_OBJECT);
             }
             let object = found.object;
             free_whole(
@@ -245,7 +233,7 @@ fn free_token<M: Memory + Drop>(engine: &mut Engine<M>, t: u32, quota: u32, key:
                 object.base as u64 + object.length as u64,
             )
         }
-        None => tell(engine, t, code(NO_TOKEN)),
+        None => refuse(engine, t, NO_TOKEN),
     }
 }
 
@@ -253,15 +241,15 @@ fn free_token<M: Memory + Drop>(engine: &mut Engine<M>, t: u32, quota: u32, key:
 fn take_token<M: Memory + Drop>(engine: &mut Engine<M>, t: u32, quota: u32) -> Ran
     requires runs { engine.old.running ≡ Some t }
     requires quota { quota < length engine.old.limits }
-    ensures { (engine.new, result)
-        ≡ by_key engine.old t (key_of engine.old (register (thread engine.old t) 11))
-        (λ key. frees_token engine.old t quota
-        (token_of engine.old key (register (thread engine.old t) 12))) }
+    ensures { ServesAlone engine.old engine.new result
+        (λ i m. tokens.by_key m t (key_of m (register (thread m t) 11))
+        (λ key. tokens.frees_token i m t quota
+        (token_object m key (register (thread m t) 12)))) }
 {
     let c = engine.register(t, 11);
     match key_in(engine, c) {
         Some(key) => free_token(engine, t, quota, key),
-        None => tell(engine, t, code(NO_KEY)),
+        None => refuse(engine, t, NO_KEY),
     }
 }
 
@@ -274,15 +262,11 @@ fn take_token<M: Memory + Drop>(engine: &mut Engine<M>, t: u32, quota: u32) -> R
 pub fn token_free<M: Memory + Drop>(engine: &mut Engine<M>, t: u32) -> Ran
     requires runs { engine.old.running ≡ Some t }
     requires quota { NamesQuota engine.old t }
-    ensures { (engine.new, result)
-        ≡ by_quota engine.old t
-        (by_key engine.old t (key_of engine.old (register (thread engine.old t) 11))
-        (λ key. frees_token engine.old t (quota_in engine.old t)
-        (token_of engine.old key (register (thread engine.old t) 12)))) }
+    ensures { ServesAlone engine.old engine.new result (λ i m. tokens.token_free i m t) }
 {
     match quota_named(engine, t) {
         Err(trap) => Ran::Trapped { trap },
         Ok(Some(quota)) => take_token(engine, t, quota),
-        Ok(None) => tell(engine, t, code(NO_QUOTA)),
+        Ok(None) => refuse(engine, t, NO_QUOTA),
     }
 }

@@ -1,0 +1,18 @@
+use Rattle.std.proofs.Common.{refl}
+use Rattle.def_step.specs.Quotas.{allocated}
+use Rattle.ct_services.proofs.Granted.{serves_made, serves_refused}
+use Rattle.ct_services.proofs.granting.grant.Goals as goal
+
+pub returns-in-Ok : goal.returns-in-Ok
+returns-in-Ok g c =
+    let t = c.args.t in
+    let h = c.in-Ok.ensures in
+    serves_made c.args.engine.now c.allocate.new.self c.hand_out.new.engine t c.args.quota c.args.size (λ m a. allocated m t a)
+    c.in-Ok.object c.hand_out.result c.capability.result 0 c.args.engine.now.tokens (λ m. m) h.is h.answer h.told
+    c.capability.ensures c.hand_out.ensures.engine c.hand_out.ensures.told (λ m. refl) (λ m ss. refl)
+
+pub returns-in-Err : goal.returns-in-Err
+returns-in-Err g c =
+    let t = c.args.t in
+    serves_refused c.args.engine.now c.allocate.new.self c.decline.new.engine t c.args.quota c.args.size (λ m a. allocated m t a)
+    c.decline.result c.in-Err.why c.in-Err.ensures.answer c.in-Err.ensures.is (λ m n. refl) c.decline.ensures

@@ -1,0 +1,32 @@
+-- What a routine of the heap is asked, over what is seen, and by which code an allocation is refused.
+use Rattle.std.specs.Prelude.{ℕ, ◌≡◌, ◌<◌, Bool, true, length, Option, Some, None, option_map, Result, Ok, Err, if◌then◌else◌}
+use Rattle.def_profile.specs.declared.answers.TheConstants.{PAST_LIMIT, NO_PLACE, NO_SIZE, NO_PLACE_YET}
+use Rattle.def_words.specs.declared.Trap.{Trap}
+use Rattle.def_machine.specs.State.{Object, register}
+use Rattle.def_step.specs.Quotas.{is_quota_cap}
+use Rattle.ct_heap.specs.declared.rows.HeapRefusal.{HeapRefusal}
+use Rattle.ct_heap.specs.declared.rows.HeapRefusal.TheVariants.{Size, Quota, NoGap}
+use Rattle.ct_engine.specs.Seen.{Seen, thread}
+
+-- the entry of the quota that c10 names
+abbrev pub quota_in : Seen → ℕ → ℕ
+quota_in s t = (register (thread s t) 10).shadow.root
+
+-- where c10 is a quota's capability, it names one of the heap's quotas
+abbrev pub NamesQuota : Seen → ℕ → Type 0
+NamesQuota s t =
+    is_quota_cap (register (thread s t) 10) ≡ true → quota_in s t < length s.limits
+
+-- the check of c1 that fails; else the quota's entry, where c10 is a quota
+abbrev pub named_by : Option Trap → Bool → ℕ → Result (Option ℕ) Trap
+named_by (Some why) is quota = Err why
+named_by None is quota = Ok (if is then Some quota else None)
+
+abbrev pub number_of : Option Object → Option ℕ
+number_of o = option_map (λ (r : Object). r.number) o
+
+-- a refusal's code; `waits` tells whether something is quarantined
+abbrev pub refusal_code : HeapRefusal → Bool → ℕ
+refusal_code Size waits = NO_SIZE
+refusal_code Quota waits = PAST_LIMIT
+refusal_code NoGap waits = if waits then NO_PLACE_YET else NO_PLACE
