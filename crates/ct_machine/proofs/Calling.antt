@@ -1,6 +1,6 @@
 -- What the code leaves of a call is what the written switch leaves.
 use Rattle.std.proofs.Common.{ℕ, ◌≡◌, ◌<◌, Bool, List, length, Some, refl, sym, ap, ◌∙◌, subst}
-use Rattle.std.proofs.Math.ListN.{get_or, set}
+use Rattle.std.proofs.Math.ListN.{set}
 use Rattle.std.proofs.lemmas.List.{length-set}
 use Rattle.law_granules.proofs.Lists.{zeroed_length}
 use Rattle.def_confined.specs.Confined.{Confined}
@@ -11,7 +11,6 @@ use Rattle.def_sched.specs.declared.Status.TheVariants.{Ended}
 use Rattle.def_reach.specs.Roots.{compartment_of}
 use Rattle.def_machine.specs.Image.{Image, root, stack_base, frames_most}
 use Rattle.def_machine.specs.State.{State, Thread, DeviceState, Counts, thread, register}
-use Rattle.def_machine.specs.Threads as threads
 use Rattle.def_machine.specs.Threads.{with_statuses}
 use Rattle.def_machine.specs.Frames as frames
 use Rattle.def_machine.specs.Frames.{callee_start, entered}

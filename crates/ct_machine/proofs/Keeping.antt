@@ -1,8 +1,8 @@
 -- What is kept beside the state is kept by a step.
-use Rattle.std.proofs.Common.{ℕ, zero, suc, ◌*◌, ◌≡◌, ◌==◌, ◌<◌, Bool, true, false, cond, inl, inr, nat_lt, map, List, [], ◌∷◌, length, Option, Some, None, refl, sym, ap, ◌∙◌, subst, slice_index_or, arith}
+use Rattle.std.proofs.Common.{ℕ, zero, suc, ◌*◌, ◌≡◌, ◌<◌, Bool, true, false, cond, inl, inr, nat_lt, map, List, [], ◌∷◌, length, Option, Some, None, refl, sym, ap, ◌∙◌, subst, slice_index_or, arith}
 use Rattle.std.proofs.Math.ListN.{set}
 use Rattle.std.proofs.lemmas.List.{length-set, length-map}
-use Rattle.law_lists.proofs.Tests.{bool_tells, lt_tells, chosen, both_left}
+use Rattle.law_lists.proofs.Tests.{lt_tells, chosen, both_left}
 use Rattle.law_lists.proofs.Finds.{find_tells}
 use Rattle.ct_entry.specs.Listed.{Listed}
 use Rattle.def_words.specs.declared.Cap.{Cap}

@@ -1,5 +1,5 @@
 -- What a native routine asks, and that what it came to is what the written one comes to.
-use Rattle.std.proofs.Common.{ℕ, ◌%◌, ◌==◌, ◌≡◌, ◌≤◌, ◌<◌, Bool, true, length, inr, List, Option, Some, None, refl, sym, ap, ◌∙◌, subst}
+use Rattle.std.proofs.Common.{ℕ, ◌%◌, ◌==◌, ◌≡◌, ◌≤◌, ◌<◌, Bool, length, inr, List, Option, Some, None, refl, sym, ap, ◌∙◌, subst}
 use Rattle.std.proofs.lemmas.Bool.{eqb-true, and_parts}
 use Rattle.ct_entry.specs.declared.acts.Deed.{Deed}
 use Rattle.ct_entry.specs.declared.rows.Kind.TheVariants as kind
@@ -28,7 +28,7 @@ use Rattle.ct_execute.specs.Deciding.{IfUnfinished}
 use Rattle.ct_services.specs.Conditions.{MayServe}
 use Rattle.ct_services.specs.Arguments.{NamesQuota}
 use Rattle.ct_services.specs.Serves.{Holds, ComesTo, Serves, routine_or_trap}
-use Rattle.ct_services.proofs.Rests.{register_with}
+use Rattle.ct_services.proofs.Serving.{register_alike}
 use Rattle.ct_machine.specs.Parts.{state_by, IsKept, IsCounted}
 use Rattle.ct_machine.specs.Going.{CameTo, IsDone, MayGoOn, Runs}
 use Rattle.ct_machine.proofs.Taking.{ram_is}
@@ -60,7 +60,7 @@ module _ (i : Image) (e : Seen) (r : SchedRow) (k : DeviceStates) (pending : Boo
   -- c10 is a quota's capability only where its root is a quota of the image
   names_quota : Facts i → Confined i here → NamesQuota e t
   names_quota facts held is =
-      let ten = register_with here e r.statuses t 10 in
+      let ten = register_alike here e r.statuses t 10 in
       let c10 : Cap = register (thread here t) 10 in
       let both = and_parts c10.tag (cap_seal c10 == 10) (ap is_quota_cap (sym ten) ∙ is) in
       let sealed : cap_seal c10 ≡ 10 = eqb-true (cap_seal c10) 10 both.1 in

@@ -1,6 +1,5 @@
 -- Threads with the statuses that the scheduler keeps.
 use Rattle.std.proofs.Common.{ℕ, zero, suc, ◌+◌, ◌≡◌, ◌<◌, ◌&&◌, ◌||◌, Bool, true, false, cond, List, [], ◌∷◌, length, map, Some, None, refl, ap, ◌∙◌, arith}
-use Rattle.std.proofs.Math.ListN.{get_or, set}
 use Rattle.std.specs.List.{list_all}
 use Rattle.std.specs.Prelude.{count_by}
 use Rattle.std.proofs.lemmas.List.Sums.{sum_by-cons}
@@ -9,8 +8,8 @@ use Rattle.def_sched.specs.declared.Status.{Status}
 use Rattle.def_sched.specs.declared.Status.TheVariants.{Ready, Sleeping, Waiting, Ended}
 use Rattle.def_sched.specs.Statuses.{runs_again, is_ended, is_waiting, after_tick, status_of}
 use Rattle.ct_entry.specs.declared.acts.End.TheVariants.{Finished, Idle}
-use Rattle.def_machine.specs.State.{State, Thread, nobody}
-use Rattle.def_machine.specs.Threads.{with_status, statuses_of, with_statuses, timed}
+use Rattle.def_machine.specs.State.{State, Thread}
+use Rattle.def_machine.specs.Threads.{with_status, with_statuses, timed}
 use Rattle.def_step.specs.Events.{all_ended, one_waits, none_goes_on, end_of}
 
 -- ---- a tick

@@ -26,7 +26,7 @@ use Rattle.ct_execute.specs.declared.ran.Ran.{Ran}
 use Rattle.ct_execute.specs.declared.ran.Ran.TheVariants.{Went, Trapped}
 use Rattle.ct_services.specs.Arguments.{quota_in, named_by, number_of}
 use Rattle.ct_services.specs.Served.{answered_in}
-use Rattle.ct_services.specs.Serves.{Holds, ComesTo, StaysBeside, ServesAlone, told_by}
+use Rattle.ct_services.specs.Serves.{Holds, ComesTo, StaysBeside, Serves, ServesAlone, told_by}
 use Rattle.ct_services.proofs.Statuses.{like_with, changed_with}
 
 -- ---- the running thread in a state that holds what is seen
@@ -78,18 +78,20 @@ serves_tell s new t v is =
 
 -- ---- what comes to the same
 
+pub serves_alike : {s new : Seen} {ss after : List Status} {ran : Ran} {x y : Image → State → routine.Ran} → Serves s ss new after ran x
+    → ((i : Image) (m : State) → Holds i s ss → y i (state_with m s ss) ≡ x i (state_with m s ss)) → Serves s ss new after ran y
+serves_alike {new = new} {after = after} {ran = ran} h alike = record {
+  comes = λ i m holds. subst (ComesTo (state_with m new after) ran) (sym (alike i m holds)) (h.comes i m holds);
+  same = h.same;
+  beside = h.beside;
+  made = h.made;
+  many = h.many;
+  ready = h.ready;
+}
+
 pub serves_as : {s new : Seen} {ran : Ran} {x y : Image → State → routine.Ran} → ServesAlone s new ran x
     → ((i : Image) (m : State) (ss : List Status) → Holds i s ss → y i (state_with m s ss) ≡ x i (state_with m s ss)) → ServesAlone s new ran y
-serves_as {s = s} {new = new} {ran = ran} {x = x} serves alike ss =
-    let h = serves ss in
-    record {
-      comes = λ i m holds. subst (ComesTo (state_with m new ss) ran) (sym (alike i m ss holds)) (h.comes i m holds);
-      same = h.same;
-      beside = h.beside;
-      made = h.made;
-      many = h.many;
-      ready = h.ready;
-    }
+serves_as serves alike ss = serves_alike (serves ss) (λ i m h. alike i m ss h)
 
 -- by a register, of which this is seen
 pub serves_by : {s new : Seen} {ran : Ran} (t n : ℕ) (c : Cap) (x : Image → State → Cap → routine.Ran) → c ≡ register (thread s t) n
@@ -98,34 +100,39 @@ serves_by {s = s} t n c x is serves = serves_as serves (λ i m ss h. ap (x i (st
 
 -- ---- the check of c1
 
-checked_so : (cs : List Check) (x : routine.Ran) → first_failed cs ≡ None → checked cs x ≡ x
+pub checked_so : (cs : List Check) (x : routine.Ran) → first_failed cs ≡ None → checked cs x ≡ x
 checked_so cs x is = rw is refl
 
-failed_so : (cs : List Check) (x : routine.Ran) (why : Trap) → first_failed cs ≡ Some why → checked cs x ≡ Traps why
+pub failed_so : (cs : List Check) (x : routine.Ran) (why : Trap) → first_failed cs ≡ Some why → checked cs x ≡ Traps why
 failed_so cs x why is = rw is refl
+
+-- where the routine traps nothing has changed
+pub serves_trapped : (s : Seen) (ss : List Status) (why : Trap) (x : Image → State → routine.Ran)
+    → ((i : Image) (m : State) → Holds i s ss → x i (state_with m s ss) ≡ Traps why) → Serves s ss s ss (Trapped why) x
+serves_trapped s ss why x is = record { comes = is; same = (refl, refl); beside = same_beside s; made = omega arith; many = refl; ready = λ ready. ready }
 
 module _ (s : Seen) (t : ℕ) where
   abbrev failed : Option Trap
   failed = first_failed (return_checks (register (thread s t) 1))
 
+  failed_alike : (m : State) (ss : List Status) → failed ≡ first_failed (return_checks (register (state.thread (state_with m s ss) t) 1))
+  failed_alike m ss = ap (λ (c : Cap). first_failed (return_checks c)) (register_alike m s ss t 1)
+
   pub serves_trap : (why : Trap) (x : Image → State → routine.Ran) → failed ≡ Some why
       → ServesAlone s s (Trapped why) (λ i m. checked (return_checks (register (state.thread m t) 1)) (x i m))
-  serves_trap why x is =
-      serves_by t 1 (register (thread s t) 1) (λ i m c. checked (return_checks c) (x i m)) refl
-      (λ ss. record {
-        comes = λ i m h. failed_so (return_checks (register (thread s t) 1)) (x i (state_with m s ss)) why is;
-        same = (refl, refl);
-        beside = same_beside s;
-        made = omega arith;
-        many = refl;
-        ready = λ ready. ready;
-      })
+  serves_trap why x is ss =
+      serves_trapped s ss why (λ i m. checked (return_checks (register (state.thread m t) 1)) (x i m))
+      (λ i m h. failed_so (return_checks (register (state.thread (state_with m s ss) t) 1)) (x i (state_with m s ss)) why (sym (failed_alike m ss) ∙ is))
+
+  pub serves_passed : {new : Seen} {ss after : List Status} {ran : Ran} (x : Image → State → routine.Ran) → failed ≡ None → Serves s ss new after ran x
+      → Serves s ss new after ran (λ i m. checked (return_checks (register (state.thread m t) 1)) (x i m))
+  serves_passed {ss = ss} x is serves =
+      serves_alike serves
+      (λ i m h. checked_so (return_checks (register (state.thread (state_with m s ss) t) 1)) (x i (state_with m s ss)) (sym (failed_alike m ss) ∙ is))
 
   pub serves_checked : (new : Seen) (ran : Ran) (x : Image → State → routine.Ran) → failed ≡ None → ServesAlone s new ran x
       → ServesAlone s new ran (λ i m. checked (return_checks (register (state.thread m t) 1)) (x i m))
-  serves_checked new ran x is serves =
-      serves_by t 1 (register (thread s t) 1) (λ i m c. checked (return_checks c) (x i m)) refl
-      (serves_as serves (λ i m ss h. checked_so (return_checks (register (thread s t) 1)) (x i (state_with m s ss)) is))
+  serves_checked new ran x is serves ss = serves_passed x is (serves ss)
 
 -- ---- what comes by the quota in c10
 

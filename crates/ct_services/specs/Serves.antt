@@ -2,7 +2,6 @@
 -- what is seen of the engine.
 use Rattle.std.specs.Prelude.{ℕ, ◌+◌, ◌≡◌, ◌≤◌, List, length, Option, Some, None, option_map}
 use Rattle.ct_entry.specs.declared.acts.Act.{Act}
-use Rattle.def_words.specs.declared.Trap as words
 use Rattle.def_words.specs.Traps.{plain_trap}
 use Rattle.def_profile.specs.declared.traps.TheConstants.{ILLEGAL_INSTRUCTION}
 use Rattle.def_sched.specs.declared.Status.{Status}

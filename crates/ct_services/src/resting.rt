@@ -17,7 +17,7 @@ ghost use Rattle.ct_sched.specs.Sched.{with_statuses};
 ghost use Rattle.ct_services.specs.Served.{IsWord, rested};
 ghost use Rattle.ct_services.specs.Serves.{Serves};
 
-use crate::answering::{answer, code};
+use crate::answering::{answer, refuse};
 use crate::words::word_trap;
 use ct_cap::Live;
 use ct_engine::Engine;
@@ -106,8 +106,7 @@ fn wait_for<M: Memory + Drop>(
     if sched.wait(t, address, held, wanted) {
         return stop(engine, t);
     }
-    answer(engine, t, code(DIFFERS));
-    Ran::Went { done: None }
+    refuse(engine, t, DIFFERS)
 }
 
 /// Wait: the running thread waits for the word that c10 names where that holds c11's address, else it goes
