@@ -1,6 +1,6 @@
 -- What routines share, in each state of the machine that holds what is seen: an answer, the check of c1, and what comes
 -- by a capability in a register.
-use Rattle.std.proofs.Common.{ℕ, ◌+◌, ◌≡◌, ◌≤◌, ◌∙◌, Bool, true, false, List, Option, Some, None, Result, Ok, Err, if◌then◌else◌, refl, sym, ap, subst, arith}
+use Rattle.std.proofs.Common.{ℕ, ◌+◌, ◌≡◌, ◌≤◌, ◌∙◌, Bool, true, false, List, Option, Some, None, if◌then◌else◌, refl, sym, ap, subst, arith}
 use Rattle.std.specs.Prelude.{option_map}
 use Rattle.std.proofs.lemmas.List.{length-set}
 use Rattle.def_profile.specs.declared.answers.TheConstants.{NO_QUOTA, NO_KEY}
@@ -24,7 +24,7 @@ use Rattle.ct_engine.specs.Written.{state_with}
 use Rattle.ct_execute.specs.declared.ran.ActBy.{ActBy}
 use Rattle.ct_execute.specs.declared.ran.Ran.{Ran}
 use Rattle.ct_execute.specs.declared.ran.Ran.TheVariants.{Went, Trapped}
-use Rattle.ct_services.specs.Arguments.{quota_in, named_by, number_of}
+use Rattle.ct_services.specs.Arguments.{IsQuota, number_of}
 use Rattle.ct_services.specs.Served.{answered_in}
 use Rattle.ct_services.specs.Serves.{Holds, ComesTo, StaysBeside, Serves, ServesAlone, told_by}
 use Rattle.ct_services.proofs.Statuses.{like_with, changed_with}
@@ -136,33 +136,12 @@ module _ (s : Seen) (t : ℕ) where
 
 -- ---- what comes by the quota in c10
 
-failed_says : (o : Option Trap) (is : Bool) (quota : ℕ) (why : Trap) → Err why ≡ named_by o is quota → o ≡ Some why
-failed_says (Some w) is quota why e = ap (λ (x : Trap). Some x) (let same : w ≡ why = cc in same)
-failed_says None is quota why e = absurd (cc)
-
--- a quota was found, or none
-abbrev IsFound : Option Trap → Bool → ℕ → Option ℕ → Type 0
-IsFound o is quota (Some q) = (o ≡ None) × (is ≡ true) × (q ≡ quota)
-IsFound o is quota None = (o ≡ None) × (is ≡ false)
-
-found_says : (o : Option Trap) (is : Bool) (quota : ℕ) (found : Option ℕ) → Ok found ≡ named_by o is quota → IsFound o is quota found
-found_says (Some w) is quota found e = absurd (cc)
-found_says None true quota (Some q) e = (refl, refl, cc)
-found_says None true quota None e = absurd (cc)
-found_says None false quota (Some q) e = absurd (cc)
-found_says None false quota None e = (refl, refl)
-
 module _ (s : Seen) (t : ℕ) where
   abbrev quota_cap : Cap
   quota_cap = register (thread s t) 10
 
-  abbrev named : Result (Option ℕ) Trap
-  named = named_by (failed s t) (is_quota_cap quota_cap) (quota_in s t)
-
-  pub quota_trap : (why : Trap) (x : Image → State → routine.Ran) → Err why ≡ named → ServesAlone s s (Trapped why) (λ i m. quotas.by_quota m t (x i m))
-  quota_trap why x is =
-      serves_trap s t why (λ i m. if is_quota_cap (register (state.thread m t) 10) then x i m else routine.tells m t (code NO_QUOTA))
-      (failed_says (failed s t) (is_quota_cap quota_cap) (quota_in s t) why is)
+  pub quota_trap : (why : Trap) (x : Image → State → routine.Ran) → failed s t ≡ Some why → ServesAlone s s (Trapped why) (λ i m. quotas.by_quota m t (x i m))
+  quota_trap why x = serves_trap s t why (λ i m. if is_quota_cap (register (state.thread m t) 10) then x i m else routine.tells m t (code NO_QUOTA))
 
   -- whether it is one, of a thread whose c1 leads back
   by_test : (new : Seen) (ran : Ran) (b : Bool) (x : Image → State → Cap → routine.Ran) → failed s t ≡ None → is_quota_cap quota_cap ≡ b
@@ -174,17 +153,14 @@ module _ (s : Seen) (t : ℕ) where
       (serves_by t 10 quota_cap either refl
       (subst (λ (z : Bool). ServesAlone s new ran (λ i m. if z then x i m quota_cap else routine.tells m t (code NO_QUOTA))) (sym is) serves))
 
-  pub no_quota : (new : Seen) (ran : Ran) (x : Image → State → Cap → routine.Ran) → Ok None ≡ named → ServesAlone s new ran (λ i m. routine.tells m t (code NO_QUOTA))
-      → ServesAlone s new ran (λ i m. quotas.by_quota m t (x i m (register (state.thread m t) 10)))
-  no_quota new ran x is serves =
-      let w = found_says (failed s t) (is_quota_cap quota_cap) (quota_in s t) None is in
-      by_test new ran false x w.0 w.1 serves
+  pub no_quota : (new : Seen) (ran : Ran) (x : Image → State → routine.Ran) → failed s t ≡ None → is_quota_cap quota_cap ≡ false
+      → ServesAlone s new ran (λ i m. routine.tells m t (code NO_QUOTA)) → ServesAlone s new ran (λ i m. quotas.by_quota m t (x i m))
+  no_quota new ran x = by_test new ran false (λ i m c. x i m)
 
-  pub by_its_quota : (new : Seen) (ran : Ran) (q : ℕ) (x : Image → State → ℕ → routine.Ran) → Ok (Some q) ≡ named → ServesAlone s new ran (λ i m. x i m q)
+  pub by_its_quota : (new : Seen) (ran : Ran) (q : ℕ) (x : Image → State → ℕ → routine.Ran) → IsQuota s t q → ServesAlone s new ran (λ i m. x i m q)
       → ServesAlone s new ran (λ i m. quotas.by_quota m t (x i m (quotas.quota_in m t)))
-  by_its_quota new ran q x is serves =
-      let w = found_says (failed s t) (is_quota_cap quota_cap) (quota_in s t) (Some q) is in
-      by_test new ran true (λ i m c. x i m c.shadow.root) w.0 w.1 (subst (λ (n : ℕ). ServesAlone s new ran (λ i m. x i m n)) w.2 serves)
+  by_its_quota new ran q x w serves =
+      by_test new ran true (λ i m c. x i m c.shadow.root) w.returns w.is (subst (λ (n : ℕ). ServesAlone s new ran (λ i m. x i m n)) w.entry serves)
 
 -- ---- what comes by the key in a register
 

@@ -1,9 +1,11 @@
 -- What a routine of the heap is asked, over what is seen, and by which code an allocation is refused.
-use Rattle.std.specs.Prelude.{ℕ, ◌≡◌, ◌<◌, Bool, true, length, Option, Some, None, option_map, Result, Ok, Err, if◌then◌else◌}
+use Rattle.std.specs.Prelude.{ℕ, ◌≡◌, ◌<◌, Bool, true, false, length, Option, Some, None, option_map, if◌then◌else◌}
 use Rattle.def_profile.specs.declared.answers.TheConstants.{PAST_LIMIT, NO_PLACE, NO_SIZE, NO_PLACE_YET}
 use Rattle.def_words.specs.declared.Trap.{Trap}
 use Rattle.def_machine.specs.State.{Object, register}
+use Rattle.def_step.specs.Checks.{first_failed}
 use Rattle.def_step.specs.Quotas.{is_quota_cap}
+use Rattle.def_step.specs.Switch.{return_checks}
 use Rattle.ct_heap.specs.declared.rows.HeapRefusal.{HeapRefusal}
 use Rattle.ct_heap.specs.declared.rows.HeapRefusal.TheVariants.{Size, Quota, NoGap}
 use Rattle.ct_engine.specs.Seen.{Seen, thread}
@@ -17,10 +19,18 @@ abbrev pub NamesQuota : Seen → ℕ → Type 0
 NamesQuota s t =
     is_quota_cap (register (thread s t) 10) ≡ true → quota_in s t < length s.limits
 
--- the check of c1 that fails; else the quota's entry, where c10 is a quota
-abbrev pub named_by : Option Trap → Bool → ℕ → Result (Option ℕ) Trap
-named_by (Some why) is quota = Err why
-named_by None is quota = Ok (if is then Some quota else None)
+-- c1 leads back, and c10 is a capability of this quota
+pub record IsQuota (s : Seen) (t quota : ℕ) : Type 0 where
+  pub returns : first_failed (return_checks (register (thread s t) 1)) ≡ None
+  pub is : is_quota_cap (register (thread s t) 10) ≡ true
+  pub entry : quota ≡ quota_in s t
+
+-- the check of c1 that fails; else c10 is no quota's
+abbrev pub IsNoQuota : Seen → ℕ → Option Trap → Type 0
+IsNoQuota s t (Some why) = first_failed (return_checks (register (thread s t) 1)) ≡ Some why
+IsNoQuota s t None =
+    (first_failed (return_checks (register (thread s t) 1)) ≡ None)
+    × (is_quota_cap (register (thread s t) 10) ≡ false)
 
 abbrev pub number_of : Option Object → Option ℕ
 number_of o = option_map (λ (r : Object). r.number) o

@@ -1,23 +1,21 @@
 //! Allocate, free and remaining.
 
-ghost use Rattle.std.specs.Prelude.{◌≡◌, ◌≤◌, ◌<◌, Some, None, length, find, if◌then◌else◌};
+ghost use Rattle.std.specs.Prelude.{◌≡◌, ◌≤◌, ◌<◌, Some, length, find, MatchResult};
 ghost use Rattle.ct_entry.specs.declared.acts.Act.TheVariants.{Allocate};
 ghost use Rattle.def_profile.specs.declared.limits.TheConstants.{MOST_STEPS};
 ghost use Rattle.def_words.specs.Authority.{cap_base};
 ghost use Rattle.def_profile.specs.declared.rights.TheConstants as rights;
 ghost use Rattle.def_words.specs.Derive.{derive, memory_root};
 ghost use Rattle.def_machine.specs.Objects.{has_quarantined};
-ghost use Rattle.def_machine.specs.State.{register};
-ghost use Rattle.def_step.specs.Checks.{first_failed};
+ghost use Rattle.def_machine.specs.Image.{Image};
+ghost use Rattle.def_machine.specs.State.{State};
 ghost use Rattle.def_step.specs.Quotas as quotas;
 ghost use Rattle.def_step.specs.Quotas.{allocation, is_quota_cap};
 ghost use Rattle.def_step.specs.Routines as routine;
-ghost use Rattle.def_step.specs.Switch.{return_checks};
 ghost use Rattle.ct_heap.specs.Lookups.{spans_of};
-ghost use Rattle.ct_engine.specs.Seen.{thread};
 ghost use Rattle.ct_execute.specs.declared.ran.Ran.TheVariants.{Went};
 ghost use Rattle.ct_execute.specs.Deciding.{act_by};
-ghost use Rattle.ct_services.specs.Arguments.{NamesQuota, quota_in, named_by, refusal_code};
+ghost use Rattle.ct_services.specs.Arguments.{NamesQuota, IsQuota, IsNoQuota, refusal_code};
 ghost use Rattle.ct_services.specs.Served.{answered_in};
 ghost use Rattle.ct_services.specs.Serves.{ServesAlone};
 
@@ -32,27 +30,41 @@ use def_profile::answers::{NO_OBJECT, NO_PLACE, NO_PLACE_YET, NO_QUOTA, NO_SIZE,
 use def_profile::rights::{HEAP_RIGHTS, MEMORY_ROOT};
 use def_profile::seals::QUOTA_TYPE;
 
-/// The quota's entry that a capability names, where it is a quota's.
-fn quota_of(c: Live) -> Option<u32>
-    ensures { result ≡ (if is_quota_cap c then Some c.shadow.root else None) }
+/// Whether a capability is a quota's.
+fn is_quota(c: Live) -> bool
+    ensures { result ≡ is_quota_cap c }
 {
-    if c.cap.tag && c.seal == QUOTA_TYPE {
-        return Some(c.cap.shadow.root);
-    }
-    None
+    c.cap.tag && c.seal == QUOTA_TYPE
 }
 
-/// The quota's entry that c10 names, or none where c10 is no quota. The error is the check of c1 that fails.
-pub(crate) fn quota_named<M: Memory + Drop>(engine: &Engine<M>, t: u32) -> Result<Option<u32>, Trap>
+/// The quota's entry that c10 names. The error is the check of c1 that fails, or none where c10 is no quota.
+pub(crate) fn quota_named<M: Memory + Drop>(engine: &Engine<M>, t: u32) -> Result<u32, Option<Trap>>
     requires { engine.now.running ≡ Some t }
-    ensures { result
-        ≡ named_by (first_failed (return_checks (register (thread engine.now t) 1)))
-        (is_quota_cap (register (thread engine.now t) 10)) (quota_in engine.now t) }
+    ensures { MatchResult result (IsQuota engine.now t) (IsNoQuota engine.now t) }
 {
     if let Some(trap) = return_trap(engine.register(t, 1)) {
-        return Err(trap);
+        return Err(Some(trap));
     }
-    Ok(quota_of(engine.register(t, 10)))
+    let c = engine.register(t, 10);
+    if is_quota(c) {
+        Ok(c.cap.shadow.root)
+    } else {
+        Err(None)
+    }
+}
+
+/// What a routine comes to where c1 doesn't lead back, or c10 is no quota: the trap, or the running thread goes on
+/// with -1.
+pub(crate) fn no_quota<M: Memory + Drop>(engine: &mut Engine<M>, t: u32, why: Option<Trap>) -> Ran
+    requires runs { engine.old.running ≡ Some t }
+    requires none { IsNoQuota engine.old t why }
+    ensures { (x : Image → State → routine.Ran)
+        → ServesAlone engine.old engine.new result (λ i m. quotas.by_quota m t (x i m)) }
+{
+    match why {
+        Some(trap) => Ran::Trapped { trap },
+        None => refuse(engine, t, NO_QUOTA),
+    }
 }
 
 /// The capability of an object, sealed as a type where that isn't 0: its quota's entry is the root, its number the
@@ -155,12 +167,11 @@ pub fn allocate<M: Memory + Drop>(engine: &mut Engine<M>, t: u32) -> Ran
     ensures { ServesAlone engine.old engine.new result (λ i m. quotas.allocate i m t) }
 {
     match quota_named(engine, t) {
-        Err(trap) => Ran::Trapped { trap },
-        Ok(Some(quota)) => {
+        Ok(quota) => {
             let size = engine.register(t, 11);
             grant(engine, t, quota, size.address())
         }
-        Ok(None) => refuse(engine, t, NO_QUOTA),
+        Err(why) => no_quota(engine, t, why),
     }
 }
 
@@ -229,12 +240,11 @@ pub fn free<M: Memory + Drop>(engine: &mut Engine<M>, t: u32) -> Ran
     ensures { ServesAlone engine.old engine.new result (λ i m. quotas.free i m t) }
 {
     match quota_named(engine, t) {
-        Err(trap) => Ran::Trapped { trap },
-        Ok(Some(quota)) => {
+        Ok(quota) => {
             let c = engine.register(t, 11);
             free_named(engine, t, quota, c)
         }
-        Ok(None) => refuse(engine, t, NO_QUOTA),
+        Err(why) => no_quota(engine, t, why),
     }
 }
 
@@ -246,11 +256,10 @@ pub fn remaining<M: Memory + Drop>(engine: &mut Engine<M>, t: u32) -> Ran
     ensures { ServesAlone engine.old engine.new result (λ i m. quotas.remaining i m t) }
 {
     match quota_named(engine, t) {
-        Err(trap) => Ran::Trapped { trap },
-        Ok(Some(quota)) => {
+        Ok(quota) => {
             let left = engine.remaining(quota);
             tell(engine, t, Live::integer(left))
         }
-        Ok(None) => refuse(engine, t, NO_QUOTA),
+        Err(why) => no_quota(engine, t, why),
     }
 }

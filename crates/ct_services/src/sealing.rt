@@ -14,14 +14,14 @@ ghost use Rattle.ct_services.specs.Arguments.{NamesQuota, number_of};
 ghost use Rattle.ct_services.specs.Serves.{ServesAlone};
 
 use crate::answering::{refuse, tell};
-use crate::granting::{base_of, capability, decline, free_whole, hand_out, quota_named};
+use crate::granting::{base_of, capability, decline, free_whole, hand_out, no_quota, quota_named};
 use ct_cap::Live;
 use ct_engine::{Engine, Found};
 use ct_execute::Ran;
 use ct_mem::Memory;
 use ct_switch::return_trap;
 use ct_token::opened;
-use def_profile::answers::{NO_KEY, NO_OBJECT, NO_QUOTA, NO_TOKEN};
+use def_profile::answers::{NO_KEY, NO_OBJECT, NO_TOKEN};
 use def_profile::layout::GRANULE;
 use def_profile::seals::TOKEN_TYPE;
 
@@ -116,9 +116,8 @@ pub fn token_key<M: Memory + Drop>(engine: &mut Engine<M>, t: u32) -> Ran
     ensures { ServesAlone engine.old engine.new result (λ i m. tokens.token_key i m t) }
 {
     match quota_named(engine, t) {
-        Err(trap) => Ran::Trapped { trap },
-        Ok(Some(quota)) => seal_new(engine, t, quota, GRANULE, None),
-        Ok(None) => refuse(engine, t, NO_QUOTA),
+        Ok(quota) => seal_new(engine, t, quota, GRANULE, None),
+        Err(why) => no_quota(engine, t, why),
     }
 }
 
@@ -158,9 +157,8 @@ pub fn token_new<M: Memory + Drop>(engine: &mut Engine<M>, t: u32) -> Ran
     ensures { ServesAlone engine.old engine.new result (λ i m. tokens.token_new i m t) }
 {
     match quota_named(engine, t) {
-        Err(trap) => Ran::Trapped { trap },
-        Ok(Some(quota)) => make_token(engine, t, quota),
-        Ok(None) => refuse(engine, t, NO_QUOTA),
+        Ok(quota) => make_token(engine, t, quota),
+        Err(why) => no_quota(engine, t, why),
     }
 }
 
@@ -265,8 +263,7 @@ pub fn token_free<M: Memory + Drop>(engine: &mut Engine<M>, t: u32) -> Ran
     ensures { ServesAlone engine.old engine.new result (λ i m. tokens.token_free i m t) }
 {
     match quota_named(engine, t) {
-        Err(trap) => Ran::Trapped { trap },
-        Ok(Some(quota)) => take_token(engine, t, quota),
-        Ok(None) => refuse(engine, t, NO_QUOTA),
+        Ok(quota) => take_token(engine, t, quota),
+        Err(why) => no_quota(engine, t, why),
     }
 }

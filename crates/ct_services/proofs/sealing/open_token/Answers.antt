@@ -1,7 +1,8 @@
-use Rattle.std.proofs.Common.{◌∙◌, ap}
-use Rattle.def_words.specs.declared.Cap.{Cap}
-use Rattle.ct_services.specs.Granted.{tells}
-use Rattle.ct_services.specs.Sealed.{token_of, opens}
+use Rattle.std.proofs.Common.{sym, ap, ◌∙◌}
+use Rattle.def_step.specs.Routines.{tells}
+use Rattle.def_step.specs.Tokens.{sealed_object, as_token, opens, token_object}
+use Rattle.ct_engine.specs.Written.{state_with}
+use Rattle.ct_services.proofs.Serving.{serves_as, serves_by}
 use Rattle.ct_services.proofs.Sealed.{opens_some, opens_none}
 use Rattle.ct_services.proofs.sealing.open_token.Goals as goal
 
@@ -9,14 +10,16 @@ pub returns-in-Some : goal.returns-in-Some
 returns-in-Some g c =
     let s = c.args.engine.now in
     let t = c.args.t in
-    c.tell.ensures ∙ ap (λ (v : Cap). tells s t v) c.opened.ensures
-    ∙ opens_some s t c.register-c.result (token_of s c.args.key c.register-c.result) c.in-Some.field-0 c.in-Some.ensures
-    ∙ ap (λ (x : Cap). opens s t x (token_of s c.args.key x)) c.register-c.ensures
+    let x = c.register-c.result in
+    serves_by t 11 x (λ i m y. opens m t y (token_object m c.args.key y)) c.register-c.ensures
+    (serves_as c.tell.ensures
+    (λ i m ss h.
+    opens_some (state_with m s ss) t x s.objects (as_token s.tokens c.args.key (sealed_object s.objects x)) c.in-Some.field-0 c.in-Some.ensures ∙ ap (tells (state_with m s ss) t) (sym c.opened.ensures)))
 
 pub returns-in-None : goal.returns-in-None
 returns-in-None g c =
     let s = c.args.engine.now in
     let t = c.args.t in
-    c.tell-in-None.ensures ∙ ap (λ (v : Cap). tells s t v) c.code.ensures
-    ∙ opens_none s t c.register-c.result (token_of s c.args.key c.register-c.result) c.in-None.ensures
-    ∙ ap (λ (x : Cap). opens s t x (token_of s c.args.key x)) c.register-c.ensures
+    let x = c.register-c.result in
+    serves_by t 11 x (λ i m y. opens m t y (token_object m c.args.key y)) c.register-c.ensures
+    (serves_as c.refuse.ensures (λ i m ss h. opens_none (state_with m s ss) t x s.objects (as_token s.tokens c.args.key (sealed_object s.objects x)) c.in-None.ensures))

@@ -1,24 +1,8 @@
-use Rattle.std.proofs.Common.{ℕ, ◌∙◌, ap}
-use Rattle.def_words.specs.declared.Cap.{Cap}
-use Rattle.def_machine.specs.State.{register}
-use Rattle.ct_engine.specs.Seen.{Seen, thread}
-use Rattle.ct_execute.specs.declared.ran.Ran.{Ran}
-use Rattle.ct_services.specs.Granted.{tells}
-use Rattle.ct_services.specs.Sealed.{key_of, token_of, number_of, frees_token}
-use Rattle.ct_services.proofs.Sealed.{by_some, by_none}
+use Rattle.ct_services.proofs.Serving.{by_its_key, no_key}
 use Rattle.ct_services.proofs.sealing.take_token.Goals as goal
 
 pub returns-in-Some : goal.returns-in-Some
-returns-in-Some g c =
-    let s = c.args.engine.now in
-    let t = c.args.t in
-    let came : ℕ → Seen × Ran = λ key. frees_token s t c.args.quota (token_of s key (register (thread s t) 12)) in
-    c.free_token.ensures ∙ by_some s t c.in-Some.key (key_of s (register (thread s t) 11)) came (c.in-Some.ensures.is ∙ ap (λ (x : Cap). number_of (key_of s x)) c.register-c.ensures)
+returns-in-Some g c = by_its_key c.args.engine.now c.free_token.new.engine c.args.t 11 c.free_token.result c.register-c.result _ c.register-c.ensures c.in-Some.key c.in-Some.ensures.is c.free_token.ensures
 
 pub returns-in-None : goal.returns-in-None
-returns-in-None g c =
-    let s = c.args.engine.now in
-    let t = c.args.t in
-    let came : ℕ → Seen × Ran = λ key. frees_token s t c.args.quota (token_of s key (register (thread s t) 12)) in
-    c.tell.ensures ∙ ap (λ (v : Cap). tells s t v) c.code.ensures
-    ∙ by_none s t (key_of s (register (thread s t) 11)) came (c.in-None.ensures.is ∙ ap (λ (x : Cap). number_of (key_of s x)) c.register-c.ensures)
+returns-in-None g c = no_key c.args.engine.now c.refuse.new.engine c.args.t 11 c.refuse.result c.register-c.result _ c.register-c.ensures c.in-None.ensures.is c.refuse.ensures
