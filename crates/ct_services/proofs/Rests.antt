@@ -11,11 +11,12 @@ use Rattle.def_words.specs.Capability.{integer}
 use Rattle.def_memory.specs.Accesses.{loaded}
 use Rattle.def_sched.specs.declared.Status.{Status}
 use Rattle.def_sched.specs.declared.Status.TheVariants.{Ready, Ended}
-use Rattle.def_sched.specs.Statuses.{status_of, awaiting, woken, woken_count, after_wake, wakes as is_woken}
+use Rattle.def_sched.specs.Statuses.{status_of, asleep, awaiting, woken, woken_count, after_wake, wakes as is_woken}
 use Rattle.def_machine.specs.Image.{Image}
 use Rattle.def_machine.specs.State.{State, Thread, thread, register}
 use Rattle.def_machine.specs.Threads.{with_statuses}
 use Rattle.def_step.specs.Checks.{first_failed}
+use Rattle.def_step.specs.Switch.{return_checks}
 use Rattle.def_step.specs.Routines as routine
 use Rattle.def_step.specs.Routines.{Leaves, checked, answered, stops, tells, waits, threads_woken, word_checks}
 use Rattle.ct_engine.specs.Seen as engine
@@ -25,7 +26,7 @@ use Rattle.ct_execute.specs.declared.ran.Ran.{Ran}
 use Rattle.ct_execute.specs.declared.ran.Ran.TheVariants.{Went, Trapped}
 use Rattle.ct_services.specs.Served.{answered_in, rested}
 use Rattle.ct_services.specs.Serves.{Holds, RunsReady, Serves}
-use Rattle.ct_services.proofs.Serving.{register_alike, checked_so, failed_so, serves_alike, serves_trapped}
+use Rattle.ct_services.proofs.Serving.{register_alike, checked_so, failed_so, serves_alike, serves_trapped, serves_trap, serves_passed}
 use Rattle.ct_services.proofs.Statuses.{like_with, changed_with, set_both, twice_with, statuses_with}
 
 -- ---- whom a wake leaves ready
@@ -56,6 +57,16 @@ module _ (s : Seen) (ss : List Status) (t : ℕ) where
     ready = ready;
   }
 
+  -- ---- the check of c1
+
+  pub return_traps : {c : Cap} {why : Trap} (x : Image → State → routine.Ran) → c ≡ register (engine.thread s t) 1 → Some why ≡ first_failed (return_checks c)
+      → Serves s ss s ss (Trapped why) (λ i m. checked (return_checks (register (thread m t) 1)) (x i m))
+  return_traps {why = why} x link is = serves_trap s t why x (sym (is ∙ ap (λ (z : Cap). first_failed (return_checks z)) link)) ss
+
+  pub return_passes : {c : Cap} {new : Seen} {after : List Status} {ran : Ran} (x : Image → State → routine.Ran) → c ≡ register (engine.thread s t) 1
+      → None ≡ first_failed (return_checks c) → Serves s ss new after ran x → Serves s ss new after ran (λ i m. checked (return_checks (register (thread m t) 1)) (x i m))
+  return_passes x link is = serves_passed s t x (sym (is ∙ ap (λ (z : Cap). first_failed (return_checks z)) link))
+
   -- ---- it stops
 
   pub serves_stops : (status : Status) → Serves s ss (rested s t) (set ss t status) (Went None) (λ i m. stops m t status)
@@ -65,7 +76,14 @@ module _ (s : Seen) (ss : List Status) (t : ℕ) where
       ap (λ (us : List Thread). Leaves (record (state_with m s ss) { threads = us; running = None }) None)
       (ap (λ (u : Thread). set (with_statuses s.threads ss) t (answered u (integer 0))) (like_with s.threads ss t status)
       ∙ sym (set_both s.threads ss t (answered (engine.thread s t) (integer 0)) status h.statuses)))
-      (length-set ss t status) (λ ready u runs. absurd cc)
+      (length-set ss t status) (λ ready u runs. absurd (let clash : None ≡ Some u = runs in cc))
+
+  -- for as many ticks as a register's address says
+  pub serves_sleep : {new : Seen} {after : List Status} {ran : Ran} (ticks : ℕ) → ticks ≡ cap_address (register (engine.thread s t) 10)
+      → Serves s ss new after ran (λ i m. checked (return_checks (register (thread m t) 1)) (stops m t (asleep ticks))) → Serves s ss new after ran (λ i m. routine.sleep m t)
+  serves_sleep ticks is serves =
+      serves_alike serves
+      (λ i m h. ap (λ n. checked (return_checks (register (thread (state_with m s ss) t) 1)) (stops (state_with m s ss) t (asleep n))) (sym (is ∙ ap cap_address (register_alike m s ss t 10))))
 
   -- ---- c10 as a word of RAM
 

@@ -160,7 +160,7 @@ fn grant<M: Memory + Drop>(engine: &mut Engine<M>, t: u32, quota: u32, size: u32
 /// It goes on with -1 exactly where c10 is no quota; else with -4 where the size is zero or above the heap's length;
 /// else with -2 where the quota's limit would be passed; else, where no place is lawful, with -5 where an object is
 /// quarantined and with -3 where none is. The trap is the check of c1 that fails; then nothing changes.
-pub fn allocate<M: Memory + Drop>(engine: &mut Engine<M>, t: u32) -> Ran
+pub(crate) fn allocate<M: Memory + Drop>(engine: &mut Engine<M>, t: u32) -> Ran
     requires runs { engine.old.running ≡ Some t }
     requires quota { NamesQuota engine.old t }
     requires few { engine.old.next ≤ MOST_STEPS }
@@ -234,7 +234,7 @@ fn free_named<M: Memory + Drop>(engine: &mut Engine<M>, t: u32, quota: u32, c: L
 ///
 /// It goes on with -1 exactly where c10 is no quota; else with -6 where there is no such object. The trap is the check
 /// of c1 that fails; then nothing changes.
-pub fn free<M: Memory + Drop>(engine: &mut Engine<M>, t: u32) -> Ran
+pub(crate) fn free<M: Memory + Drop>(engine: &mut Engine<M>, t: u32) -> Ran
     requires runs { engine.old.running ≡ Some t }
     requires quota { NamesQuota engine.old t }
     ensures { ServesAlone engine.old engine.new result (λ i m. quotas.free i m t) }
@@ -250,7 +250,7 @@ pub fn free<M: Memory + Drop>(engine: &mut Engine<M>, t: u32) -> Ran
 
 /// Remaining: the running thread goes on with what the quota that c10 names may still take, in bytes, or with -1
 /// exactly where c10 is no quota. The trap is the check of c1 that fails; then nothing changes.
-pub fn remaining<M: Memory + Drop>(engine: &mut Engine<M>, t: u32) -> Ran
+pub(crate) fn remaining<M: Memory + Drop>(engine: &mut Engine<M>, t: u32) -> Ran
     requires runs { engine.old.running ≡ Some t }
     requires quota { NamesQuota engine.old t }
     ensures { ServesAlone engine.old engine.new result (λ i m. quotas.remaining i m t) }

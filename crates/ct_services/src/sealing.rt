@@ -108,7 +108,7 @@ fn seal_new<M: Memory + Drop>(
 /// c1 that fails; then nothing changes.
 ///
 /// Condition: each row is of a live object, and no two are of one.
-pub fn token_key<M: Memory + Drop>(engine: &mut Engine<M>, t: u32) -> Ran
+pub(crate) fn token_key<M: Memory + Drop>(engine: &mut Engine<M>, t: u32) -> Ran
     requires runs { engine.old.running ≡ Some t }
     requires quota { NamesQuota engine.old t }
     requires few { engine.old.next ≤ MOST_STEPS }
@@ -149,7 +149,7 @@ fn make_token<M: Memory + Drop>(engine: &mut Engine<M>, t: u32, quota: u32) -> R
 /// those bytes. The trap is the check of c1 that fails; then nothing changes.
 ///
 /// Condition: each row is of a live object, and no two are of one.
-pub fn token_new<M: Memory + Drop>(engine: &mut Engine<M>, t: u32) -> Ran
+pub(crate) fn token_new<M: Memory + Drop>(engine: &mut Engine<M>, t: u32) -> Ran
     requires runs { engine.old.running ≡ Some t }
     requires quota { NamesQuota engine.old t }
     requires few { engine.old.next ≤ MOST_STEPS }
@@ -197,7 +197,7 @@ fn open_by_key<M: Memory + Drop>(engine: &mut Engine<M>, t: u32) -> Ran
 ///
 /// It goes on with -7 exactly where c10 is no live key; else with -8 where c11 is no live token of it. The trap is the
 /// check of c1 that fails; then nothing changes.
-pub fn token_open<M: Memory + Drop>(engine: &mut Engine<M>, t: u32) -> Ran
+pub(crate) fn token_open<M: Memory + Drop>(engine: &mut Engine<M>, t: u32) -> Ran
     requires { engine.old.running ≡ Some t }
     ensures { ServesAlone engine.old engine.new result (λ i m. tokens.token_open m t) }
 {
@@ -257,7 +257,7 @@ fn take_token<M: Memory + Drop>(engine: &mut Engine<M>, t: u32, quota: u32) -> R
 /// It goes on with -1 exactly where c10 is no quota; else with -7 where c11 is no live key; else with -8 where c12 is
 /// no live token of it; else with -6 where the token is charged to another quota. The trap is the check of c1 that
 /// fails; then nothing changes.
-pub fn token_free<M: Memory + Drop>(engine: &mut Engine<M>, t: u32) -> Ran
+pub(crate) fn token_free<M: Memory + Drop>(engine: &mut Engine<M>, t: u32) -> Ran
     requires runs { engine.old.running ≡ Some t }
     requires quota { NamesQuota engine.old t }
     ensures { ServesAlone engine.old engine.new result (λ i m. tokens.token_free i m t) }
