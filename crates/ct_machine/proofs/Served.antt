@@ -76,7 +76,7 @@ module _ (i : Image) (e : Seen) (r : SchedRow) (k : DeviceStates) (pending : Boo
     opens = is_open i e r pending k.states time c t kept may.shut may.keeps.confined runs.runs;
     few = few_by c time e.next counted few;
     rows = may.rows;
-    ram = place ∙ sym (ram_is i e r kept);
+    place = place ∙ sym (ram_is i e r kept);
     even = subst (λ n. n % 16 ≡ 0) (sym place) kept.placed.even;
   }
 

@@ -18,5 +18,5 @@ pub record MayServe (s : Seen) (ss : List Status) (t ram : ℕ) : Type 0 where
   pub opens : IsOpen s t
   pub few : s.next ≤ MOST_STEPS
   pub rows : RowsFit s.objects s.tokens
-  pub ram : ram ≡ s.region.ram
+  pub place : ram ≡ s.region.ram
   pub even : ram % 16 ≡ 0
