@@ -9,8 +9,8 @@ use Rattle.ct_engine.specs.Seen.{Seen}
 use Rattle.ct_engine.specs.Bursts.{IsOpen}
 use Rattle.ct_services.specs.Arguments.{NamesQuota}
 
--- Thread t runs and is ready, a quota that it names is one of the heap's, nothing is hidden that it may load, an object
--- more may be made, and each row of a key or a token is of a live object.
+-- Thread t runs and is ready, a quota that it names is one of the heap's, nothing is hidden that it may load, one more
+-- object may be made, and each row of a key or a token is of a live object.
 pub record MayServe (s : Seen) (ss : List Status) (t ram : ℕ) : Type 0 where
   pub runs : s.running ≡ Some t
   pub ready : status_of ss t ≡ Ready

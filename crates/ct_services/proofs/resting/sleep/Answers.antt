@@ -5,4 +5,5 @@ use Rattle.ct_services.proofs.resting.sleep.Goals as goal
 
 pub returns-clause-serves : goal.returns-clause-serves
 returns-clause-serves g c =
-    serves_sleep c.args.engine.now c.args.sched.now.statuses c.args.t c.address-ticks.result (c.address-ticks.ensures ∙ ap cap_address c.register.ensures) c.rest.ensures.serves
+    serves_sleep c.args.engine.now c.args.sched.now.statuses c.args.t c.address-ticks.result
+    (c.address-ticks.ensures ∙ ap cap_address c.register.ensures) c.rest.ensures.serves

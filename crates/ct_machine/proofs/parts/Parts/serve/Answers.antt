@@ -2,13 +2,15 @@ use Rattle.std.proofs.Common.{◌≡◌, sym, subst, arith}
 use Rattle.def_native.specs.declared.TheConstants.{SWITCH}
 use Rattle.ct_entry.specs.Listed.{Listed}
 use Rattle.def_machine.specs.Platform.{MachineRow}
-use Rattle.def_step.specs.Instructions.{ran}
+use Rattle.def_step.specs.Instructions.{ran, served}
+use Rattle.def_step.specs.Native.{native}
 use Rattle.def_step.specs.Routines.{switch}
 use Rattle.ct_engine.specs.Calls.{MayCall}
 use Rattle.law_callable.proofs.Calls.{may_call, entered_stands}
 use Rattle.ct_machine.specs.Going.{MayGoOn, Runs}
 use Rattle.ct_machine.proofs.Opened.{placed_at, some_seen}
 use Rattle.ct_machine.proofs.Calling.{came_call, call_kept, shows_caller}
+use Rattle.ct_machine.proofs.Served.{may_serve, came_served, served_done, served_kept}
 use Rattle.ct_machine.proofs.Keeping.{came_by, counted_so, switched_next}
 use Rattle.ct_machine.proofs.parts.Parts.serve.Goals as goal
 
@@ -22,8 +24,8 @@ switch-requires-clause-may g c =
     (may_call i.plan _ i.engine c.args.t
     (shows_caller i.plan i.engine i.sched i.pending i.bus.states i.time i.counts c.args.t c.self.invariant.0 c.entries.ensures.sound may.keeps.confined some) some)
 
-pub invariant_of-self-then-number-eq-SWITCH : goal.invariant_of-self-then-number-eq-SWITCH
-invariant_of-self-then-number-eq-SWITCH g c =
+pub invariant_of-self : goal.invariant_of-self
+invariant_of-self g c =
     let i = c.self.inside in
     let runs = subst (λ (m : MachineRow). Runs m c.args.t) (sym c.self.view_is) c.requires.runs in
     let some = some_seen i.plan i.engine i.sched i.pending i.bus.states i.time i.counts c.args.t runs.some in
@@ -49,9 +51,8 @@ returns-then-number-eq-SWITCH-clause-came g c =
 pub serve-requires-clause-may : goal.serve-requires-clause-may
 serve-requires-clause-may g c =
     let i = c.self.inside in
-    may_serve i.plan i.engine i.sched i.bus i.pending i.time i.counts c.args.t c.self.invariant.0 c.ram.result (subst MayGoOn (sym c.self.view_is) c.requires.may)
-    (subst (λ (m : MachineRow). Runs m c.args.t) (sym c.self.view_is) c.requires.runs) (subst (λ (m : MachineRow). m.state.next ≤ m.state.counts.steps) (sym c.self.view_is) c.requires.made)
-    c.self.invariant.1 c.ram.ensures
+    may_serve i.plan i.engine i.sched i.bus i.pending i.time i.counts c.args.t c.self.invariant.0 c.ram.result _
+    c.self.view_is c.requires.may c.requires.runs c.requires.made c.self.invariant.1 c.ram.ensures
 
 pub serve-requires-clause-routine : goal.serve-requires-clause-routine
 serve-requires-clause-routine g c =
@@ -59,21 +60,23 @@ serve-requires-clause-routine g c =
     let switches = c.if-number-eq-SWITCH.false in
     (omega (arith, other, switches), c.requires.routine.few)
 
-pub invariant_of-self : goal.invariant_of-self
-invariant_of-self g c =
+pub invariant_of-self-2 : goal.invariant_of-self-2
+invariant_of-self-2 g c =
     let i = c.self.inside in
-    serving_kept i.plan i.engine i.sched i.bus i.pending i.time i.counts c.args.t c.self.invariant.0 c.args.number c.serve.new.engine c.serve.new.sched c.serve.result
-    c.serve.ensures.sched c.serve.ensures.serves c.self.invariant.1 (subst (λ (m : MachineRow). m.state.next ≤ m.state.counts.steps) (sym c.self.view_is) c.requires.made)
+    served_kept i.plan i.engine i.sched i.bus i.pending i.time i.counts c.args.t c.self.invariant.0 c.args.number
+    c.serve.new.engine c.serve.new.sched c.serve.result c.serve.ensures.sched c.serve.ensures.serves _ c.self.view_is
+    c.requires.made c.self.invariant.1
 
 pub returns-clause-came : goal.returns-clause-came
 returns-clause-came g c =
     let i = c.self.inside in
-    came_by (λ (m : MachineRow). served m.board m.state c.args.t (native m.board.image m.state c.args.t c.args.number)) c.self.view_is refl
-    (came_serving i.plan i.engine i.sched i.bus i.pending i.time i.counts c.args.t c.self.invariant.0 c.args.number c.serve.new.engine c.serve.new.sched c.serve.result
-    c.serve.ensures.sched c.serve.ensures.serves)
+    came_by (λ (m : MachineRow). served m.board m.state c.args.t (native m.board.image m.state c.args.t c.args.number))
+    c.self.view_is refl
+    (came_served i.plan i.engine i.sched i.bus i.pending i.time i.counts c.args.t c.self.invariant.0 c.args.number
+    c.serve.new.engine c.serve.new.sched c.serve.result c.serve.ensures.sched c.serve.ensures.serves)
 
 pub returns-clause-done : goal.returns-clause-done
 returns-clause-done g c =
     let i = c.self.inside in
-    serving_done i.plan i.engine i.sched i.bus i.pending i.time i.counts c.args.t c.self.invariant.0 c.args.number c.serve.new.engine c.serve.new.sched c.serve.result
-    c.serve.ensures.sched c.serve.ensures.serves
+    served_done i.plan i.engine i.sched i.bus i.pending i.time i.counts c.args.t c.self.invariant.0 c.args.number
+    c.serve.new.engine c.serve.new.sched c.serve.result c.serve.ensures.sched c.serve.ensures.serves
