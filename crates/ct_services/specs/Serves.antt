@@ -24,6 +24,10 @@ pub record Holds (i : Image) (s : Seen) (ss : List Status) : Type 0 where
   pub heap : HasHeap i s
   pub statuses : length ss ≡ length s.threads
 
+-- what a routine comes to, of each image and state
+abbrev pub Routine : Type 0
+Routine = Image → State → routine.Ran
+
 -- an act with the entry that it was done by, as a routine tells it
 abbrev pub told_by : ActBy → ℕ × Act
 told_by d = (d.entry, d.act)
@@ -51,7 +55,7 @@ RunsReady s ss = (t : ℕ) → s.running ≡ Some t → status_of ss t ≡ Ready
 
 -- An engine and the threads' statuses became these, and the code came to this: what the written routine comes to. Where
 -- it traps nothing has changed. One object is made at most, and the running thread stays ready.
-pub record Serves (s : Seen) (ss : List Status) (new : Seen) (after : List Status) (ran : Ran) (x : Image → State → routine.Ran) : Type 0 where
+pub record Serves (s : Seen) (ss : List Status) (new : Seen) (after : List Status) (ran : Ran) (x : Routine) : Type 0 where
   pub comes : (i : Image) (m : State) → Holds i s ss
       → ComesTo (state_with m new after) ran (x i (state_with m s ss))
   pub same : IfUnfinished ran ((new ≡ s) × (after ≡ ss))
@@ -61,7 +65,7 @@ pub record Serves (s : Seen) (ss : List Status) (new : Seen) (after : List Statu
   pub ready : RunsReady s ss → RunsReady new after
 
 -- the same where the statuses stay
-abbrev pub ServesAlone : Seen → Seen → Ran → (Image → State → routine.Ran) → Type 0
+abbrev pub ServesAlone : Seen → Seen → Ran → Routine → Type 0
 ServesAlone s new ran x = (ss : List Status) → Serves s ss new ss ran x
 
 -- what the routine of a number comes to; no number of none is served
