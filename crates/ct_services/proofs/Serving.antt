@@ -1,6 +1,6 @@
--- What routines share, in each state of the machine that holds what is seen: an answer, the check of c1, and what comes
--- by a capability in a register.
-use Rattle.std.proofs.Common.{ℕ, ◌+◌, ◌≡◌, ◌≤◌, ◌∙◌, Bool, true, false, List, Option, Some, None, if◌then◌else◌, refl, sym, ap, subst, arith}
+-- What routines share, in each state of the machine that holds what is seen: an answer, the check of c1, and what
+-- comes by a capability in a register.
+use Rattle.std.proofs.Common.{ℕ, ◌+◌, ◌≡◌, ◌≤◌, ◌∙◌, Bool, true, false, List, length, Option, Some, None, if◌then◌else◌, refl, sym, ap, subst, arith}
 use Rattle.std.specs.Prelude.{option_map}
 use Rattle.std.proofs.lemmas.List.{length-set}
 use Rattle.def_profile.specs.declared.answers.TheConstants.{NO_QUOTA, NO_KEY}
@@ -14,11 +14,10 @@ use Rattle.def_machine.specs.State.{State, Thread, Object, register}
 use Rattle.def_step.specs.Checks.{Check, first_failed}
 use Rattle.def_step.specs.Switch.{return_checks}
 use Rattle.def_step.specs.Routines as routine
-use Rattle.def_step.specs.Routines.{Traps, Leaves, checked, answered, answers, code}
+use Rattle.def_step.specs.Routines.{Traps, Leaves, checked, answered, answers, tells, code}
 use Rattle.def_step.specs.Quotas as quotas
 use Rattle.def_step.specs.Quotas.{is_quota_cap}
-use Rattle.def_step.specs.Tokens as tokens
-use Rattle.def_step.specs.Tokens.{sealed_object, as_key}
+use Rattle.def_step.specs.Tokens.{sealed_object, as_key, key_of, by_key}
 use Rattle.ct_engine.specs.Seen.{Seen, thread}
 use Rattle.ct_engine.specs.Written.{state_with}
 use Rattle.ct_execute.specs.declared.ran.ActBy.{ActBy}
@@ -26,60 +25,77 @@ use Rattle.ct_execute.specs.declared.ran.Ran.{Ran}
 use Rattle.ct_execute.specs.declared.ran.Ran.TheVariants.{Went, Trapped}
 use Rattle.ct_services.specs.Arguments.{IsQuota, number_of}
 use Rattle.ct_services.specs.Served.{answered_in}
-use Rattle.ct_services.specs.Serves.{Holds, ComesTo, StaysBeside, Serves, ServesAlone, told_by}
+use Rattle.ct_services.specs.Serves.{Holds, ComesTo, StaysBeside, Routine, Serves, ServesAlone, told_by}
 use Rattle.ct_services.proofs.Statuses.{like_with, changed_with}
 
 -- ---- the running thread in a state that holds what is seen
 
-pub register_alike : (m : State) (s : Seen) (ss : List Status) (t n : ℕ) → register (thread s t) n ≡ register (state.thread (state_with m s ss) t) n
+pub register_alike : (m : State) (s : Seen) (ss : List Status) (t n : ℕ)
+    → register (thread s t) n ≡ register (state.thread (state_with m s ss) t) n
 register_alike m s ss t n = ap (λ (u : Thread). register u n) (sym (like_with s.threads ss t Ended))
 
-pub answers_alike : (m : State) (s : Seen) (ss : List Status) (t : ℕ) (v : Cap) → answers (state_with m s ss) t v ≡ state_with m (answered_in s t v) ss
-answers_alike m s ss t v = ap (λ (ts : List Thread). record (state_with m s ss) { threads = ts }) (changed_with (λ (u : Thread). answered u v) (λ u q. refl) s.threads ss t)
+pub answers_alike : (m : State) (s : Seen) (ss : List Status) (t : ℕ) (v : Cap)
+    → answers (state_with m s ss) t v ≡ state_with m (answered_in s t v) ss
+answers_alike m s ss t v =
+    ap (λ (ts : List Thread). record (state_with m s ss) { threads = ts })
+    (changed_with (λ (u : Thread). answered u v) (λ u q. refl) s.threads ss t)
 
 -- ---- an answer
 
 -- what a routine makes of an engine before it answers
 pub record Becomes (s u : Seen) : Type 0 where
-  pub beside : StaysBeside s u
-  pub running : u.running ≡ s.running
+  pub size : length u.granules ≡ length s.granules
+  pub threads : length u.threads ≡ length s.threads
   pub made : u.next ≤ s.next + 1
+  pub same : u
+      ≡ record s { granules = u.granules; threads = u.threads; objects = u.objects; tokens = u.tokens; next = u.next }
 
 pub same_beside : (s : Seen) → StaysBeside s s
-same_beside s = record { region = refl; areas = refl; size = refl; threads = refl; heap_base = refl; heap_end = refl; limits = refl }
-
-answered_beside : (s u : Seen) (t : ℕ) (v : Cap) → StaysBeside s u → StaysBeside s (answered_in u t v)
-answered_beside s u t v b = record {
-  region = b.region;
-  areas = b.areas;
-  size = b.size;
-  threads = length-set u.threads t _ ∙ b.threads;
-  heap_base = b.heap_base;
-  heap_end = b.heap_end;
-  limits = b.limits;
+same_beside s = record {
+  region = refl;
+  areas = refl;
+  size = refl;
+  threads = refl;
+  heap_base = refl;
+  heap_end = refl;
+  limits = refl;
 }
 
 -- of an engine that became this
-pub serves_answer : (s u : Seen) (t : ℕ) (v : Cap) (done : Option ActBy) (x : Image → State → routine.Ran) → Becomes s u
-    → ((i : Image) (m : State) (ss : List Status) → Holds i s ss → x i (state_with m s ss) ≡ Leaves (answers (state_with m u ss) t v) (option_map told_by done))
+pub serves_answer : (s u : Seen) (t : ℕ) (v : Cap) (done : Option ActBy) (x : Routine) → Becomes s u
+    → ((i : Image) (m : State) (ss : List Status) → Holds i s ss
+    → x i (state_with m s ss) ≡ Leaves (answers (state_with m u ss) t v) (option_map told_by done))
     → ServesAlone s (answered_in u t v) (Went done) x
 serves_answer s u t v done x became comes ss = record {
   comes = λ i m h. comes i m ss h ∙ ap (λ (y : State). Leaves y (option_map told_by done)) (answers_alike m u ss t v);
   same = tt;
-  beside = answered_beside s u t v became.beside;
+  beside = record {
+    region = ap (λ (y : Seen). y.region) became.same;
+    areas = ap (λ (y : Seen). y.areas) became.same;
+    size = became.size;
+    threads = length-set u.threads t _ ∙ became.threads;
+    heap_base = ap (λ (y : Seen). y.heap_base) became.same;
+    heap_end = ap (λ (y : Seen). y.heap_end) became.same;
+    limits = ap (λ (y : Seen). y.limits) became.same;
+  };
   made = became.made;
   many = refl;
-  ready = λ ready n runs. ready n (sym became.running ∙ runs);
+  ready = λ ready n runs. ready n (sym (ap (λ (y : Seen). y.running) became.same) ∙ runs);
 }
 
-pub serves_tell : (s new : Seen) (t : ℕ) (v : Cap) → new ≡ answered_in s t v → ServesAlone s new (Went None) (λ i m. routine.tells m t v)
+pub serves_tell : (s new : Seen) (t : ℕ) (v : Cap) → new ≡ answered_in s t v
+    → ServesAlone s new (Went None) (λ i m. tells m t v)
 serves_tell s new t v is =
-    rw is (serves_answer s s t v None (λ i m. routine.tells m t v) (record { beside = same_beside s; running = refl; made = omega arith }) (λ i m ss h. refl))
+    rw is
+    (serves_answer s s t v None (λ i m. tells m t v)
+    (record { size = refl; threads = refl; made = omega arith; same = refl }) (λ i m ss h. refl))
 
 -- ---- what comes to the same
 
-pub serves_alike : {s new : Seen} {ss after : List Status} {ran : Ran} {x y : Image → State → routine.Ran} → Serves s ss new after ran x
-    → ((i : Image) (m : State) → Holds i s ss → y i (state_with m s ss) ≡ x i (state_with m s ss)) → Serves s ss new after ran y
+pub serves_alike : {s new : Seen} {ss after : List Status} {ran : Ran} {x y : Routine}
+    → Serves s ss new after ran x
+    → ((i : Image) (m : State) → Holds i s ss → y i (state_with m s ss) ≡ x i (state_with m s ss))
+    → Serves s ss new after ran y
 serves_alike {new = new} {after = after} {ran = ran} h alike = record {
   comes = λ i m holds. subst (ComesTo (state_with m new after) ran) (sym (alike i m holds)) (h.comes i m holds);
   same = h.same;
@@ -89,102 +105,118 @@ serves_alike {new = new} {after = after} {ran = ran} h alike = record {
   ready = h.ready;
 }
 
-pub serves_as : {s new : Seen} {ran : Ran} {x y : Image → State → routine.Ran} → ServesAlone s new ran x
-    → ((i : Image) (m : State) (ss : List Status) → Holds i s ss → y i (state_with m s ss) ≡ x i (state_with m s ss)) → ServesAlone s new ran y
+pub serves_as : {s new : Seen} {ran : Ran} {x y : Routine} → ServesAlone s new ran x
+    → ((i : Image) (m : State) (ss : List Status) → Holds i s ss → y i (state_with m s ss) ≡ x i (state_with m s ss))
+    → ServesAlone s new ran y
 serves_as serves alike ss = serves_alike (serves ss) (λ i m h. alike i m ss h)
 
 -- by a register, of which this is seen
-pub serves_by : {s new : Seen} {ran : Ran} (t n : ℕ) (c : Cap) (x : Image → State → Cap → routine.Ran) → c ≡ register (thread s t) n
-    → ServesAlone s new ran (λ i m. x i m c) → ServesAlone s new ran (λ i m. x i m (register (state.thread m t) n))
-serves_by {s = s} t n c x is serves = serves_as serves (λ i m ss h. ap (x i (state_with m s ss)) (sym (is ∙ register_alike m s ss t n)))
+pub serves_by : {s new : Seen} {ran : Ran} (t n : ℕ) (c : Cap) (x : Image → State → Cap → routine.Ran)
+    → c ≡ register (thread s t) n → ServesAlone s new ran (λ i m. x i m c)
+    → ServesAlone s new ran (λ i m. x i m (register (state.thread m t) n))
+serves_by {s = s} t n c x is serves =
+    serves_as serves (λ i m ss h. ap (x i (state_with m s ss)) (sym (is ∙ register_alike m s ss t n)))
 
 -- ---- the check of c1
 
 pub checked_so : (cs : List Check) (x : routine.Ran) → first_failed cs ≡ None → checked cs x ≡ x
 checked_so cs x is = rw is refl
 
-pub failed_so : (cs : List Check) (x : routine.Ran) (why : Trap) → first_failed cs ≡ Some why → checked cs x ≡ Traps why
+pub failed_so : (cs : List Check) (x : routine.Ran) (why : Trap) → first_failed cs ≡ Some why
+    → checked cs x ≡ Traps why
 failed_so cs x why is = rw is refl
 
 -- where the routine traps nothing has changed
-pub serves_trapped : (s : Seen) (ss : List Status) (why : Trap) (x : Image → State → routine.Ran)
-    → ((i : Image) (m : State) → Holds i s ss → x i (state_with m s ss) ≡ Traps why) → Serves s ss s ss (Trapped why) x
-serves_trapped s ss why x is = record { comes = is; same = (refl, refl); beside = same_beside s; made = omega arith; many = refl; ready = λ ready. ready }
+pub serves_trapped : (s : Seen) (ss : List Status) (why : Trap) (x : Routine)
+    → ((i : Image) (m : State) → Holds i s ss → x i (state_with m s ss) ≡ Traps why)
+    → Serves s ss s ss (Trapped why) x
+serves_trapped s ss why x is =
+    record { comes = is; same = (refl, refl); beside = same_beside s; made = omega arith; many = refl; ready = λ r. r }
 
 module _ (s : Seen) (t : ℕ) where
   abbrev failed : Option Trap
   failed = first_failed (return_checks (register (thread s t) 1))
 
-  failed_alike : (m : State) (ss : List Status) → failed ≡ first_failed (return_checks (register (state.thread (state_with m s ss) t) 1))
+  failed_alike : (m : State) (ss : List Status)
+      → failed ≡ first_failed (return_checks (register (state.thread (state_with m s ss) t) 1))
   failed_alike m ss = ap (λ (c : Cap). first_failed (return_checks c)) (register_alike m s ss t 1)
 
-  pub serves_trap : (why : Trap) (x : Image → State → routine.Ran) → failed ≡ Some why
+  pub serves_trap : (why : Trap) (x : Routine) → failed ≡ Some why
       → ServesAlone s s (Trapped why) (λ i m. checked (return_checks (register (state.thread m t) 1)) (x i m))
   serves_trap why x is ss =
       serves_trapped s ss why (λ i m. checked (return_checks (register (state.thread m t) 1)) (x i m))
-      (λ i m h. failed_so (return_checks (register (state.thread (state_with m s ss) t) 1)) (x i (state_with m s ss)) why (sym (failed_alike m ss) ∙ is))
+      (λ i m h.
+      failed_so (return_checks (register (state.thread (state_with m s ss) t) 1)) (x i (state_with m s ss)) why
+      (sym (failed_alike m ss) ∙ is))
 
-  pub serves_passed : {new : Seen} {ss after : List Status} {ran : Ran} (x : Image → State → routine.Ran) → failed ≡ None → Serves s ss new after ran x
-      → Serves s ss new after ran (λ i m. checked (return_checks (register (state.thread m t) 1)) (x i m))
+  pub serves_passed : {new : Seen} {ss after : List Status} {ran : Ran} (x : Routine) → failed ≡ None
+      → Serves s ss new after ran x → Serves s ss new after ran (λ i m. checked (return_checks (register (state.thread m t) 1)) (x i m))
   serves_passed {ss = ss} x is serves =
       serves_alike serves
-      (λ i m h. checked_so (return_checks (register (state.thread (state_with m s ss) t) 1)) (x i (state_with m s ss)) (sym (failed_alike m ss) ∙ is))
+      (λ i m h.
+      checked_so (return_checks (register (state.thread (state_with m s ss) t) 1)) (x i (state_with m s ss))
+      (sym (failed_alike m ss) ∙ is))
 
-  pub serves_checked : (new : Seen) (ran : Ran) (x : Image → State → routine.Ran) → failed ≡ None → ServesAlone s new ran x
+  pub serves_checked : (new : Seen) (ran : Ran) (x : Routine) → failed ≡ None → ServesAlone s new ran x
       → ServesAlone s new ran (λ i m. checked (return_checks (register (state.thread m t) 1)) (x i m))
   serves_checked new ran x is serves ss = serves_passed x is (serves ss)
 
 -- ---- what comes by the quota in c10
 
 module _ (s : Seen) (t : ℕ) where
-  abbrev quota_cap : Cap
-  quota_cap = register (thread s t) 10
+  abbrev c10 : Cap
+  c10 = register (thread s t) 10
 
-  pub quota_trap : (why : Trap) (x : Image → State → routine.Ran) → failed s t ≡ Some why → ServesAlone s s (Trapped why) (λ i m. quotas.by_quota m t (x i m))
-  quota_trap why x = serves_trap s t why (λ i m. if is_quota_cap (register (state.thread m t) 10) then x i m else routine.tells m t (code NO_QUOTA))
-
-  -- whether it is one, of a thread whose c1 leads back
-  by_test : (new : Seen) (ran : Ran) (b : Bool) (x : Image → State → Cap → routine.Ran) → failed s t ≡ None → is_quota_cap quota_cap ≡ b
-      → ServesAlone s new ran (λ i m. if b then x i m quota_cap else routine.tells m t (code NO_QUOTA))
+  -- whether it is a quota's, where c1 leads back
+  by_test : {new : Seen} {ran : Ran} (b : Bool) (x : Image → State → Cap → routine.Ran) → failed s t ≡ None
+      → is_quota_cap c10 ≡ b
+      → ServesAlone s new ran (λ i m. if b then x i m c10 else tells m t (code NO_QUOTA))
       → ServesAlone s new ran (λ i m. quotas.by_quota m t (x i m (register (state.thread m t) 10)))
-  by_test new ran b x passes is serves =
-      let either : Image → State → Cap → routine.Ran = λ i m c. if is_quota_cap c then x i m c else routine.tells m t (code NO_QUOTA) in
-      serves_checked s t new ran (λ i m. either i m (register (state.thread m t) 10)) passes
-      (serves_by t 10 quota_cap either refl
-      (subst (λ (z : Bool). ServesAlone s new ran (λ i m. if z then x i m quota_cap else routine.tells m t (code NO_QUOTA))) (sym is) serves))
+  by_test {new = new} {ran = ran} b x passes is serves =
+      let test : Bool → Cap → Routine = λ z c i m. if z then x i m c else tells m t (code NO_QUOTA) in
+      serves_checked s t new ran _ passes
+      (serves_by t 10 c10 (λ i m c. test (is_quota_cap c) c i m) refl
+      (subst (λ (z : Bool). ServesAlone s new ran (test z c10)) (sym is) serves))
 
-  pub no_quota : (new : Seen) (ran : Ran) (x : Image → State → routine.Ran) → failed s t ≡ None → is_quota_cap quota_cap ≡ false
-      → ServesAlone s new ran (λ i m. routine.tells m t (code NO_QUOTA)) → ServesAlone s new ran (λ i m. quotas.by_quota m t (x i m))
-  no_quota new ran x = by_test new ran false (λ i m c. x i m)
+  pub no_quota : {new : Seen} {ran : Ran} (x : Routine) → failed s t ≡ None → is_quota_cap c10 ≡ false
+      → ServesAlone s new ran (λ i m. tells m t (code NO_QUOTA))
+      → ServesAlone s new ran (λ i m. quotas.by_quota m t (x i m))
+  no_quota x = by_test false (λ i m c. x i m)
 
-  pub by_its_quota : (new : Seen) (ran : Ran) (q : ℕ) (x : Image → State → ℕ → routine.Ran) → IsQuota s t q → ServesAlone s new ran (λ i m. x i m q)
+  pub by_its_quota : {new : Seen} {ran : Ran} (q : ℕ) (x : Image → State → ℕ → routine.Ran) → IsQuota s t q
+      → ServesAlone s new ran (λ i m. x i m q)
       → ServesAlone s new ran (λ i m. quotas.by_quota m t (x i m (quotas.quota_in m t)))
-  by_its_quota new ran q x w serves =
-      by_test new ran true (λ i m c. x i m c.shadow.root) w.returns w.is (subst (λ (n : ℕ). ServesAlone s new ran (λ i m. x i m n)) w.entry serves)
+  by_its_quota {new = new} {ran = ran} q x w serves =
+      by_test true (λ i m c. x i m c.shadow.root) w.returns w.is
+      (subst (λ (n : ℕ). ServesAlone s new ran (λ i m. x i m n)) w.entry serves)
 
 -- ---- what comes by the key in a register
 
-by_some : (m : State) (t n : ℕ) (o : Option Object) (x : ℕ → routine.Ran) → Some n ≡ number_of o → tokens.by_key m t o x ≡ x n
+by_some : (m : State) (t n : ℕ) (o : Option Object) (x : ℕ → routine.Ran) → Some n ≡ number_of o → by_key m t o x ≡ x n
 by_some m t n None x e = absurd (cc)
 by_some m t n (Some key) x e = ap x (let same : key.number ≡ n = cc in same)
 
-by_none : (m : State) (t : ℕ) (o : Option Object) (x : ℕ → routine.Ran) → None ≡ number_of o → tokens.by_key m t o x ≡ routine.tells m t (code NO_KEY)
+by_none : (m : State) (t : ℕ) (o : Option Object) (x : ℕ → routine.Ran) → None ≡ number_of o
+    → by_key m t o x ≡ tells m t (code NO_KEY)
 by_none m t None x e = refl
 by_none m t (Some key) x e = absurd (cc)
 
-module _ (s new : Seen) (t n : ℕ) (ran : Ran) (c : Cap) (x : Image → State → ℕ → routine.Ran) (is : c ≡ register (thread s t) n) where
+module _ (s : Seen) (t n : ℕ) (c : Cap) (x : Image → State → ℕ → routine.Ran)
+    (is : c ≡ register (thread s t) n) where
   abbrev key : Option Object
   key = as_key s.tokens (sealed_object s.objects c)
 
-  by_key_so : (y : Image → State → routine.Ran) → ((i : Image) (m : State) (ss : List Status) → tokens.by_key (state_with m s ss) t key (x i (state_with m s ss)) ≡ y i (state_with m s ss))
-      → ServesAlone s new ran y → ServesAlone s new ran (λ i m. tokens.by_key m t (tokens.key_of m (register (state.thread m t) n)) (x i m))
-  by_key_so y so serves =
-      serves_by t n c (λ i m z. tokens.by_key m t (tokens.key_of m z) (x i m)) is (serves_as serves (λ i m ss h. so i m ss))
+  abbrev comes : Routine
+  comes i m = by_key m t (key_of m (register (state.thread m t) n)) (x i m)
 
-  pub no_key : None ≡ number_of key → ServesAlone s new ran (λ i m. routine.tells m t (code NO_KEY))
-      → ServesAlone s new ran (λ i m. tokens.by_key m t (tokens.key_of m (register (state.thread m t) n)) (x i m))
-  no_key none = by_key_so (λ i m. routine.tells m t (code NO_KEY)) (λ i m ss. by_none (state_with m s ss) t key (x i (state_with m s ss)) none)
+  pub by_its_key : {new : Seen} {ran : Ran} (number : ℕ) → Some number ≡ number_of key
+      → ServesAlone s new ran (λ i m. x i m number) → ServesAlone s new ran comes
+  by_its_key number some serves =
+      serves_by t n c (λ i m z. by_key m t (key_of m z) (x i m)) is
+      (serves_as serves (λ i m ss h. by_some (state_with m s ss) t number key (x i (state_with m s ss)) some))
 
-  pub by_its_key : (number : ℕ) → Some number ≡ number_of key → ServesAlone s new ran (λ i m. x i m number)
-      → ServesAlone s new ran (λ i m. tokens.by_key m t (tokens.key_of m (register (state.thread m t) n)) (x i m))
-  by_its_key number some = by_key_so (λ i m. x i m number) (λ i m ss. by_some (state_with m s ss) t number key (x i (state_with m s ss)) some)
+  pub no_key : {new : Seen} {ran : Ran} → None ≡ number_of key
+      → ServesAlone s new ran (λ i m. tells m t (code NO_KEY)) → ServesAlone s new ran comes
+  no_key none serves =
+      serves_by t n c (λ i m z. by_key m t (key_of m z) (x i m)) is
+      (serves_as serves (λ i m ss h. by_none (state_with m s ss) t key (x i (state_with m s ss)) none))

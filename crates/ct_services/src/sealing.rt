@@ -9,8 +9,7 @@ ghost use Rattle.def_machine.specs.State.{register, thread};
 ghost use Rattle.def_step.specs.Quotas.{allocation};
 ghost use Rattle.def_step.specs.Tokens as tokens;
 ghost use Rattle.def_step.specs.Tokens.{is_key_row, sealed_object, as_key, as_token, key_of, token_object};
-ghost use Rattle.ct_heap.specs.Lookups.{found_as};
-ghost use Rattle.ct_services.specs.Arguments.{NamesQuota, number_of};
+ghost use Rattle.ct_services.specs.Arguments.{NamesQuota, Finds, number_of};
 ghost use Rattle.ct_services.specs.Serves.{ServesAlone};
 
 use crate::answering::{refuse, tell};
@@ -27,7 +26,7 @@ use def_profile::seals::TOKEN_TYPE;
 
 /// The live object that a capability is the whole of, where it is sealed as a key or a token.
 fn sealed_in<M: Memory + Drop>(engine: &Engine<M>, c: Live) -> Option<Found>
-    ensures { result ≡ found_as engine.now.objects (sealed_object engine.now.objects c) }
+    ensures { Finds engine.now.objects c (sealed_object engine.now.objects c) result }
 {
     if !c.cap.tag || c.seal != TOKEN_TYPE {
         return None;
@@ -57,9 +56,8 @@ fn key_in<M: Memory + Drop>(engine: &Engine<M>, c: Live) -> Option<u32>
 /// The live token that a capability is of, where it was made with this key.
 fn token_in<M: Memory + Drop>(engine: &Engine<M>, key: u32, c: Live) -> Option<Found>
     requires { list_any (is_key_row key) engine.now.tokens ≡ true }
-    ensures { result
-        ≡ found_as engine.now.objects
-        (as_token engine.now.tokens key (sealed_object engine.now.objects c)) }
+    ensures { Finds engine.now.objects c
+        (as_token engine.now.tokens key (sealed_object engine.now.objects c)) result }
 {
     match sealed_in(engine, c) {
         Some(found) => {
@@ -222,14 +220,7 @@ fn free_token<M: Memory + Drop>(engine: &mut Engine<M>, t: u32, quota: u32, key:
             if found.quota != quota {
                 return refuse(engine, t, NO_OBJECT);
             }
-            let object = found.object;
-            free_whole(
-                engine,
-                t,
-                quota,
-                object.base,
-                object.base as u64 + object.length as u64,
-            )
+            free_whole(engine, t, quota, base_of(c), c.bounds.top)
         }
         None => refuse(engine, t, NO_TOKEN),
     }

@@ -13,8 +13,12 @@ returns-in-Ok g c =
     let s = c.args.engine.now in
     let t = c.args.t in
     let q = c.in-Ok.quota in
-    by_its_quota s t c.tell.new.engine c.tell.result q (λ i m n. tells m t (integer ((root i n).limit - charges n m.objects))) c.in-Ok.ensures
-    (serves_as c.tell.ensures (λ i m ss h. ap (λ n. tells (state_with m s ss) t (integer n)) (remains_shown i (state_with m s ss) s q h.heap (record { objects = refl; next = refl }) ∙ sym c.remaining-left.ensures) ∙ ap (tells (state_with m s ss) t) (sym c.integer.ensures)))
+    by_its_quota s t q (λ i m n. tells m t (integer ((root i n).limit - charges n m.objects))) c.in-Ok.ensures
+    (serves_as c.tell.ensures
+    (λ i m ss h.
+    ap (λ n. tells (state_with m s ss) t (integer n))
+    (remains_shown i (state_with m s ss) s q h.heap (record { objects = refl; next = refl }) ∙ sym c.remaining-left.ensures)
+    ∙ ap (tells (state_with m s ss) t) (sym c.integer.ensures)))
 
 pub returns-in-Err : goal.returns-in-Err
 returns-in-Err g c = c.no_quota.ensures _

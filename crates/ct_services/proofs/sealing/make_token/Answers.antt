@@ -8,8 +8,10 @@ use Rattle.ct_services.proofs.sealing.make_token.Goals as goal
 pub returns-in-Some : goal.returns-in-Some
 returns-in-Some g c =
     let t = c.args.t in
-    by_its_key c.args.engine.now c.seal_new.new.engine t 12 c.seal_new.result c.register-c.result _ c.register-c.ensures c.in-Some.key c.in-Some.ensures.is
-    (serves_by t 11 c.register.result (λ i m x. made_token m t (Some c.in-Some.key) (allocation i m c.args.quota (cap_address x))) c.register.ensures (rw c.address-size.ensures at c.seal_new.ensures))
+    let key = c.in-Some.key in
+    by_its_key c.args.engine.now t 12 c.register-c.result _ c.register-c.ensures key c.in-Some.ensures.is
+    (serves_by t 11 c.register.result (λ i m x. made_token m t (Some key) (allocation i m c.args.quota (cap_address x)))
+    c.register.ensures (rw c.address-size.ensures at c.seal_new.ensures))
 
 pub returns-in-None : goal.returns-in-None
-returns-in-None g c = no_key c.args.engine.now c.refuse.new.engine c.args.t 12 c.refuse.result c.register-c.result _ c.register-c.ensures c.in-None.ensures.is c.refuse.ensures
+returns-in-None g c = no_key c.args.engine.now c.args.t 12 c.register-c.result _ c.register-c.ensures c.in-None.ensures.is c.refuse.ensures

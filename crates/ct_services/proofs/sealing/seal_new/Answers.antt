@@ -6,6 +6,7 @@ use Rattle.def_step.specs.Quotas.{hands_out}
 use Rattle.def_step.specs.Tokens.{row_among, with_row, made_token}
 use Rattle.ct_token.specs.Table.{row_for}
 use Rattle.ct_engine.specs.Grants.{new_object}
+use Rattle.ct_engine.specs.Written.{state_with}
 use Rattle.ct_services.proofs.Granted.{serves_made, serves_refused}
 use Rattle.ct_services.proofs.Sealed.{token_derived}
 use Rattle.ct_services.proofs.sealing.seal_new.Goals as goal
@@ -14,14 +15,17 @@ pub returns-in-Ok : goal.returns-in-Ok
 returns-in-Ok g c =
     let s = c.args.engine.now in
     let t = c.args.t in
+    let key = c.args.key in
     let h = c.in-Ok.ensures in
     let r : Object = new_object s c.args.quota c.args.size c.in-Ok.object.base in
-    serves_made s c.allocate_sealed.new.self c.hand_out.new.engine t c.args.quota c.args.size (λ m a. made_token m t c.args.key a)
-    c.in-Ok.object c.hand_out.result c.capability.result TOKEN_TYPE (row_among (row_for r.number c.args.key) s.tokens) (λ m. with_row m r c.args.key) h.is h.answer h.told
-    c.capability.ensures c.hand_out.ensures.engine c.hand_out.ensures.told (λ m. ap (λ (x : Cap). hands_out (with_row m r c.args.key) t r x) (sym (token_derived r))) (λ m ss. refl)
+    serves_made s c.allocate_sealed.new.self c.hand_out.new.engine t c.args.quota c.args.size (λ m a. made_token m t key a)
+    c.in-Ok.object c.hand_out.result c.capability.result TOKEN_TYPE (row_among (row_for r.number key) s.tokens)
+    h.is h.answer h.told c.capability.ensures c.hand_out.ensures.engine c.hand_out.ensures.told
+    (λ m ss. ap (λ (x : Cap). hands_out (with_row (state_with m s ss) r key) t r x) (sym (token_derived r)))
 
 pub returns-in-Err : goal.returns-in-Err
 returns-in-Err g c =
     let t = c.args.t in
-    serves_refused c.args.engine.now c.allocate_sealed.new.self c.decline.new.engine t c.args.quota c.args.size (λ m a. made_token m t c.args.key a)
-    c.decline.result c.in-Err.why c.in-Err.ensures.answer c.in-Err.ensures.is (λ m n. refl) c.decline.ensures
+    let h = c.in-Err.ensures in
+    serves_refused c.args.engine.now c.allocate_sealed.new.self c.decline.new.engine t c.args.quota c.args.size
+    (λ m a. made_token m t c.args.key a) c.decline.result c.in-Err.why h.answer h.is (λ m n. refl) c.decline.ensures

@@ -8,7 +8,8 @@ use Rattle.ct_services.proofs.sealing.token_key.Goals as goal
 pub returns-in-Ok : goal.returns-in-Ok
 returns-in-Ok g c =
     let t = c.args.t in
-    by_its_quota c.args.engine.now t c.seal_new.new.engine c.seal_new.result c.in-Ok.quota (λ i m q. made_token m t None (allocation i m q GRANULE)) c.in-Ok.ensures c.seal_new.ensures
+    by_its_quota c.args.engine.now t c.in-Ok.quota (λ i m q. made_token m t None (allocation i m q GRANULE)) c.in-Ok.ensures
+    c.seal_new.ensures
 
 pub returns-in-Err : goal.returns-in-Err
 returns-in-Err g c = c.no_quota.ensures _

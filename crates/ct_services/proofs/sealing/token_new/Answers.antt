@@ -9,8 +9,10 @@ use Rattle.ct_services.proofs.sealing.token_new.Goals as goal
 pub returns-in-Ok : goal.returns-in-Ok
 returns-in-Ok g c =
     let t = c.args.t in
-    by_its_quota c.args.engine.now t c.make_token.new.engine c.make_token.result c.in-Ok.quota
-    (λ i m q. by_key m t (key_of m (register (thread m t) 12)) (λ key. made_token m t (Some key) (allocation i m q (cap_address (register (thread m t) 11))))) c.in-Ok.ensures c.make_token.ensures
+    by_its_quota c.args.engine.now t c.in-Ok.quota
+    (λ i m q. by_key m t (key_of m (register (thread m t) 12))
+    (λ key. made_token m t (Some key) (allocation i m q (cap_address (register (thread m t) 11))))) c.in-Ok.ensures
+    c.make_token.ensures
 
 pub returns-in-Err : goal.returns-in-Err
 returns-in-Err g c = c.no_quota.ensures _
