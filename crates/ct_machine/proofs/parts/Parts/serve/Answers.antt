@@ -1,4 +1,4 @@
-use Rattle.std.proofs.Common.{◌≡◌, sym, subst, arith}
+use Rattle.std.proofs.Common.{◌≡◌, refl, sym, subst, arith}
 use Rattle.def_native.specs.declared.TheConstants.{SWITCH}
 use Rattle.ct_entry.specs.Listed.{Listed}
 use Rattle.def_machine.specs.Platform.{MachineRow}
