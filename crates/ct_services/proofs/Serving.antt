@@ -1,29 +1,23 @@
--- What routines share, in each state of the machine that holds what is seen: an answer, the check of c1, and what
--- comes by a capability in a register.
-use Rattle.std.proofs.Common.{ℕ, ◌+◌, ◌≡◌, ◌≤◌, ◌∙◌, Bool, true, false, List, length, Option, Some, None, if◌then◌else◌, refl, sym, ap, subst, arith}
+-- What routines share, in each state of the machine that holds what is seen: an answer, and the check of c1.
+use Rattle.std.proofs.Common.{ℕ, ◌+◌, ◌≡◌, ◌≤◌, ◌∙◌, List, length, Option, Some, None, refl, sym, ap, subst, arith}
 use Rattle.std.specs.Prelude.{option_map}
 use Rattle.std.proofs.lemmas.List.{length-set}
-use Rattle.def_profile.specs.declared.answers.TheConstants.{NO_QUOTA, NO_KEY}
 use Rattle.def_words.specs.declared.Cap.{Cap}
 use Rattle.def_words.specs.declared.Trap.{Trap}
 use Rattle.def_sched.specs.declared.Status.{Status}
 use Rattle.def_sched.specs.declared.Status.TheVariants.{Ended}
 use Rattle.def_machine.specs.Image.{Image}
 use Rattle.def_machine.specs.State as state
-use Rattle.def_machine.specs.State.{State, Thread, Object, register}
+use Rattle.def_machine.specs.State.{State, Thread, register}
 use Rattle.def_step.specs.Checks.{Check, first_failed}
 use Rattle.def_step.specs.Switch.{return_checks}
 use Rattle.def_step.specs.Routines as routine
-use Rattle.def_step.specs.Routines.{Traps, Leaves, checked, answered, answers, tells, code}
-use Rattle.def_step.specs.Quotas as quotas
-use Rattle.def_step.specs.Quotas.{is_quota_cap}
-use Rattle.def_step.specs.Tokens.{sealed_object, as_key, key_of, by_key}
+use Rattle.def_step.specs.Routines.{Traps, Leaves, checked, answered, answers, tells}
 use Rattle.ct_engine.specs.Seen.{Seen, thread}
 use Rattle.ct_engine.specs.Written.{state_with}
 use Rattle.ct_execute.specs.declared.ran.ActBy.{ActBy}
 use Rattle.ct_execute.specs.declared.ran.Ran.{Ran}
 use Rattle.ct_execute.specs.declared.ran.Ran.TheVariants.{Went, Trapped}
-use Rattle.ct_services.specs.Arguments.{IsQuota, number_of}
 use Rattle.ct_services.specs.Served.{answered_in}
 use Rattle.ct_services.specs.Serves.{Holds, ComesTo, StaysBeside, Routine, Serves, ServesAlone, told_by}
 use Rattle.ct_services.proofs.Statuses.{like_with, changed_with}
@@ -33,6 +27,10 @@ use Rattle.ct_services.proofs.Statuses.{like_with, changed_with}
 pub register_alike : (m : State) (s : Seen) (ss : List Status) (t n : ℕ)
     → register (thread s t) n ≡ register (state.thread (state_with m s ss) t) n
 register_alike m s ss t n = ap (λ (u : Thread). register u n) (sym (like_with s.threads ss t Ended))
+
+pub registers_alike : (m : State) (s : Seen) (ss : List Status) (t : ℕ)
+    → (state.thread (state_with m s ss) t).registers ≡ (thread s t).registers
+registers_alike m s ss t = ap (λ (u : Thread). u.registers) (like_with s.threads ss t Ended)
 
 pub answers_alike : (m : State) (s : Seen) (ss : List Status) (t : ℕ) (v : Cap)
     → answers (state_with m s ss) t v ≡ state_with m (answered_in s t v) ss
@@ -110,13 +108,6 @@ pub serves_as : {s new : Seen} {ran : Ran} {x y : Routine} → ServesAlone s new
     → ServesAlone s new ran y
 serves_as serves alike ss = serves_alike (serves ss) (λ i m h. alike i m ss h)
 
--- by a register, of which this is seen
-pub serves_by : {s new : Seen} {ran : Ran} (t n : ℕ) (c : Cap) (x : Image → State → Cap → routine.Ran)
-    → c ≡ register (thread s t) n → ServesAlone s new ran (λ i m. x i m c)
-    → ServesAlone s new ran (λ i m. x i m (register (state.thread m t) n))
-serves_by {s = s} t n c x is serves =
-    serves_as serves (λ i m ss h. ap (x i (state_with m s ss)) (sym (is ∙ register_alike m s ss t n)))
-
 -- ---- the check of c1
 
 pub checked_so : (cs : List Check) (x : routine.Ran) → first_failed cs ≡ None → checked cs x ≡ x
@@ -156,67 +147,3 @@ module _ (s : Seen) (t : ℕ) where
       (λ i m h.
       checked_so (return_checks (register (state.thread (state_with m s ss) t) 1)) (x i (state_with m s ss))
       (sym (failed_alike m ss) ∙ is))
-
-  pub serves_checked : (new : Seen) (ran : Ran) (x : Routine) → failed ≡ None → ServesAlone s new ran x
-      → ServesAlone s new ran (λ i m. checked (return_checks (register (state.thread m t) 1)) (x i m))
-  serves_checked new ran x is serves ss = serves_passed x is (serves ss)
-
--- ---- what comes by the quota in c10
-
-module _ (s : Seen) (t : ℕ) where
-  abbrev c10 : Cap
-  c10 = register (thread s t) 10
-
-  -- whether it is a quota's, where c1 leads back
-  by_test : {new : Seen} {ran : Ran} (b : Bool) (x : Image → State → Cap → routine.Ran) → failed s t ≡ None
-      → is_quota_cap c10 ≡ b
-      → ServesAlone s new ran (λ i m. if b then x i m c10 else tells m t (code NO_QUOTA))
-      → ServesAlone s new ran (λ i m. quotas.by_quota m t (x i m (register (state.thread m t) 10)))
-  by_test {new = new} {ran = ran} b x passes is serves =
-      let test : Bool → Cap → Routine = λ z c i m. if z then x i m c else tells m t (code NO_QUOTA) in
-      serves_checked s t new ran _ passes
-      (serves_by t 10 c10 (λ i m c. test (is_quota_cap c) c i m) refl
-      (subst (λ (z : Bool). ServesAlone s new ran (test z c10)) (sym is) serves))
-
-  pub no_quota : {new : Seen} {ran : Ran} (x : Routine) → failed s t ≡ None → is_quota_cap c10 ≡ false
-      → ServesAlone s new ran (λ i m. tells m t (code NO_QUOTA))
-      → ServesAlone s new ran (λ i m. quotas.by_quota m t (x i m))
-  no_quota x = by_test false (λ i m c. x i m)
-
-  pub by_its_quota : {new : Seen} {ran : Ran} (q : ℕ) (x : Image → State → ℕ → routine.Ran) → IsQuota s t q
-      → ServesAlone s new ran (λ i m. x i m q)
-      → ServesAlone s new ran (λ i m. quotas.by_quota m t (x i m (quotas.quota_in m t)))
-  by_its_quota {new = new} {ran = ran} q x w serves =
-      by_test true (λ i m c. x i m c.shadow.root) w.returns w.is
-      (subst (λ (n : ℕ). ServesAlone s new ran (λ i m. x i m n)) w.entry serves)
-
--- ---- what comes by the key in a register
-
-by_some : (m : State) (t n : ℕ) (o : Option Object) (x : ℕ → routine.Ran) → Some n ≡ number_of o → by_key m t o x ≡ x n
-by_some m t n None x e = absurd (cc)
-by_some m t n (Some key) x e = ap x (let same : key.number ≡ n = cc in same)
-
-by_none : (m : State) (t : ℕ) (o : Option Object) (x : ℕ → routine.Ran) → None ≡ number_of o
-    → by_key m t o x ≡ tells m t (code NO_KEY)
-by_none m t None x e = refl
-by_none m t (Some key) x e = absurd (cc)
-
-module _ (s : Seen) (t n : ℕ) (c : Cap) (x : Image → State → ℕ → routine.Ran)
-    (is : c ≡ register (thread s t) n) where
-  abbrev key : Option Object
-  key = as_key s.tokens (sealed_object s.objects c)
-
-  abbrev comes : Routine
-  comes i m = by_key m t (key_of m (register (state.thread m t) n)) (x i m)
-
-  pub by_its_key : {new : Seen} {ran : Ran} (number : ℕ) → Some number ≡ number_of key
-      → ServesAlone s new ran (λ i m. x i m number) → ServesAlone s new ran comes
-  by_its_key number some serves =
-      serves_by t n c (λ i m z. by_key m t (key_of m z) (x i m)) is
-      (serves_as serves (λ i m ss h. by_some (state_with m s ss) t number key (x i (state_with m s ss)) some))
-
-  pub no_key : {new : Seen} {ran : Ran} → None ≡ number_of key
-      → ServesAlone s new ran (λ i m. tells m t (code NO_KEY)) → ServesAlone s new ran comes
-  no_key none serves =
-      serves_by t n c (λ i m z. by_key m t (key_of m z) (x i m)) is
-      (serves_as serves (λ i m ss h. by_none (state_with m s ss) t key (x i (state_with m s ss)) none))

@@ -1,5 +1,5 @@
 -- What a routine of the heap is asked, over what is seen, and by which code an allocation is refused.
-use Rattle.std.specs.Prelude.{ℕ, ◌≡◌, ◌<◌, Bool, true, false, List, length, find, Option, Some, None, option_map, if◌then◌else◌}
+use Rattle.std.specs.Prelude.{ℕ, ◌≡◌, ◌<◌, Bool, true, false, List, length, find, Option, Some, None, if◌then◌else◌}
 use Rattle.def_profile.specs.declared.answers.TheConstants.{PAST_LIMIT, NO_PLACE, NO_SIZE, NO_PLACE_YET}
 use Rattle.def_words.specs.declared.Cap.{Cap}
 use Rattle.def_words.specs.declared.Trap.{Trap}
@@ -36,20 +36,16 @@ IsNoQuota s t None =
     × (is_quota_cap (register (thread s t) 10) ≡ false)
 
 -- the heap tells the object that a sealed capability is the whole of, and this is it
-pub record IsFound (objects : List Object) (c : Cap) (o : Option Object) (f : Found) : Type 0 where
+pub record IsFound (objects : List Object) (c : Cap) (f : Found) : Type 0 where
   pub object : Object
-  pub is : o ≡ Some object
   pub whole : find (is_all_of c) objects ≡ Some object
   pub number : f.object.number ≡ object.number
   pub quota : f.quota ≡ object.quota
 
--- where there is one
+-- and it is this one, where there is one
 abbrev pub Finds : List Object → Cap → Option Object → Option Found → Type 0
-Finds objects c o (Some f) = IsFound objects c o f
+Finds objects c o (Some f) = (w : IsFound objects c f) × (o ≡ Some w.object)
 Finds objects c o None = o ≡ None
-
-abbrev pub number_of : Option Object → Option ℕ
-number_of o = option_map (λ (r : Object). r.number) o
 
 -- a refusal's code; `waits` tells whether something is quarantined
 abbrev pub refusal_code : HeapRefusal → Bool → ℕ

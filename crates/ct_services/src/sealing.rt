@@ -9,7 +9,7 @@ ghost use Rattle.def_machine.specs.State.{register, thread};
 ghost use Rattle.def_step.specs.Quotas.{allocation};
 ghost use Rattle.def_step.specs.Tokens as tokens;
 ghost use Rattle.def_step.specs.Tokens.{is_key_row, sealed_object, as_key, as_token, key_of, token_object};
-ghost use Rattle.ct_services.specs.Arguments.{NamesQuota, Finds, number_of};
+ghost use Rattle.ct_services.specs.Arguments.{NamesQuota, Finds};
 ghost use Rattle.ct_services.specs.Serves.{ServesAlone};
 
 use crate::answering::{refuse, tell};
@@ -34,17 +34,17 @@ fn sealed_in<M: Memory + Drop>(engine: &Engine<M>, c: Live) -> Option<Found>
     engine.find(base_of(c), c.bounds.top)
 }
 
-/// The number of the live key that a capability is of.
-fn key_in<M: Memory + Drop>(engine: &Engine<M>, c: Live) -> Option<u32>
-    ensures is { result
-        ≡ number_of (as_key engine.now.tokens (sealed_object engine.now.objects c)) }
-    ensures key { IfSome result (λ n. list_any (is_key_row n) engine.now.tokens ≡ true) }
+/// The live key that a capability is of.
+fn key_in<M: Memory + Drop>(engine: &Engine<M>, c: Live) -> Option<Found>
+    ensures is { Finds engine.now.objects c
+        (as_key engine.now.tokens (sealed_object engine.now.objects c)) result }
+    ensures key { IfSome result
+        (λ f. list_any (is_key_row f.object.number) engine.now.tokens ≡ true) }
 {
     match sealed_in(engine, c) {
         Some(found) => {
-            let number = found.object.number;
-            if engine.is_key(number) {
-                Some(number)
+            if engine.is_key(found.object.number) {
+                Some(found)
             } else {
                 None
             }
@@ -132,7 +132,8 @@ fn make_token<M: Memory + Drop>(engine: &mut Engine<M>, t: u32, quota: u32) -> R
 {
     let c = engine.register(t, 12);
     match key_in(engine, c) {
-        Some(key) => {
+        Some(found) => {
+            let key = found.object.number;
             let size = engine.register(t, 11).address();
             seal_new(engine, t, quota, size, Some(key))
         }
@@ -185,7 +186,7 @@ fn open_by_key<M: Memory + Drop>(engine: &mut Engine<M>, t: u32) -> Ran
 {
     let c = engine.register(t, 10);
     match key_in(engine, c) {
-        Some(key) => open_token(engine, t, key),
+        Some(found) => open_token(engine, t, found.object.number),
         None => refuse(engine, t, NO_KEY),
     }
 }
@@ -237,7 +238,7 @@ fn take_token<M: Memory + Drop>(engine: &mut Engine<M>, t: u32, quota: u32) -> R
 {
     let c = engine.register(t, 11);
     match key_in(engine, c) {
-        Some(key) => free_token(engine, t, quota, key),
+        Some(found) => free_token(engine, t, quota, found.object.number),
         None => refuse(engine, t, NO_KEY),
     }
 }
