@@ -23,8 +23,12 @@ returns-clause-serves g c =
     return_passes s ss c.args.t _ c.register.ensures c.in_default.ensures
     (word_passes s ss c.args.t c.args.ram c.size.result c.register-word.result c.requires.ram c.size.ensures
     c.register-word.ensures _ c.in_default-word_trap.ensures.is
-    (rw (c.answer.ensures, c.integer.ensures, c.wake-count.ensures.count,
-    ap (λ (r : SchedRow). r.statuses) c.wake-count.ensures.row)
+    (rw (
+      c.answer.ensures,
+      c.integer.ensures,
+      c.wake-count.ensures.count,
+      ap (λ (r : SchedRow). r.statuses) c.wake-count.ensures.row,
+    )
     (serves_woken s ss c.args.t c.address.result c.address-most.result
     (c.address.ensures ∙ ap cap_address c.register-word.ensures)
     (c.address-most.ensures ∙ ap cap_address c.register-2.ensures))))
