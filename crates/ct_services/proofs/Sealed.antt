@@ -2,27 +2,24 @@
 use Rattle.std.proofs.Common.{ℕ, ◌≡◌, ◌+◌, ◌==◌, ◌&&◌, ◌∙◌, Bool, true, false, inl, inr, if◌then◌else◌, List, Option, Some, None, refl, sym, ap, eq-eqb}
 use Rattle.std.specs.Prelude.{find}
 use Rattle.std.proofs.Math.ListN.{get_or}
-use Rattle.std.proofs.lemmas.Bool.{and_from}
 use Rattle.law_lists.proofs.Finds.{find_is, find_tells}
 use Rattle.law_lists.proofs.Tests.{eq_tells}
+use Rattle.def_profile.specs.declared.rights.TheConstants.{HEAP_RIGHTS}
 use Rattle.def_profile.specs.declared.seals.TheConstants.{TOKEN_TYPE}
 use Rattle.def_words.specs.declared.Cap.{Cap}
 use Rattle.def_words.specs.Authority.{cap_base, cap_top}
-use Rattle.def_words.specs.Derive.{derive}
-use Rattle.def_words.specs.Seals.{cap_seal}
+use Rattle.def_words.specs.Derive.{derive, memory_root}
 use Rattle.def_machine.specs.State.{Object}
 use Rattle.def_machine.specs.Objects.{charges}
-use Rattle.def_step.specs.Tokens.{is_all_of, sealed_object, sealed_token}
+use Rattle.def_step.specs.Tokens.{is_all_of, sealed_token}
 use Rattle.ct_heap.specs.declared.rows.Found.{Found}
 use Rattle.ct_heap.specs.Told.{object_row, found}
-use Rattle.ct_heap.specs.Lookups.{spans, spans_of, found_as}
+use Rattle.ct_heap.specs.Lookups.{spans_of, found_as}
 use Rattle.ct_services.specs.Arguments.{Finds}
-use Rattle.ct_services.proofs.Granted.{if_true, cap_as}
 
--- ---- the object of a capability, by its bounds
-
-finds_so : (os : List Object) (c : Cap) (o q : Option Object) (f : Option Found) → f ≡ found_as os q → find (is_all_of c) os ≡ q → o ≡ q
-    → Finds os c o f
+-- the object of a capability, where the heap tells it
+pub finds_so : (os : List Object) (c : Cap) (o q : Option Object) (f : Option Found) → f ≡ found_as os q
+    → find (is_all_of c) os ≡ q → o ≡ q → Finds os c o f
 finds_so os c o None None e whole is = is
 finds_so os c o None (Some f) e whole is = absurd (cc)
 finds_so os c o (Some r) None e whole is = absurd (cc)
@@ -37,18 +34,9 @@ finds_so os c o (Some r) (Some f) e whole is =
       is,
     )
 
-pub finds_by_bounds : (os : List Object) (base top : ℕ) (c : Cap) (f : Option Found) → f ≡ found_as os (find (spans base top) os)
-    → c.tag ≡ true → cap_seal c ≡ TOKEN_TYPE → base ≡ cap_base c → top ≡ cap_top c → Finds os c (sealed_object os c) f
-finds_by_bounds os base top c f found_is tag seal base_is top_is =
-    finds_so os c (sealed_object os c) (find (spans base top) os) f found_is
-    (sym (ap (λ b. find (spans b top) os) base_is ∙ ap (λ e. find (spans (cap_base c) e) os) top_is))
-    (if_true (c.tag && (cap_seal c == TOKEN_TYPE)) (find (is_all_of c) os) (and_from c.tag (cap_seal c == TOKEN_TYPE) tag (eq-eqb (cap_seal c) TOKEN_TYPE seal))
-    ∙ sym (ap (λ b. find (spans b top) os) base_is ∙ ap (λ e. find (spans (cap_base c) e) os) top_is))
-
--- ---- a token
-
 -- its capability is derived with the type of keys and tokens
-pub token_derived : (r : Object) → cap_as TOKEN_TYPE r ≡ sealed_token r
+pub token_derived : (r : Object)
+    → derive memory_root r.base r.length HEAP_RIGHTS r.base TOKEN_TYPE (record { root = r.quota; source = r.number }) ≡ sealed_token r
 unfolding derive
 token_derived r = refl
 

@@ -1,12 +1,9 @@
-use Rattle.std.proofs.Common.{refl, sym, ap}
+use Rattle.std.proofs.Common.{refl}
 use Rattle.def_profile.specs.declared.seals.TheConstants.{TOKEN_TYPE}
-use Rattle.def_words.specs.declared.Cap.{Cap}
 use Rattle.def_machine.specs.State.{Object}
-use Rattle.def_step.specs.Quotas.{hands_out}
-use Rattle.def_step.specs.Tokens.{row_among, with_row, made_token}
+use Rattle.def_step.specs.Tokens.{row_among, made_token}
 use Rattle.ct_token.specs.Table.{row_for}
 use Rattle.ct_engine.specs.Grants.{new_object}
-use Rattle.ct_engine.specs.Written.{state_with}
 use Rattle.ct_services.proofs.Granted.{serves_made, serves_refused}
 use Rattle.ct_services.proofs.Sealed.{token_derived}
 use Rattle.ct_services.proofs.sealing.seal_new.Goals as goal
@@ -21,7 +18,7 @@ returns-in-Ok g c =
     serves_made s c.allocate_sealed.new.self c.hand_out.new.engine t c.args.quota c.args.size (λ m a. made_token m t key a)
     c.in-Ok.object c.hand_out.result c.capability.result TOKEN_TYPE (row_among (row_for r.number key) s.tokens)
     h.is h.answer h.told c.capability.ensures c.hand_out.ensures.engine c.hand_out.ensures.told
-    (λ m ss. ap (λ (x : Cap). hands_out (with_row (state_with m s ss) r key) t r x) (sym (token_derived r)))
+    (λ m ss. rw (token_derived r) refl)
 
 pub returns-in-Err : goal.returns-in-Err
 returns-in-Err g c =
