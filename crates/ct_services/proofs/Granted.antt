@@ -1,5 +1,5 @@
 -- Objects that are made and freed, in each state of the machine that holds what is seen.
-use Rattle.std.proofs.Common.{ℕ, ◌+◌, ◌-◌, ◌≡◌, ◌&&◌, ◌∙◌, Bool, true, false, List, length, Option, Some, None, refl, sym, ap, subst, eq-eqb, if◌then◌else◌, arith}
+use Rattle.std.proofs.Common.{ℕ, ◌+◌, ◌-◌, ◌≡◌, ◌∙◌, true, List, length, Some, None, refl, sym, ap, subst, arith}
 use Rattle.std.specs.Prelude.{find}
 use Rattle.std.proofs.lemmas.List.{length-set}
 use Rattle.law_granules.proofs.Lists.{zeroed_length, marked_length}

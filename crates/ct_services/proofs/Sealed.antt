@@ -1,5 +1,5 @@
 -- What is found by a capability that is sealed as a key or a token, and what a routine of them comes to.
-use Rattle.std.proofs.Common.{ℕ, ◌≡◌, ◌+◌, ◌==◌, ◌&&◌, ◌∙◌, Bool, true, false, inl, inr, if◌then◌else◌, List, Option, Some, None, refl, sym, ap, eq-eqb}
+use Rattle.std.proofs.Common.{ℕ, ◌≡◌, ◌+◌, ◌==◌, ◌&&◌, ◌∙◌, Bool, true, false, inl, inr, List, Option, Some, None, refl, sym, ap, eq-eqb}
 use Rattle.std.specs.Prelude.{find}
 use Rattle.std.proofs.Math.ListN.{get_or}
 use Rattle.law_lists.proofs.Finds.{find_is, find_tells}

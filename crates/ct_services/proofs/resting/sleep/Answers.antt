@@ -6,5 +6,8 @@ pub returns-clause-serves : goal.returns-clause-serves
 returns-clause-serves g c =
     serves_alike c.rest.ensures.serves
     (λ i m h.
-    rw (registers_alike m c.args.engine.now c.args.sched.now.statuses c.args.t, c.address-ticks.ensures,
-    c.register.ensures) refl)
+    rw (
+      registers_alike m c.args.engine.now c.args.sched.now.statuses c.args.t,
+      c.address-ticks.ensures,
+      c.register.ensures,
+    ) refl)
