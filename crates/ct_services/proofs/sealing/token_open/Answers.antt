@@ -1,5 +1,4 @@
-use Rattle.std.proofs.Common.{◌∙◌, refl, sym}
-use Rattle.def_words.specs.declared.Cap.{Cap}
+use Rattle.std.proofs.Common.{refl, sym}
 use Rattle.ct_services.proofs.Serving.{serves_as, serves_trap, registers_alike}
 use Rattle.ct_services.proofs.sealing.token_open.Goals as goal
 
