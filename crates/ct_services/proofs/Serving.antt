@@ -1,5 +1,5 @@
--- What routines share, in each state of the machine that holds what is seen: an answer, and the check of c1.
-use Rattle.std.proofs.Common.{ℕ, ◌+◌, ◌≡◌, ◌≤◌, ◌∙◌, List, length, Option, Some, None, refl, sym, ap, subst, arith}
+-- What routines share, in each state of the machine that holds what is seen: an answer, and a trap.
+use Rattle.std.proofs.Common.{ℕ, ◌+◌, ◌≡◌, ◌≤◌, ◌∙◌, List, length, Option, None, refl, sym, ap, subst, arith}
 use Rattle.std.specs.Prelude.{option_map}
 use Rattle.std.proofs.lemmas.List.{length-set}
 use Rattle.def_words.specs.declared.Cap.{Cap}
@@ -9,10 +9,7 @@ use Rattle.def_sched.specs.declared.Status.TheVariants.{Ended}
 use Rattle.def_machine.specs.Image.{Image}
 use Rattle.def_machine.specs.State as state
 use Rattle.def_machine.specs.State.{State, Thread, register}
-use Rattle.def_step.specs.Checks.{Check, first_failed}
-use Rattle.def_step.specs.Switch.{return_checks}
-use Rattle.def_step.specs.Routines as routine
-use Rattle.def_step.specs.Routines.{Traps, Leaves, checked, answered, answers, tells}
+use Rattle.def_step.specs.Routines.{Traps, Leaves, answered, answers, tells}
 use Rattle.ct_engine.specs.Seen.{Seen, thread}
 use Rattle.ct_engine.specs.Written.{state_with}
 use Rattle.ct_execute.specs.declared.ran.ActBy.{ActBy}
@@ -108,14 +105,7 @@ pub serves_as : {s new : Seen} {ran : Ran} {x y : Routine} → ServesAlone s new
     → ServesAlone s new ran y
 serves_as serves alike ss = serves_alike (serves ss) (λ i m h. alike i m ss h)
 
--- ---- the check of c1
-
-pub checked_so : (cs : List Check) (x : routine.Ran) → first_failed cs ≡ None → checked cs x ≡ x
-checked_so cs x is = rw is refl
-
-pub failed_so : (cs : List Check) (x : routine.Ran) (why : Trap) → first_failed cs ≡ Some why
-    → checked cs x ≡ Traps why
-failed_so cs x why is = rw is refl
+-- ---- a trap
 
 -- where the routine traps nothing has changed
 pub serves_trapped : (s : Seen) (ss : List Status) (why : Trap) (x : Routine)
@@ -123,27 +113,3 @@ pub serves_trapped : (s : Seen) (ss : List Status) (why : Trap) (x : Routine)
     → Serves s ss s ss (Trapped why) x
 serves_trapped s ss why x is =
     record { comes = is; same = (refl, refl); beside = same_beside s; made = omega arith; many = refl; ready = λ r. r }
-
-module _ (s : Seen) (t : ℕ) where
-  abbrev failed : Option Trap
-  failed = first_failed (return_checks (register (thread s t) 1))
-
-  failed_alike : (m : State) (ss : List Status)
-      → failed ≡ first_failed (return_checks (register (state.thread (state_with m s ss) t) 1))
-  failed_alike m ss = ap (λ (c : Cap). first_failed (return_checks c)) (register_alike m s ss t 1)
-
-  pub serves_trap : (why : Trap) (x : Routine) → failed ≡ Some why
-      → ServesAlone s s (Trapped why) (λ i m. checked (return_checks (register (state.thread m t) 1)) (x i m))
-  serves_trap why x is ss =
-      serves_trapped s ss why (λ i m. checked (return_checks (register (state.thread m t) 1)) (x i m))
-      (λ i m h.
-      failed_so (return_checks (register (state.thread (state_with m s ss) t) 1)) (x i (state_with m s ss)) why
-      (sym (failed_alike m ss) ∙ is))
-
-  pub serves_passed : {new : Seen} {ss after : List Status} {ran : Ran} (x : Routine) → failed ≡ None
-      → Serves s ss new after ran x → Serves s ss new after ran (λ i m. checked (return_checks (register (state.thread m t) 1)) (x i m))
-  serves_passed {ss = ss} x is serves =
-      serves_alike serves
-      (λ i m h.
-      checked_so (return_checks (register (state.thread (state_with m s ss) t) 1)) (x i (state_with m s ss))
-      (sym (failed_alike m ss) ∙ is))

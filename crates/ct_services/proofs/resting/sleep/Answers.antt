@@ -1,9 +1,13 @@
-use Rattle.std.proofs.Common.{ap, ◌∙◌}
-use Rattle.def_words.specs.Authority.{cap_address}
-use Rattle.ct_services.proofs.Rests.{serves_sleep}
+use Rattle.std.proofs.Common.{refl}
+use Rattle.ct_services.proofs.Serving.{serves_alike, registers_alike}
 use Rattle.ct_services.proofs.resting.sleep.Goals as goal
 
 pub returns-clause-serves : goal.returns-clause-serves
 returns-clause-serves g c =
-    serves_sleep c.args.engine.now c.args.sched.now.statuses c.args.t c.address-ticks.result
-    (c.address-ticks.ensures ∙ ap cap_address c.register.ensures) c.rest.ensures.serves
+    serves_alike c.rest.ensures.serves
+    (λ i m h.
+    rw (
+      registers_alike m c.args.engine.now c.args.sched.now.statuses c.args.t,
+      c.address-ticks.ensures,
+      c.register.ensures,
+    ) refl)
