@@ -23,7 +23,8 @@ use Rattle.ct_heap.specs.declared.rows.HeapRefusal.{HeapRefusal}
 use Rattle.ct_heap.specs.declared.rows.HeapRefusal.TheVariants.{Size, Quota, NoGap}
 use Rattle.ct_heap.specs.Lookups.{spans_of}
 use Rattle.ct_engine.specs.Seen.{Seen}
-use Rattle.ct_engine.specs.Grants.{IsTold, WasWhole, new_object, with_object, allocation_in, refused_as, whole_in, freed, freed_by}
+use Rattle.ct_engine.specs.Grants.{IsTold, new_object, with_object, allocation_in, refused_as}
+use Rattle.ct_engine.specs.Grants.{WasWhole, whole_in, freed, freed_by}
 use Rattle.ct_engine.specs.Written.{SharesObjects, state_with}
 use Rattle.ct_engine.proofs.Freeing.{whole_says, freed_shown}
 use Rattle.ct_engine.proofs.Granted.{allocation_same}
@@ -46,7 +47,8 @@ refused_so s NoGap = refl
 module _ (s u new : Seen) (t quota size : ℕ) (comes : State → Allocation → Ran) where
   -- the written one comes to this
   by_allocation : (a : Allocation) (i : Image) (m : State) (ss : List Status) → allocation_in s quota size ≡ a
-      → Holds i s ss → comes (state_with m s ss) (allocation i (state_with m s ss) quota size) ≡ comes (state_with m s ss) a
+      → Holds i s ss
+      → comes (state_with m s ss) (allocation i (state_with m s ss) quota size) ≡ comes (state_with m s ss) a
   by_allocation a i m ss is h =
       let shares : SharesObjects (state_with m s ss) s = record { objects = refl; next = refl } in
       ap (comes (state_with m s ss)) (sym (allocation_same i (state_with m s ss) s quota size h.heap shares) ∙ is)
@@ -71,11 +73,12 @@ module _ (s u new : Seen) (t quota size : ℕ) (comes : State → Allocation →
 
   -- an object is handed out, with these rows of tokens
   pub serves_made : (o : heap.Object) (ran : engine.Ran) (v : Cap) (kind : ℕ) (rows : List Token)
-      → u ≡ with_object (record s { tokens = rows }) (made_at o.base) → allocation_in s quota size ≡ Made (made_at o.base)
-      → IsTold u o (made_at o.base) → v ≡ cap_at kind o.number o.base o.length → new ≡ answered_in u t v
+      → u ≡ with_object (record s { tokens = rows }) (made_at o.base)
+      → allocation_in s quota size ≡ Made (made_at o.base) → IsTold u o (made_at o.base) → v ≡ cap_at kind o.number o.base o.length → new ≡ answered_in u t v
       → ran ≡ Went (Some (act_by quota (Allocate o.number o.base o.length o.live)))
       → ((m : State) (ss : List Status) → comes (state_with m s ss) (Made (made_at o.base))
-      ≡ hands_out (record (state_with m s ss) { tokens = rows }) t (made_at o.base) (cap_at kind s.next o.base (length_for size)))
+      ≡ hands_out (record (state_with m s ss) { tokens = rows }) t (made_at o.base)
+      (cap_at kind s.next o.base (length_for size)))
       → ServesAlone s new ran (λ i m. comes m (allocation i m quota size))
   serves_made o ran v kind rows left is told value now ran_is made =
       rw (now, ran_is)

@@ -9,7 +9,8 @@ returns-in-Some g c =
     let t = c.args.t in
     let fails = rw c.in-Some.is at c.requires.none in
     λ x ss.
-    serves_trapped s ss c.in-Some.trap (λ i m. by_quota m t (x i m)) (λ i m h. rw (registers_alike m s ss t, fails) refl)
+    serves_trapped s ss c.in-Some.trap (λ i m. by_quota m t (x i m))
+    (λ i m h. rw (registers_alike m s ss t, fails) refl)
 
 pub returns-in-None : goal.returns-in-None
 returns-in-None g c =
