@@ -1,10 +1,9 @@
 -- Objects that are made and freed, in each state of the machine that holds what is seen.
-use Rattle.std.proofs.Common.{ℕ, ◌+◌, ◌-◌, ◌≡◌, ◌∙◌, true, List, length, Some, None, refl, sym, ap, subst, arith}
+use Rattle.std.proofs.Common.{ℕ, ◌+◌, ◌-◌, ◌≡◌, ◌∙◌, true, List, Some, refl, sym, ap, arith}
 use Rattle.std.specs.Prelude.{find}
 use Rattle.std.proofs.lemmas.List.{length-set}
 use Rattle.law_granules.proofs.Lists.{zeroed_length, marked_length}
 use Rattle.ct_entry.specs.declared.acts.Act.TheVariants.{Allocate, Free}
-use Rattle.def_profile.specs.declared.answers.TheConstants.{NO_OBJECT}
 use Rattle.def_profile.specs.declared.layout.TheConstants.{CHUNK_HEAD}
 use Rattle.def_profile.specs.declared.rights.TheConstants.{HEAP_RIGHTS}
 use Rattle.def_words.specs.declared.Cap.{Cap}
@@ -24,7 +23,8 @@ use Rattle.ct_heap.specs.declared.rows.HeapRefusal.{HeapRefusal}
 use Rattle.ct_heap.specs.declared.rows.HeapRefusal.TheVariants.{Size, Quota, NoGap}
 use Rattle.ct_heap.specs.Lookups.{spans_of}
 use Rattle.ct_engine.specs.Seen.{Seen}
-use Rattle.ct_engine.specs.Grants.{IsTold, WasWhole, new_object, with_object, allocation_in, refused_as, whole_in, freed, freed_by}
+use Rattle.ct_engine.specs.Grants.{IsTold, new_object, with_object, allocation_in, refused_as}
+use Rattle.ct_engine.specs.Grants.{WasWhole, whole_in, freed, freed_by}
 use Rattle.ct_engine.specs.Written.{SharesObjects, state_with}
 use Rattle.ct_engine.proofs.Freeing.{whole_says, freed_shown}
 use Rattle.ct_engine.proofs.Granted.{allocation_same}
@@ -46,7 +46,8 @@ refused_so s NoGap = refl
 -- what comes of an allocation, as of a token
 module _ (s u new : Seen) (t quota size : ℕ) (comes : State → Allocation → Ran) where
   -- the written one comes to this
-  by_allocation : (a : Allocation) (i : Image) (m : State) (ss : List Status) → allocation_in s quota size ≡ a → Holds i s ss
+  by_allocation : (a : Allocation) (i : Image) (m : State) (ss : List Status) → allocation_in s quota size ≡ a
+      → Holds i s ss
       → comes (state_with m s ss) (allocation i (state_with m s ss) quota size) ≡ comes (state_with m s ss) a
   by_allocation a i m ss is h =
       let shares : SharesObjects (state_with m s ss) s = record { objects = refl; next = refl } in
@@ -57,7 +58,7 @@ module _ (s u new : Seen) (t quota size : ℕ) (comes : State → Allocation →
       → ServesAlone u new ran (λ i m. tells m t (code (refusal_code why (has_quarantined m.objects))))
       → ServesAlone s new ran (λ i m. comes m (allocation i m quota size))
   serves_refused ran why is same refuses serves =
-      serves_as (subst (λ (x : Seen). ServesAlone x new ran (λ i m. tells m t (code (refusal_code why (has_quarantined m.objects))))) same serves)
+      serves_as (rw same at serves)
       (λ i m ss h.
       by_allocation (Refused (refusal_code why (has_quarantined s.objects))) i m ss (is ∙ refused_so s why) h
       ∙ refuses (state_with m s ss) (refusal_code why (has_quarantined s.objects)))
@@ -67,19 +68,22 @@ module _ (s u new : Seen) (t quota size : ℕ) (comes : State → Allocation →
 
   -- the capability of an object, sealed as a type where that isn't 0
   abbrev cap_at : ℕ → ℕ → ℕ → ℕ → Cap
-  cap_at kind number base long = derive memory_root base long HEAP_RIGHTS base kind (record { root = quota; source = number })
+  cap_at kind number base long =
+      derive memory_root base long HEAP_RIGHTS base kind (record { root = quota; source = number })
 
   -- an object is handed out, with these rows of tokens
   pub serves_made : (o : heap.Object) (ran : engine.Ran) (v : Cap) (kind : ℕ) (rows : List Token)
-      → u ≡ with_object (record s { tokens = rows }) (made_at o.base) → allocation_in s quota size ≡ Made (made_at o.base)
-      → IsTold u o (made_at o.base) → v ≡ cap_at kind o.number o.base o.length → new ≡ answered_in u t v
+      → u ≡ with_object (record s { tokens = rows }) (made_at o.base)
+      → allocation_in s quota size ≡ Made (made_at o.base) → IsTold u o (made_at o.base) → v ≡ cap_at kind o.number o.base o.length → new ≡ answered_in u t v
       → ran ≡ Went (Some (act_by quota (Allocate o.number o.base o.length o.live)))
       → ((m : State) (ss : List Status) → comes (state_with m s ss) (Made (made_at o.base))
-      ≡ hands_out (record (state_with m s ss) { tokens = rows }) t (made_at o.base) (cap_at kind s.next o.base (length_for size)))
+      ≡ hands_out (record (state_with m s ss) { tokens = rows }) t (made_at o.base)
+      (cap_at kind s.next o.base (length_for size)))
       → ServesAlone s new ran (λ i m. comes m (allocation i m quota size))
   serves_made o ran v kind rows left is told value now ran_is made =
       rw (now, ran_is)
-      (serves_answer s u t v (Some (act_by quota (Allocate o.number o.base o.length o.live))) (λ i m. comes m (allocation i m quota size))
+      (serves_answer s u t v (Some (act_by quota (Allocate o.number o.base o.length o.live)))
+      (λ i m. comes m (allocation i m quota size))
       (rw left (record { size = refl; threads = refl; made = omega arith; same = refl }))
       (λ i m ss h.
       by_allocation (Made (made_at o.base)) i m ss is h ∙ made m ss
@@ -87,34 +91,28 @@ module _ (s u new : Seen) (t quota size : ℕ) (comes : State → Allocation →
 
 -- ---- a free
 
-module _ (s u new : Seen) (t quota base top : ℕ) (left : u ≡ freed_by s t (whole_in s quota base top)) where
-  pub serves_freed : (o : heap.Object) (v : Cap) → WasWhole s u quota base top o → v ≡ integer 0 → new ≡ answered_in u t v
-      → ServesAlone s new (Went (Some (act_by quota (Free o.number o.base o.length o.live))))
-      (λ i m. freed_as i m t (find (spans_of quota base top) m.objects))
-  serves_freed o v w value now =
-      let r : Object = w.object in
-      let freed_is : u ≡ freed s t r = left ∙ ap (freed_by s t) w.is in
-      let charged : r.quota ≡ quota = (whole_says quota base top s.objects r w.is).quota_is in
-      let zeroed : List Granule = zeroed_from r.base (r.base + r.length) s.region.ram s.granules in
-      let became : Becomes s u = rw freed_is (record {
-        size = marked_length (r.base - CHUNK_HEAD) (r.base + r.length) true s.region.ram zeroed
-            ∙ zeroed_length r.base (r.base + r.length) s.region.ram s.granules;
-        threads = length-set s.threads t _;
-        made = omega arith;
-        same = refl;
-      }) in
-      let leaves : State → Ran = λ y. Leaves (answers y t (integer 0)) (Some (r.quota, Free r.number r.base r.length (charges r.quota y.objects))) in
-      rw now
-      (serves_answer s u t v (Some (act_by quota (Free o.number o.base o.length o.live)))
-      (λ i m. freed_as i m t (find (spans_of quota base top) m.objects)) became
-      (λ i m ss h.
-      ap (freed_as i (state_with m s ss) t) w.is
-      ∙ ap leaves (freed_shown i m s ss t r h.ram ∙ ap (λ (x : Seen). state_with m x ss) (sym freed_is))
-      ∙ rw (value, w.told.number, w.told.base, w.told.length, w.told.live, charged) refl))
-
-  pub serves_none : (ran : engine.Ran) → whole_in s quota base top ≡ None → ServesAlone u new ran (λ i m. tells m t (code NO_OBJECT))
-      → ServesAlone s new ran (λ i m. freed_as i m t (find (spans_of quota base top) m.objects))
-  serves_none ran none serves =
-      serves_as
-      (subst (λ (x : Seen). ServesAlone x new ran (λ i m. tells m t (code NO_OBJECT))) (left ∙ ap (freed_by s t) none) serves)
-      (λ i m ss h. ap (freed_as i (state_with m s ss) t) none)
+pub serves_freed : (s u new : Seen) (t quota base top : ℕ) → u ≡ freed_by s t (whole_in s quota base top)
+    → (o : heap.Object) (v : Cap) → WasWhole s u quota base top o → v ≡ integer 0 → new ≡ answered_in u t v
+    → ServesAlone s new (Went (Some (act_by quota (Free o.number o.base o.length o.live))))
+    (λ i m. freed_as i m t (find (spans_of quota base top) m.objects))
+serves_freed s u new t quota base top left o v w value now =
+    let r : Object = w.object in
+    let freed_is : u ≡ freed s t r = left ∙ ap (freed_by s t) w.is in
+    let charged : r.quota ≡ quota = (whole_says quota base top s.objects r w.is).quota_is in
+    let zeroed : List Granule = zeroed_from r.base (r.base + r.length) s.region.ram s.granules in
+    let became : Becomes s u = rw freed_is (record {
+      size = marked_length (r.base - CHUNK_HEAD) (r.base + r.length) true s.region.ram zeroed
+          ∙ zeroed_length r.base (r.base + r.length) s.region.ram s.granules;
+      threads = length-set s.threads t _;
+      made = omega arith;
+      same = refl;
+    }) in
+    let leaves : State → Ran = λ y.
+    Leaves (answers y t (integer 0)) (Some (r.quota, Free r.number r.base r.length (charges r.quota y.objects))) in
+    rw now
+    (serves_answer s u t v (Some (act_by quota (Free o.number o.base o.length o.live)))
+    (λ i m. freed_as i m t (find (spans_of quota base top) m.objects)) became
+    (λ i m ss h.
+    ap (freed_as i (state_with m s ss) t) w.is
+    ∙ ap leaves (freed_shown i m s ss t r h.ram ∙ ap (λ (x : Seen). state_with m x ss) (sym freed_is))
+    ∙ rw (value, w.told.number, w.told.base, w.told.length, w.told.live, charged) refl))

@@ -1,5 +1,5 @@
 -- What is found by a capability that is sealed as a key or a token, and what a routine of them comes to.
-use Rattle.std.proofs.Common.{ℕ, ◌≡◌, ◌+◌, ◌==◌, ◌&&◌, ◌∙◌, Bool, true, false, inl, inr, List, Option, Some, None, refl, sym, ap, eq-eqb}
+use Rattle.std.proofs.Common.{ℕ, ◌≡◌, ◌+◌, ◌==◌, ◌&&◌, ◌∙◌, Bool, true, false, inl, inr, List, Option, Some, None, refl, ap, eq-eqb}
 use Rattle.std.specs.Prelude.{find}
 use Rattle.std.proofs.Math.ListN.{get_or}
 use Rattle.law_lists.proofs.Finds.{find_is, find_tells}
@@ -36,7 +36,8 @@ finds_so os c o (Some r) (Some f) e whole is =
 
 -- its capability is derived with the type of keys and tokens
 pub token_derived : (r : Object)
-    → derive memory_root r.base r.length HEAP_RIGHTS r.base TOKEN_TYPE (record { root = r.quota; source = r.number }) ≡ sealed_token r
+    → derive memory_root r.base r.length HEAP_RIGHTS r.base TOKEN_TYPE (record { root = r.quota; source = r.number })
+    ≡ sealed_token r
 unfolding derive
 token_derived r = refl
 
@@ -51,8 +52,8 @@ no_less true true b t is e = e
 no_less true false b t is e = absurd (cc)
 no_less false q b t is e = e
 
-pub of_quota : (os : List Object) (c : Cap) (r : Object) (quota base top : ℕ) → r.quota ≡ quota → base ≡ cap_base c → top ≡ cap_top c
-    → find (is_all_of c) os ≡ Some r → find (spans_of quota base top) os ≡ Some r
+pub of_quota : (os : List Object) (c : Cap) (r : Object) (quota base top : ℕ) → r.quota ≡ quota → base ≡ cap_base c
+    → top ≡ cap_top c → find (is_all_of c) os ≡ Some r → find (spans_of quota base top) os ≡ Some r
 of_quota os c r quota base top charged base_is top_is whole =
     let first = find_tells (is_all_of c) os r whole in
     rw (base_is, top_is)
@@ -65,12 +66,10 @@ of_quota os c r quota base top charged base_is top_is whole =
           (eq-eqb r.quota quota charged) first.passes;
       before = λ k lt.
           let x : Object = get_or os k r in
-          no_more x.live (x.quota == quota) (x.base == cap_base c) (x.base + x.length == cap_top c) (first.before k lt);
+          no_more x.live (x.quota == quota) (x.base == cap_base c) (x.base + x.length == cap_top c)
+          (first.before k lt);
     }))
 
--- whether it is charged to a quota
-pub charged_to : (a b quota : ℕ) → a ≡ b → a ≡ quota → (b == quota) ≡ true
-charged_to a b quota same is = eq-eqb b quota (sym same ∙ is)
-
+-- it is charged to another quota
 pub charged_else : (a b quota : ℕ) → a ≡ b → (a ≡ quota → ⊥) → (b == quota) ≡ false
 charged_else a b quota same other = elim (eq_tells b quota) [ inl e ↦ absurd (other (same ∙ e.1)) | inr e ↦ e.0 ]

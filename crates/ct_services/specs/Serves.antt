@@ -1,5 +1,5 @@
--- What the code of a native routine comes to: what the written routine comes to, in each state of the machine that holds
--- what is seen of the engine.
+-- What the code of a native routine comes to: what the written routine comes to, in each state of the machine that
+-- holds what is seen of the engine.
 use Rattle.std.specs.Prelude.{ℕ, ◌+◌, ◌≡◌, ◌≤◌, List, length, Option, Some, None, option_map}
 use Rattle.ct_entry.specs.declared.acts.Act.{Act}
 use Rattle.def_words.specs.Traps.{plain_trap}
@@ -53,9 +53,10 @@ pub record StaysBeside (s new : Seen) : Type 0 where
 abbrev pub RunsReady : Seen → List Status → Type 0
 RunsReady s ss = (t : ℕ) → s.running ≡ Some t → status_of ss t ≡ Ready
 
--- An engine and the threads' statuses became these, and the code came to this: what the written routine comes to. Where
--- it traps nothing has changed. One object is made at most, and the running thread stays ready.
-pub record Serves (s : Seen) (ss : List Status) (new : Seen) (after : List Status) (ran : Ran) (x : Routine) : Type 0 where
+-- An engine and the threads' statuses became these, and the code came to this: what the written routine comes to.
+-- Where it traps nothing has changed. One object is made at most, and the running thread stays ready.
+pub record Serves (s : Seen) (ss : List Status) (new : Seen) (after : List Status) (ran : Ran)
+    (x : Routine) : Type 0 where
   pub comes : (i : Image) (m : State) → Holds i s ss
       → ComesTo (state_with m new after) ran (x i (state_with m s ss))
   pub same : IfUnfinished ran ((new ≡ s) × (after ≡ ss))

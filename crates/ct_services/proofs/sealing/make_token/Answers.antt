@@ -7,9 +7,11 @@ returns-in-Some g c =
     let w = c.in-Some.ensures.is in
     serves_as c.seal_new.ensures
     (λ i m ss h.
-    rw (registers_alike m c.args.engine.now ss c.args.t, ← c.register-c.ensures, w.1, w.0.number, c.address-size.ensures, c.register.ensures) refl)
+    rw (registers_alike m c.args.engine.now ss c.args.t, ← c.register-c.ensures, w.1, w.0.number)
+    (rw (c.address-size.ensures, c.register.ensures) refl))
 
 pub returns-in-None : goal.returns-in-None
 returns-in-None g c =
     serves_as c.refuse.ensures
-    (λ i m ss h. rw (← register_alike m c.args.engine.now ss c.args.t 12, ← c.register-c.ensures, c.in-None.ensures.is) refl)
+    (λ i m ss h.
+    rw (← register_alike m c.args.engine.now ss c.args.t 12, ← c.register-c.ensures, c.in-None.ensures.is) refl)

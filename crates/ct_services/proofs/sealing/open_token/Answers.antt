@@ -4,11 +4,13 @@ use Rattle.ct_services.proofs.sealing.open_token.Goals as goal
 
 pub returns-in-Some : goal.returns-in-Some
 returns-in-Some g c =
+    let s = c.args.engine.now in
     serves_as c.tell.ensures
     (λ i m ss h.
-    rw (← register_alike m c.args.engine.now ss c.args.t 11, ← c.register-c.ensures, c.in-Some.ensures.1, c.opened.ensures) refl)
+    rw (← register_alike m s ss c.args.t 11, ← c.register-c.ensures, c.in-Some.ensures.1, c.opened.ensures) refl)
 
 pub returns-in-None : goal.returns-in-None
 returns-in-None g c =
     serves_as c.refuse.ensures
-    (λ i m ss h. rw (← register_alike m c.args.engine.now ss c.args.t 11, ← c.register-c.ensures, c.in-None.ensures) refl)
+    (λ i m ss h.
+    rw (← register_alike m c.args.engine.now ss c.args.t 11, ← c.register-c.ensures, c.in-None.ensures) refl)

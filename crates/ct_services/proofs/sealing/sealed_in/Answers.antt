@@ -12,5 +12,5 @@ returns g c =
     let os = c.args.engine.now.objects in
     let sealed : (c.args.c.tag && (cap_seal c.args.c == TOKEN_TYPE)) ≡ true = grind arith in
     let top : c.c-2.inside.bounds.top ≡ cap_top c.args.c = grind arith in
-    finds_so os c.args.c (sealed_object os c.args.c) (whole_at c.base_of.result c.c-2.inside.bounds.top os) c.find.result c.find.ensures
-    (rw (c.base_of.ensures, top) refl) (rw (sealed, c.base_of.ensures, top) refl)
+    finds_so os c.args.c (sealed_object os c.args.c) (whole_at c.base_of.result c.c-2.inside.bounds.top os)
+    c.find.result c.find.ensures (rw (c.base_of.ensures, top) refl) (rw (sealed, c.base_of.ensures, top) refl)

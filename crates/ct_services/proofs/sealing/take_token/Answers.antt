@@ -12,4 +12,5 @@ returns-in-Some g c =
 pub returns-in-None : goal.returns-in-None
 returns-in-None g c =
     serves_as c.refuse.ensures
-    (λ i m ss h. rw (← register_alike m c.args.engine.now ss c.args.t 11, ← c.register-c.ensures, c.in-None.ensures.is) refl)
+    (λ i m ss h.
+    rw (← register_alike m c.args.engine.now ss c.args.t 11, ← c.register-c.ensures, c.in-None.ensures.is) refl)

@@ -8,7 +8,8 @@ pub returns-then-opens : goal.returns-then-opens
 returns-then-opens g c =
     let w = c.in-Some.ensures in
     let ks = c.args.engine.now.tokens in
-    let row = and_parts (list_any (is_key_row c.args.key) ks) (list_any (is_row_of c.args.key c.in-Some.found.object.number) ks)
+    let number = c.in-Some.found.object.number in
+    let row = and_parts (list_any (is_key_row c.args.key) ks) (list_any (is_row_of c.args.key number) ks)
     (sym c.opens.ensures ∙ c.if-opens.true) in
     (w.0, rw (w.1, ← w.0.number, row.1) refl)
 
