@@ -51,8 +51,8 @@ returns-then-number-eq-SWITCH-clause-came g c =
 pub serve-requires-clause-may : goal.serve-requires-clause-may
 serve-requires-clause-may g c =
     let i = c.self.inside in
-    may_serve i.plan i.engine i.sched i.bus i.pending i.time i.counts c.args.t c.self.invariant.0 c.ram.result _
-    c.self.view_is c.requires.may c.requires.runs c.requires.made c.self.invariant.1 c.ram.ensures
+    may_serve i.plan i.engine i.sched i.bus i.pending i.time i.counts c.args.t c.self.invariant.0 c.ram-ram.result _
+    c.self.view_is c.requires.may c.requires.runs c.requires.made c.self.invariant.1 c.ram-ram.ensures
 
 pub serve-requires-clause-routine : goal.serve-requires-clause-routine
 serve-requires-clause-routine g c =
