@@ -203,13 +203,6 @@ unfinished_map Returned P Q f h = f h
 unfinished_map (Native number) P Q f h = f h
 unfinished_map (Trapped why) P Q f h = f h
 
--- where the thread has no frame left it has one to end
-pub over_unfinished : (ran : Ran) (e : Seen) (t handler : ℕ) (P : Type 0) → goes_after ran e t handler ≡ false → IfUnfinished ran P → P
-over_unfinished (Went acted) e t handler P over h = absurd cc
-over_unfinished Returned e t handler P over h = h
-over_unfinished (Native number) e t handler P over h = absurd cc
-over_unfinished (Trapped why) e t handler P over h = h
-
 -- ---- turns
 
 ready_is : (s : Status) → is_ready s ≡ true → s ≡ Ready

@@ -60,9 +60,6 @@ module _ (e : Seen) (r : SchedRow) (pending : Bool) (devices : List DeviceState)
   pub holder_else : (t : ℕ) (p : Posture) → Some t ≡ e.running → p ≡ (engine.thread e t).posture → p.off ≡ false → None ≡ holder (state_by e r pending devices time counts)
   holder_else t p runs is off = sym (holder_off (state_by e r pending devices time counts) e.running t p (sym runs) (posture_is t p is) off)
 
-  pub begun_none : (before : Option (ℕ × ℕ)) → None ≡ e.running → None ≡ begun_since before (state_by e r pending devices time counts) (holder (state_by e r pending devices time counts))
-  begun_none before none = ap (begun_since before (state_by e r pending devices time counts)) (sym (holder_none (state_by e r pending devices time counts) e.running (sym none)))
-
   pub begun_off : (before : Option (ℕ × ℕ)) (t : ℕ) (p : Posture) → Some t ≡ e.running → p ≡ (engine.thread e t).posture → p.off ≡ false
       → None ≡ begun_since before (state_by e r pending devices time counts) (holder (state_by e r pending devices time counts))
   begun_off before t p runs is off = ap (begun_since before (state_by e r pending devices time counts)) (holder_else t p runs is off)
@@ -98,9 +95,6 @@ off_preempted s t runs pending off = ap (preempted_from s) runs ∙ rw (pending,
 
 pub on_preempted : (s : State) (t : ℕ) → s.running ≡ Some t → s.pending ≡ true → (thread s t).posture.off ≡ false → preempted s ≡ record s { running = None; pending = false }
 on_preempted s t runs pending on = ap (preempted_from s) runs ∙ rw (pending, on) refl
-
-pub none_interrupted : (s : State) → s.running ≡ None → interrupted s s.running ≡ s
-none_interrupted s none = ap (interrupted s) none
 
 pub off_interrupted : (s : State) (t : ℕ) → s.running ≡ Some t → (thread s t).posture.off ≡ true → interrupted s s.running ≡ record s { pending = true }
 off_interrupted s t runs off = ap (interrupted s) runs ∙ rw off refl

@@ -46,12 +46,7 @@ impl<M: Memory + Drop> Parts<M> {
         if number == SWITCH {
             return ran_by_call(switch(&mut self.engine, t, self.plan.entries()));
         }
-        serve(
-            &mut self.engine,
-            &mut self.sched,
-            t,
-            self.plan.ram(),
-            number,
-        )
+        let ram = self.plan.ram();
+        serve(&mut self.engine, &mut self.sched, t, ram, number)
     }
 }

@@ -85,9 +85,6 @@ module _ (s : Seen) (ss : List Status) (t : ℕ) where
       serves_went (gives (thread s t)) s.running after (λ i m. Leaves (threads_woken m t address most) None)
       (λ i m h.
       let long : length ss ≡ length ts = h.statuses ∙ sym (length-set s.threads t (gives (thread s t))) in
-      rw (
-        statuses_with s.threads ss h.statuses,
-        changed_with gives (λ u q. refl) s.threads ss t,
-        twice_with ts ss after long (woken_many address most ss ∙ long),
-      ) refl)
+      rw (statuses_with s.threads ss h.statuses, changed_with gives (λ u q. refl) s.threads ss t)
+      (rw (twice_with ts ss after long (woken_many address most ss ∙ long)) refl))
       (woken_many address most ss) (λ ready u runs. woken_ready address most ss u (ready u runs))

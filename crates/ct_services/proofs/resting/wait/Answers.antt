@@ -28,16 +28,6 @@ returns-clause-serves g c =
     (λ i m h.
     let passes =
     c.in_default-word_trap.ensures.is i (state_with m s ss) (sym (c.requires.ram ∙ h.ram)) (sym c.size.ensures) in
-    rw (
-      registers_alike m s ss c.args.t,
-      ← c.register.ensures,
-      ← c.in_default.ensures,
-      c.word_held-held.ensures,
-      ← c.register-word.ensures,
-      ← passes,
-      c.address.ensures,
-      c.address-wanted.ensures,
-      c.register-2.ensures,
-      c.requires.ram,
-      h.ram,
-    ) refl)
+    rw (registers_alike m s ss c.args.t, ← c.register.ensures, ← c.in_default.ensures, c.word_held-held.ensures)
+    (rw (← c.register-word.ensures, ← passes, c.address.ensures, c.address-wanted.ensures, c.register-2.ensures)
+    (rw (c.requires.ram, h.ram) refl)))

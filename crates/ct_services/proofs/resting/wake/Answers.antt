@@ -26,23 +26,11 @@ pub returns-clause-serves : goal.returns-clause-serves
 returns-clause-serves g c =
     let s = c.args.engine.now in
     let ss = c.args.sched.now.statuses in
-    rw (
-      c.answer.ensures,
-      c.integer.ensures,
-      c.wake-count.ensures.count,
-      ap (λ (r : SchedRow). r.statuses) c.wake-count.ensures.row,
-    )
+    let after = ap (λ (r : SchedRow). r.statuses) c.wake-count.ensures.row in
+    rw (c.answer.ensures, c.integer.ensures, c.wake-count.ensures.count, after)
     (serves_alike (serves_woken s ss c.args.t c.address.result c.address-most.result)
     (λ i m h.
     let passes =
     c.in_default-word_trap.ensures.is i (state_with m s ss) (sym (c.requires.ram ∙ h.ram)) (sym c.size.ensures) in
-    rw (
-      registers_alike m s ss c.args.t,
-      ← c.register.ensures,
-      ← c.in_default.ensures,
-      ← c.register-word.ensures,
-      ← passes,
-      c.address.ensures,
-      c.address-most.ensures,
-      c.register-2.ensures,
-    ) refl))
+    rw (registers_alike m s ss c.args.t, ← c.register.ensures, ← c.in_default.ensures, ← c.register-word.ensures)
+    (rw (← passes, c.address.ensures, c.address-most.ensures, c.register-2.ensures) refl)))
