@@ -13,20 +13,17 @@ use Rattle.ct_heap.specs.declared.rows.HeapRefusal.{HeapRefusal}
 use Rattle.ct_heap.specs.declared.rows.HeapRefusal.TheVariants.{Size, Quota, NoGap}
 use Rattle.ct_engine.specs.Seen.{Seen, thread}
 
--- the entry of the quota that c10 names
-abbrev pub quota_in : Seen → ℕ → ℕ
-quota_in s t = (register (thread s t) 10).shadow.root
-
 -- where c10 is a quota's capability, it names one of the heap's quotas
 abbrev pub NamesQuota : Seen → ℕ → Type 0
 NamesQuota s t =
-    is_quota_cap (register (thread s t) 10) ≡ true → quota_in s t < length s.limits
+    is_quota_cap (register (thread s t) 10) ≡ true
+    → (register (thread s t) 10).shadow.root < length s.limits
 
 -- c1 leads back, and c10 is a capability of this quota
 pub record IsQuota (s : Seen) (t quota : ℕ) : Type 0 where
   pub returns : first_failed (return_checks (register (thread s t) 1)) ≡ None
   pub is : is_quota_cap (register (thread s t) 10) ≡ true
-  pub entry : quota ≡ quota_in s t
+  pub entry : quota ≡ (register (thread s t) 10).shadow.root
 
 -- the check of c1 that fails; else c10 is no quota's
 abbrev pub IsNoQuota : Seen → ℕ → Option Trap → Type 0
@@ -35,16 +32,16 @@ IsNoQuota s t None =
     (first_failed (return_checks (register (thread s t) 1)) ≡ None)
     × (is_quota_cap (register (thread s t) 10) ≡ false)
 
--- the heap tells the object that a sealed capability is the whole of, and this is it
-pub record IsFound (objects : List Object) (c : Cap) (f : Found) : Type 0 where
+-- the heap tells so the live object that a capability is the whole of
+pub record IsSealedObject (objects : List Object) (c : Cap) (f : Found) : Type 0 where
   pub object : Object
   pub whole : find (is_all_of c) objects ≡ Some object
   pub number : f.object.number ≡ object.number
   pub quota : f.quota ≡ object.quota
 
--- and it is this one, where there is one
+-- and that is this one; or this is none
 abbrev pub Finds : List Object → Cap → Option Object → Option Found → Type 0
-Finds objects c o (Some f) = (w : IsFound objects c f) × (o ≡ Some w.object)
+Finds objects c o (Some f) = (w : IsSealedObject objects c f) × (o ≡ Some w.object)
 Finds objects c o None = o ≡ None
 
 -- a refusal's code; `waits` tells whether something is quarantined

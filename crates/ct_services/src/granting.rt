@@ -7,8 +7,6 @@ ghost use Rattle.def_words.specs.Authority.{cap_base};
 ghost use Rattle.def_profile.specs.declared.rights.TheConstants as rights;
 ghost use Rattle.def_words.specs.Derive.{derive, memory_root};
 ghost use Rattle.def_machine.specs.Objects.{has_quarantined};
-ghost use Rattle.def_machine.specs.Image.{Image};
-ghost use Rattle.def_machine.specs.State.{State};
 ghost use Rattle.def_step.specs.Quotas as quotas;
 ghost use Rattle.def_step.specs.Quotas.{allocation, is_quota_cap};
 ghost use Rattle.def_step.specs.Routines as routine;
@@ -17,7 +15,7 @@ ghost use Rattle.ct_execute.specs.declared.ran.Ran.TheVariants.{Went};
 ghost use Rattle.ct_execute.specs.Deciding.{act_by};
 ghost use Rattle.ct_services.specs.Arguments.{NamesQuota, IsQuota, IsNoQuota, refusal_code};
 ghost use Rattle.ct_services.specs.Served.{answered_in};
-ghost use Rattle.ct_services.specs.Serves.{ServesAlone};
+ghost use Rattle.ct_services.specs.Serves.{Routine, ServesAlone};
 
 use crate::answering::{answer, refuse, tell};
 use ct_cap::{Live, Shadow, Trap, derive};
@@ -58,7 +56,7 @@ pub(crate) fn quota_named<M: Memory + Drop>(engine: &Engine<M>, t: u32) -> Resul
 pub(crate) fn no_quota<M: Memory + Drop>(engine: &mut Engine<M>, t: u32, why: Option<Trap>) -> Ran
     requires runs { engine.old.running ≡ Some t }
     requires none { IsNoQuota engine.old t why }
-    ensures { (x : Image → State → routine.Ran)
+    ensures { (x : Routine)
         → ServesAlone engine.old engine.new result (λ i m. quotas.by_quota m t (x i m)) }
 {
     match why {
