@@ -186,7 +186,7 @@ MARKED = {
         "inner": "execute executed_decided running_opened",
     },
     "ct_services": {
-        "inner": "answer switch allocate remaining rest wait wake token_key token_new",
+        "inner": "answer switch",
     },
     "ct_boot": {
         "inner": "launch",

@@ -1,6 +1,6 @@
 -- What the code leaves of a call is what the written switch leaves.
 use Rattle.std.proofs.Common.{ℕ, ◌≡◌, ◌<◌, Bool, List, length, Some, refl, sym, ap, ◌∙◌, subst}
-use Rattle.std.proofs.Math.ListN.{get_or, set}
+use Rattle.std.proofs.Math.ListN.{set}
 use Rattle.std.proofs.lemmas.List.{length-set}
 use Rattle.law_granules.proofs.Lists.{zeroed_length}
 use Rattle.def_confined.specs.Confined.{Confined}
@@ -11,7 +11,6 @@ use Rattle.def_sched.specs.declared.Status.TheVariants.{Ended}
 use Rattle.def_reach.specs.Roots.{compartment_of}
 use Rattle.def_machine.specs.Image.{Image, root, stack_base, frames_most}
 use Rattle.def_machine.specs.State.{State, Thread, DeviceState, Counts, thread, register}
-use Rattle.def_machine.specs.Threads as threads
 use Rattle.def_machine.specs.Threads.{with_statuses}
 use Rattle.def_machine.specs.Frames as frames
 use Rattle.def_machine.specs.Frames.{callee_start, entered}
@@ -34,12 +33,11 @@ use Rattle.law_callable.proofs.Showing.{ShowsCaller}
 use Rattle.ct_machine.specs.Parts.{state_by, IsKept}
 use Rattle.ct_machine.specs.Starting.{IsOfSound}
 use Rattle.ct_machine.specs.Going.{ran_by_call, CameTo}
-use Rattle.ct_machine.proofs.Statuses.{like_with, set_with}
+use Rattle.ct_services.proofs.Statuses.{changed_with, like_with}
 use Rattle.ct_machine.proofs.Taking.{ram_is, frames_with}
 use Rattle.ct_machine.proofs.Keeping.{machine_by, same_kept}
 use Rattle.ct_machine.proofs.Opened.{placed_at}
-use Rattle.ct_machine.proofs.Resting.{answers_are, register_alike}
-use Rattle.law_events.proofs.Waiting.{given_status}
+use Rattle.ct_services.proofs.Serving.{answers_alike, register_alike}
 
 module _ (i : Image) (e : Seen) (r : SchedRow) (k : DeviceStates) (pending : Bool) (time : ℕ) (c : Counts) (t : ℕ) (kept : IsKept i e r)
     (base : (area_at e t).stack ≡ stack_base i t) (most : areas.frames_most (area_at e t) ≡ frames_most i t) where
@@ -72,20 +70,13 @@ module _ (i : Image) (e : Seen) (r : SchedRow) (k : DeviceStates) (pending : Boo
   abbrev callee : ℕ → ℕ
   callee export = compartment_of (root i export).owner
 
-  -- the callee's thread has its caller's status
-  entered_alike : (export high : ℕ) → threads.with_status (callee_thread i twin t export high) (get_or r.statuses t Ended)
-      ≡ entered i (thread here t) (callee export) export high (callee_start i (thread here t) t (callee export) export high)
-  entered_alike export high =
-      ap (λ (u : Thread). entered i u (callee export) export high (callee_start i u t (callee export) export high)) (sym (given_status e.threads r.statuses t kept.statuses))
-
   enters_so : (export high : ℕ) → HeadStands i e t export
       → state_by ((after_call e i.entries t (Enters export high))) r pending k.states time c
       ≡ frames.switched i here t high (entered i (thread here t) (callee export) export high (callee_start i (thread here t) t (callee export) export high)) e.running
   enters_so export high heads =
       let there : with_statuses (set e.threads t (callee_thread i twin t export high)) r.statuses
       ≡ set (with_statuses e.threads r.statuses) t (entered i (thread here t) (callee export) export high (callee_start i (thread here t) t (callee export) export high)) =
-      set_with e.threads r.statuses t (callee_thread i twin t export high) kept.statuses
-      ∙ ap (λ (u : Thread). set (with_statuses e.threads r.statuses) t u) (entered_alike export high) in
+      sym (changed_with (λ (u : Thread). entered i u (callee export) export high (callee_start i u t (callee export) export high)) (λ u q. refl) e.threads r.statuses t) in
       ap (λ (x : Seen). state_by (x) r pending k.states time c) (enters_is i twin e t export high shows heads) ∙ rw there refl
 
   -- ---- what a call came to
@@ -93,11 +84,11 @@ module _ (i : Image) (e : Seen) (r : SchedRow) (k : DeviceStates) (pending : Boo
   came_so : (w : Switched) (e' : Seen) (x : Called) → ((export high : ℕ) → w ≡ Enters export high → HeadStands i e t export) → x ≡ call_outcome (register (engine.thread e t) 6) w → e' ≡ switched_in e i.entries t w
       → CameTo (machine e) (machine e') t (ran_by_call x) (ran (machine e).board here t (switched_to i here t w))
   came_so (Trapped why) e' x heads told_is now = rw (told_is, now) (record { is = refl; board = refl; counts = refl; unfinished = refl })
-  came_so TooDeep e' x heads told_is now = rw (told_is, now, ← answers_are i e r k pending time c t kept (code 12)) (record { is = refl; board = refl; counts = refl; unfinished = tt })
-  came_so NoStack e' x heads told_is now = rw (told_is, now, ← answers_are i e r k pending time c t kept (code 11)) (record { is = refl; board = refl; counts = refl; unfinished = tt })
+  came_so TooDeep e' x heads told_is now = rw (told_is, now, answers_alike here e r.statuses t (code 12)) (record { is = refl; board = refl; counts = refl; unfinished = tt })
+  came_so NoStack e' x heads told_is now = rw (told_is, now, answers_alike here e r.statuses t (code 11)) (record { is = refl; board = refl; counts = refl; unfinished = tt })
   came_so (Enters export high) e' x heads told_is now =
       let left = enters_so export high (heads export high refl) in
-      let six : (register (engine.thread e t) 6).shadow.root ≡ (register (thread here t) 6).shadow.root = ap (λ (z : Cap). z.shadow.root) (register_alike i e r k pending time c t kept 6) in
+      let six : (register (engine.thread e t) 6).shadow.root ≡ (register (thread here t) 6).shadow.root = ap (λ (z : Cap). z.shadow.root) (register_alike here e r.statuses t 6) in
       rw (told_is, now) (record {
         is = ap (λ (s : State). (s, Some (deed here t (register (engine.thread e t) 6).shadow.root (Call export)))) left
             ∙ ap (λ n. (frames.switched i here t high (entered i (thread here t) (callee export) export high (callee_start i (thread here t) t (callee export) export high)) e.running, Some (deed here t n (Call export)))) six;

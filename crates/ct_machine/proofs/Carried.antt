@@ -42,10 +42,9 @@ use Rattle.ct_execute.specs.Deciding.{act_by, Decision, Goes, Returns, Serves, T
 use Rattle.ct_execute.proofs.Executed.{executed_is}
 use Rattle.ct_machine.specs.Parts.{state_by, IsKept}
 use Rattle.ct_machine.specs.Going.{return_at, trap_at, goes_trapped, left_after, goes_after, status_after, deed_by, finished, IsDone, CameTo}
-use Rattle.ct_machine.proofs.Statuses.{set_with, end_with, like_with}
+use Rattle.ct_services.proofs.Statuses.{changed_with, like_with, set_both}
 use Rattle.ct_machine.proofs.Keeping.{machine_by, two_more, unfinished_map}
 use Rattle.ct_machine.proofs.Taking.{ram_is, frames_with}
-use Rattle.law_events.proofs.Waiting.{given_status}
 
 -- the error handler of a compartment, where it has one: it is of that compartment, and its table's head is as boot made
 -- it
@@ -73,15 +72,14 @@ module _ (i : Image) (e : Seen) (r : SchedRow) (pending : Bool) (devices : List 
   went_is pcc posture to value gs states =
       let there : with_statuses (set e.threads t (jumped (get_or e.threads t nobody) pcc posture to value)) r.statuses
       ≡ set (with_statuses e.threads r.statuses) t (jumped (get_or (with_statuses e.threads r.statuses) t nobody) pcc posture to value) =
-      set_with e.threads r.statuses t (jumped (get_or e.threads t nobody) pcc posture to value) kept.statuses
-      ∙ ap (λ (x : Thread). set (with_statuses e.threads r.statuses) t (jumped x pcc posture to value)) (sym (given_status e.threads r.statuses t kept.statuses)) in
+      sym (changed_with (λ (x : Thread). jumped x pcc posture to value) (λ x q. refl) e.threads r.statuses t) in
       rw there refl
 
   -- its last frame ends
   ended_one : (f : Frame) → (area_at e t).stack ≡ stack_base i t
       → state_by (calls.switched e t f.top nobody None) (sched.with_statuses r (slice_set r.statuses t Ended)) pending devices time c
       ≡ frames.switched i (state_by e r pending devices time c) t f.top nobody None
-  ended_one f base = rw (end_with e.threads r.statuses t kept.statuses, base, ram_is i e r kept) refl
+  ended_one f base = rw (set_both e.threads r.statuses t nobody Ended kept.statuses, base, ram_is i e r kept) refl
 
   -- one ends above others
   ended_more : (f : Frame) (fs : List Frame) (first second : Cap) → (area_at e t).stack ≡ stack_base i t
@@ -90,8 +88,7 @@ module _ (i : Image) (e : Seen) (r : SchedRow) (pending : Bool) (devices : List 
   ended_more f fs first second base =
       let there : with_statuses (set e.threads t (left_with (filtered_in e.region.ram e.granules) (get_or e.threads t nobody) f fs first second)) r.statuses
       ≡ set (with_statuses e.threads r.statuses) t (left_with (filtered_in e.region.ram e.granules) (get_or (with_statuses e.threads r.statuses) t nobody) f fs first second) =
-      set_with e.threads r.statuses t (left_with (filtered_in e.region.ram e.granules) (get_or e.threads t nobody) f fs first second) kept.statuses
-      ∙ ap (λ (x : Thread). set (with_statuses e.threads r.statuses) t (left_with (filtered_in e.region.ram e.granules) x f fs first second)) (sym (given_status e.threads r.statuses t kept.statuses)) in
+      sym (changed_with (λ (x : Thread). left_with (filtered_in e.region.ram e.granules) x f fs first second) (λ x q. refl) e.threads r.statuses t) in
       rw (there, base, ram_is i e r kept) refl
 
   -- the return
@@ -161,8 +158,7 @@ module _ (i : Image) (e : Seen) (r : SchedRow) (pending : Bool) (devices : List 
       ap (λ (es : Listed). handed_at e es handler) same ∙ ap (λ n. handed_at e i.entries n) is ∙ handed_made i e t f.actor heads own in
       let there : with_statuses (set e.threads t (handled_by (handed i f.actor) (get_or e.threads t nobody) why f fs)) r.statuses
       ≡ set (with_statuses e.threads r.statuses) t (handled i (get_or (with_statuses e.threads r.statuses) t nobody) why f fs) =
-      set_with e.threads r.statuses t (handled_by (handed i f.actor) (get_or e.threads t nobody) why f fs) kept.statuses
-      ∙ ap (λ (x : Thread). set (with_statuses e.threads r.statuses) t (handled_by (handed i f.actor) x why f fs)) (sym (given_status e.threads r.statuses t kept.statuses)) in
+      sym (changed_with (λ (x : Thread). handled_by (handed i f.actor) x why f fs) (λ x q. refl) e.threads r.statuses t) in
       ap (λ (h : Handed). whole (written e.region.ram old) (begun h)) made
       ∙ ap (λ n. whole (written n old) (begun (handed i f.actor))) (ram_is i e r kept)
       ∙ ap (λ (x : Thread). whole (written i.ram x) (begun (handed i f.actor))) (sym (like_with e.threads r.statuses t Ended))

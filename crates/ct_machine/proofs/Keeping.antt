@@ -1,8 +1,8 @@
 -- What is kept beside the state is kept by a step.
-use Rattle.std.proofs.Common.{ℕ, zero, suc, ◌*◌, ◌≡◌, ◌==◌, ◌<◌, Bool, true, false, cond, inl, inr, nat_lt, map, List, [], ◌∷◌, length, Option, Some, None, refl, sym, ap, ◌∙◌, subst, slice_index_or, arith}
+use Rattle.std.proofs.Common.{ℕ, zero, suc, ◌*◌, ◌≡◌, ◌<◌, Bool, true, false, cond, inl, inr, nat_lt, map, List, [], ◌∷◌, length, Option, Some, None, refl, sym, ap, ◌∙◌, subst, slice_index_or, arith}
 use Rattle.std.proofs.Math.ListN.{set}
 use Rattle.std.proofs.lemmas.List.{length-set, length-map}
-use Rattle.law_lists.proofs.Tests.{bool_tells, lt_tells, chosen, both_left}
+use Rattle.law_lists.proofs.Tests.{lt_tells, chosen, both_left}
 use Rattle.law_lists.proofs.Finds.{find_tells}
 use Rattle.ct_entry.specs.Listed.{Listed}
 use Rattle.def_words.specs.declared.Cap.{Cap}
@@ -36,7 +36,8 @@ use Rattle.ct_engine.specs.Handling.{is_marked, is_handled_at, handler_begun}
 use Rattle.ct_execute.specs.declared.ran.Ran.{Ran}
 use Rattle.ct_execute.specs.declared.ran.Ran.TheVariants.{Went, Returned, Native, Trapped}
 use Rattle.ct_execute.specs.Deciding.{Decision, Goes, Returns, Serves, Traps, Decided, IfUnfinished, Stays}
-use Rattle.ct_services.specs.Served.{unless, waited, switched_in}
+use Rattle.ct_services.specs.Served.{switched_in}
+use Rattle.ct_services.specs.Serves.{RunsReady, StaysBeside}
 use Rattle.ct_boot.specs.Placed.{ArePlaced}
 use Rattle.ct_machine.specs.Parts.{state_by, IsKept, IsCounted}
 use Rattle.ct_machine.specs.Going.{left_after, goes_after, status_after, CameTo}
@@ -48,10 +49,6 @@ machine_by i e r k pending time c = record { board = record { image = i; bases =
 pub two_more : (n : ℕ) → nat_lt 1 (suc (suc n)) ≡ true
 two_more n = elim (lt_tells 1 (suc (suc n))) [ inl a ↦ a.0 | inr a ↦ absurd (let few = a.1 in omega (arith, few)) ]
 
--- the running thread is ready
-abbrev pub RunsReady : Seen → List Status → Type 0
-RunsReady e ss = (t : ℕ) → e.running ≡ Some t → status_of ss t ≡ Ready
-
 pub none_runs : (e : Seen) (ss : List Status) → e.running ≡ None → RunsReady e ss
 none_runs e ss none t runs = absurd (let clash : None ≡ Some t = sym none ∙ runs in cc)
 
@@ -62,16 +59,6 @@ heap_stays i e new heap base end limits = record {
   end = heap.end ∙ sym end;
   limits = λ q. heap.limits q ∙ ap (λ (xs : List ℕ). slice_index_or xs q 0) (sym limits);
 }
-
--- what never changes of an engine, and how many granules and threads there are
-pub record StaysBeside (e new : Seen) : Type 0 where
-  pub region : new.region ≡ e.region
-  pub areas : new.areas ≡ e.areas
-  pub size : length new.granules ≡ length e.granules
-  pub threads : length new.threads ≡ length e.threads
-  pub heap_base : new.heap_base ≡ e.heap_base
-  pub heap_end : new.heap_end ≡ e.heap_end
-  pub limits : new.limits ≡ e.limits
 
 -- an engine of the same places, and as many statuses
 pub stays_kept : (i : Image) (e new : Seen) (r : SchedRow) (ss : List Status) → IsKept i e r → StaysBeside e new → length ss ≡ length r.statuses → RunsReady new ss → IsKept i new (with_statuses r ss)
@@ -121,13 +108,6 @@ stopped_so i e new r c time h is = rw is (same_kept i e (with_running e None) r 
 
 pub counted_so : (c : Counts) (time : ℕ) (e e' x : Seen) → e' ≡ x → x.next ≡ e.next → IsCounted c time e.next → IsCounted c time e'.next
 counted_so c time e e' x is same h = subst (λ (n : ℕ). IsCounted c time n) (sym (ap (λ (y : Seen). y.next) is ∙ same)) h
-
-pub unless_next : (o : Option Trap) (e x : Seen) → x.next ≡ e.next → (unless o e x).next ≡ e.next
-unless_next (Some why) e x same = refl
-unless_next None e x same = same
-
-pub waited_next : (e : Seen) (t held wanted : ℕ) → (waited e t held wanted).next ≡ e.next
-waited_next e t held wanted = elim (bool_tells (held == wanted)) [ inl a ↦ rw a refl | inr a ↦ rw a refl ]
 
 pub switched_next : (e : Seen) (entries : Listed) (t : ℕ) (w : Switched) → (switched_in e entries t w).next ≡ e.next
 switched_next e entries t (NotMade why) = refl
@@ -222,13 +202,6 @@ unfinished_map (Went acted) P Q f h = tt
 unfinished_map Returned P Q f h = f h
 unfinished_map (Native number) P Q f h = f h
 unfinished_map (Trapped why) P Q f h = f h
-
--- where the thread has no frame left it has one to end
-pub over_unfinished : (ran : Ran) (e : Seen) (t handler : ℕ) (P : Type 0) → goes_after ran e t handler ≡ false → IfUnfinished ran P → P
-over_unfinished (Went acted) e t handler P over h = absurd cc
-over_unfinished Returned e t handler P over h = h
-over_unfinished (Native number) e t handler P over h = absurd cc
-over_unfinished (Trapped why) e t handler P over h = h
 
 -- ---- turns
 

@@ -3,7 +3,6 @@ pub mod Bursting
 pub mod Calling
 pub mod Carried
 pub mod Dormant
-pub mod Granting
 pub mod Guards
 pub mod Keeping
 pub mod Onward
@@ -11,8 +10,8 @@ pub mod Opened
 pub mod Picking
 pub mod Quietly
 pub mod Ready
-pub mod Resting
 pub mod Rounding
+pub mod Served
 pub mod Sizes
 pub mod Starts
 pub mod Statuses

@@ -1,6 +1,6 @@
 -- The loop of rounds up to one that tells something.
-use Rattle.std.proofs.Common.{ℕ, zero, suc, ◌+◌, ◌-◌, ◌≡◌, ◌≤◌, ◌<◌, ◌&&◌, ◌||◌, nat_lt, Bool, true, false, is_some, inl, inr, List, Option, None, Some, refl, sym, ap, ◌∙◌, subst, arith}
-use Rattle.std.proofs.lemmas.Bool.{cases_order, lt-ltb}
+use Rattle.std.proofs.Common.{ℕ, zero, suc, ◌+◌, ◌-◌, ◌≡◌, ◌≤◌, ◌<◌, ◌&&◌, ◌||◌, nat_lt, Bool, true, false, is_some, List, Option, None, Some, refl, sym, ap, ◌∙◌, subst, arith}
+use Rattle.std.proofs.lemmas.Bool.{lt-ltb}
 use Rattle.ct_entry.specs.declared.acts.Deed.{Deed}
 use Rattle.ct_entry.specs.declared.acts.End.{End}
 use Rattle.ct_entry.specs.declared.acts.Happened.{Happened}
@@ -41,15 +41,6 @@ sweeps_left first m most count all o room =
 
 pub more_ran : (first m n : MachineRow) (most count more : ℕ) (h : Happened) → Onward first m most count → 1 ≤ more → RanOn m n more h → RanOn first n (count + more) h
 more_ran first m n most count more h o some r = both_ran first m n count more h o.ran o.going some r
-
--- some of those that are asked for aren't made yet
-pub room_left : (now first made most all : ℕ) → now ≡ first + made → made ≤ most → (made ≡ most → ⊥) → first + most ≤ all → now < all
-room_left now first made most all is few less room =
-    elim (cases_order made most) [
-      | inl same ↦ absurd (less same)
-      | inr (inl below) ↦ omega (arith, is, below, room)
-      | inr (inr above) ↦ absurd (omega (arith, few, above))
-    ]
 
 -- after some rounds the machine has come to no end, where it isn't over
 pub not_over : (made : ℕ) (o : Option End) (over : Bool) → over ≡ (nat_lt 0 made && is_some o) → over ≡ false → 0 < made → o ≡ None

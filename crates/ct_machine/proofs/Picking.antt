@@ -12,7 +12,7 @@ use Rattle.def_machine.specs.Platform.{Platform, MachineRow}
 use Rattle.def_machine.specs.State.{State, Counts}
 use Rattle.def_step.specs.declared.Event.TheVariants.{Step, Sweep}
 use Rattle.def_step.specs.Devices.{DeviceStates}
-use Rattle.def_step.specs.Events.{begun_since, end_of, happens, holder, holder_by, one_more_step, picked_as, picked_from, preempted, run, run_on, scheduled, told_of}
+use Rattle.def_step.specs.Events.{begun_since, end_of, happens, holder, holder_by, one_more_step, preempted, run, run_on, scheduled, told_of}
 use Rattle.ct_sched.specs.Sched.{SchedRow}
 use Rattle.ct_engine.specs.Bursts.{GoesFor, GoesOnce, IsOpen, StaysOpen}
 use Rattle.ct_engine.specs.Seen as engine
@@ -87,30 +87,6 @@ carried_by i e r t kept k pending time c runs none next zero new m on idle goes 
 carried_by i e r t kept k pending time c runs none next (suc n) new m on idle goes state board some =
     let less : suc n - 1 ≡ n = omega arith in
     carried_on i e r t kept k pending time c runs none next n new m on idle goes (state ∙ ap (with_rounds (state_by new r pending k.states time c)) less) board
-
--- ---- what a pick leaves as it was
-
-sweep_picked : (b : Platform) (s : State) (o : Option ℕ) → has_sweep (picked_as b s o) ≡ has_sweep s
-sweep_picked b s None = refl
-sweep_picked b s (Some t) = refl
-
-sweep_from : (b : Platform) (s : State) (o : Option ℕ) → has_sweep (picked_from b s o) ≡ has_sweep s
-sweep_from b s None = sweep_picked b s _
-sweep_from b s (Some t) = refl
-
-pub sweep_scheduled : (b : Platform) (s n : State) → n ≡ scheduled b s → has_sweep n ≡ has_sweep s
-sweep_scheduled b s n is = ap has_sweep is ∙ sweep_from b s s.running
-
-pending_picked : (b : Platform) (s : State) (o : Option ℕ) → (picked_as b s o).pending ≡ s.pending
-pending_picked b s None = refl
-pending_picked b s (Some t) = refl
-
-pending_from : (b : Platform) (s : State) (o : Option ℕ) → (picked_from b s o).pending ≡ s.pending
-pending_from b s None = pending_picked b s _
-pending_from b s (Some t) = refl
-
-pub pending_scheduled : (b : Platform) (s n : State) → n ≡ scheduled b s → n.pending ≡ s.pending
-pending_scheduled b s n is = ap (λ (x : State). x.pending) is ∙ pending_from b s s.running
 
 -- ---- the round
 

@@ -27,6 +27,3 @@ few_by c time next h few = let most = h.steps in omega (arith, few, most)
 -- a step makes one at most
 pub made_by : (c : Counts) (time next new : ℕ) → IsCounted c time next → next ≤ c.steps → new ≤ next + 1 → IsCounted c time new
 made_by c time next new h few one = record { steps = h.steps; ticks = h.ticks; sweeps = h.sweeps; inputs = h.inputs; deeds = h.deeds; clock = h.clock; made = omega (arith, few, one) }
-
-pub same_by : (c : Counts) (time next new : ℕ) → IsCounted c time next → new ≤ next → IsCounted c time new
-same_by c time next new h few = let made = h.made in record { steps = h.steps; ticks = h.ticks; sweeps = h.sweeps; inputs = h.inputs; deeds = h.deeds; clock = h.clock; made = omega (arith, few, made) }

@@ -1,6 +1,5 @@
 -- Threads with the statuses that the scheduler keeps.
 use Rattle.std.proofs.Common.{ℕ, zero, suc, ◌+◌, ◌≡◌, ◌<◌, ◌&&◌, ◌||◌, Bool, true, false, cond, List, [], ◌∷◌, length, map, Some, None, refl, ap, ◌∙◌, arith}
-use Rattle.std.proofs.Math.ListN.{get_or, set}
 use Rattle.std.specs.List.{list_all}
 use Rattle.std.specs.Prelude.{count_by}
 use Rattle.std.proofs.lemmas.List.Sums.{sum_by-cons}
@@ -9,68 +8,11 @@ use Rattle.def_sched.specs.declared.Status.{Status}
 use Rattle.def_sched.specs.declared.Status.TheVariants.{Ready, Sleeping, Waiting, Ended}
 use Rattle.def_sched.specs.Statuses.{runs_again, is_ended, is_waiting, after_tick, status_of}
 use Rattle.ct_entry.specs.declared.acts.End.TheVariants.{Finished, Idle}
-use Rattle.def_machine.specs.State.{State, Thread, nobody}
-use Rattle.def_machine.specs.Threads.{with_status, statuses_of, with_statuses, timed}
+use Rattle.def_machine.specs.State.{State, Thread}
+use Rattle.def_machine.specs.Threads.{with_status, with_statuses, timed}
 use Rattle.def_step.specs.Events.{all_ended, one_waits, none_goes_on, end_of}
 
--- ---- one thread of them
-
--- its status aside, it is as it was, whatever the statuses are
-pub like_with : (ts : List Thread) (ss : List Status) (t : ℕ) (s : Status) → with_status (get_or (with_statuses ts ss) t nobody) s ≡ with_status (get_or ts t nobody) s
-like_with [] ss t s = refl
-like_with (x ∷ ts) [] t s = refl
-like_with (x ∷ ts) (r ∷ ss) zero s = refl
-like_with (x ∷ ts) (r ∷ ss) (suc t) s = like_with ts ss t s
-
--- statuses are given twice
-twice_with : (ts : List Thread) (ss new : List Status) → length ss ≡ length ts → length new ≡ length ts → with_statuses (with_statuses ts ss) new ≡ with_statuses ts new
-twice_with [] ss new e k = refl
-twice_with (x ∷ ts) [] new e k = absurd (omega (arith, e))
-twice_with (x ∷ ts) (r ∷ ss) [] e k = absurd (omega (arith, k))
-twice_with (x ∷ ts) (r ∷ ss) (s ∷ new) e k = ap (λ (us : List Thread). with_status x s ∷ us) (twice_with ts ss new (omega (arith, e)) (omega (arith, k)))
-
--- ---- a thread changes, or ends
-
-pub set_with : (ts : List Thread) (ss : List Status) (t : ℕ) (new : Thread) → length ss ≡ length ts → with_statuses (set ts t new) ss ≡ set (with_statuses ts ss) t (with_status new (get_or ss t Ended))
-set_with [] [] t new e = refl
-set_with [] (s ∷ ss) t new e = absurd (omega (arith, e))
-set_with (x ∷ ts) [] t new e = absurd (omega (arith, e))
-set_with (x ∷ ts) (s ∷ ss) zero new e = refl
-set_with (x ∷ ts) (s ∷ ss) (suc t) new e = ap (λ (us : List Thread). with_status x s ∷ us) (set_with ts ss t new (omega (arith, e)))
-
-pub end_with : (ts : List Thread) (ss : List Status) (t : ℕ) → length ss ≡ length ts → with_statuses (set ts t nobody) (set ss t Ended) ≡ set (with_statuses ts ss) t nobody
-end_with [] [] t e = refl
-end_with [] (s ∷ ss) t e = absurd (omega (arith, e))
-end_with (x ∷ ts) [] t e = absurd (omega (arith, e))
-end_with (x ∷ ts) (s ∷ ss) zero e = refl
-end_with (x ∷ ts) (s ∷ ss) (suc t) e = ap (λ (us : List Thread). with_status x s ∷ us) (end_with ts ss t (omega (arith, e)))
-
--- it changes together with its status
-pub set_both : (ts : List Thread) (ss : List Status) (t : ℕ) (new : Thread) (s : Status) → length ss ≡ length ts → with_statuses (set ts t new) (set ss t s) ≡ set (with_statuses ts ss) t (with_status new s)
-set_both [] [] t new s e = refl
-set_both [] (r ∷ ss) t new s e = absurd (omega (arith, e))
-set_both (x ∷ ts) [] t new s e = absurd (omega (arith, e))
-set_both (x ∷ ts) (r ∷ ss) zero new s e = refl
-set_both (x ∷ ts) (r ∷ ss) (suc t) new s e = ap (λ (us : List Thread). with_status x r ∷ us) (set_both ts ss t new s (omega (arith, e)))
-
--- it changes by its other parts alone, and all get new statuses
-pub set_over : (f : Thread → Thread) → ((x : Thread) (r s : Status) → with_status (f (with_status x r)) s ≡ with_status (f x) s) → (ts : List Thread) (ss new : List Status) (t : ℕ)
-    → length ss ≡ length ts → length new ≡ length ts
-    → with_statuses (set (with_statuses ts ss) t (f (get_or (with_statuses ts ss) t nobody))) new ≡ with_statuses (set ts t (f (get_or ts t nobody))) new
-set_over f same [] ss new t e k = refl
-set_over f same (x ∷ ts) [] new t e k = absurd (omega (arith, e))
-set_over f same (x ∷ ts) (r ∷ ss) [] t e k = absurd (omega (arith, k))
-set_over f same (x ∷ ts) (r ∷ ss) (s ∷ new) zero e k =
-    ap (λ (y : Thread). y ∷ with_statuses (with_statuses ts ss) new) (same x r s) ∙ ap (λ (us : List Thread). with_status (f x) s ∷ us) (twice_with ts ss new (omega (arith, e)) (omega (arith, k)))
-set_over f same (x ∷ ts) (r ∷ ss) (s ∷ new) (suc t) e k = ap (λ (us : List Thread). with_status x s ∷ us) (set_over f same ts ss new t (omega (arith, e)) (omega (arith, k)))
-
--- ---- all of them
-
-pub statuses_with : (ts : List Thread) (ss : List Status) → length ss ≡ length ts → statuses_of (with_statuses ts ss) ≡ ss
-statuses_with [] [] e = refl
-statuses_with [] (s ∷ ss) e = absurd (omega (arith, e))
-statuses_with (x ∷ ts) [] e = absurd (omega (arith, e))
-statuses_with (x ∷ ts) (s ∷ ss) e = ap (λ (rs : List Status). s ∷ rs) (statuses_with ts ss (omega (arith, e)))
+-- ---- a tick
 
 pub timed_with : (ts : List Thread) (ss : List Status) → length ss ≡ length ts → with_statuses ts (map after_tick ss) ≡ map timed (with_statuses ts ss)
 timed_with [] [] e = refl

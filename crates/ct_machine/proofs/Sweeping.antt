@@ -34,9 +34,10 @@ use Rattle.ct_engine.proofs.Shown.{swept_shown}
 use Rattle.ct_engine.proofs.Sliced.{slice_written}
 use Rattle.ct_machine.specs.Parts.{state_by, IsKept}
 use Rattle.ct_machine.specs.Going.{MaySweep, one_more_sweep, silence}
-use Rattle.ct_machine.proofs.Statuses.{like_with}
+use Rattle.ct_services.specs.Serves.{StaysBeside}
+use Rattle.ct_services.proofs.Statuses.{like_with}
 use Rattle.ct_machine.proofs.Taking.{ram_is, frames_with}
-use Rattle.ct_machine.proofs.Keeping.{StaysBeside, stays_kept, still_ready}
+use Rattle.ct_machine.proofs.Keeping.{stays_kept, still_ready}
 use Rattle.law_moves.proofs.Ends.{unmarked_length}
 
 -- ---- what a slice changes of an engine

@@ -25,7 +25,8 @@ use Rattle.ct_engine.specs.Seen as engine
 use Rattle.ct_engine.specs.Seen.{resumed, with_running, Seen}
 use Rattle.ct_machine.specs.Parts.{state_by, IsKept}
 use Rattle.ct_machine.specs.Going.{clock_on, sleepers_on}
-use Rattle.ct_machine.proofs.Statuses.{like_with, set_with, statuses_with, timed_with}
+use Rattle.ct_services.proofs.Statuses.{changed_with, like_with, statuses_with}
+use Rattle.ct_machine.proofs.Statuses.{timed_with}
 use Rattle.law_events.proofs.Waiting.{given_status}
 
 -- RAM begins where the image says
@@ -58,9 +59,6 @@ module _ (e : Seen) (r : SchedRow) (pending : Bool) (devices : List DeviceState)
 
   pub holder_else : (t : ℕ) (p : Posture) → Some t ≡ e.running → p ≡ (engine.thread e t).posture → p.off ≡ false → None ≡ holder (state_by e r pending devices time counts)
   holder_else t p runs is off = sym (holder_off (state_by e r pending devices time counts) e.running t p (sym runs) (posture_is t p is) off)
-
-  pub begun_none : (before : Option (ℕ × ℕ)) → None ≡ e.running → None ≡ begun_since before (state_by e r pending devices time counts) (holder (state_by e r pending devices time counts))
-  begun_none before none = ap (begun_since before (state_by e r pending devices time counts)) (sym (holder_none (state_by e r pending devices time counts) e.running (sym none)))
 
   pub begun_off : (before : Option (ℕ × ℕ)) (t : ℕ) (p : Posture) → Some t ≡ e.running → p ≡ (engine.thread e t).posture → p.off ≡ false
       → None ≡ begun_since before (state_by e r pending devices time counts) (holder (state_by e r pending devices time counts))
@@ -97,9 +95,6 @@ off_preempted s t runs pending off = ap (preempted_from s) runs ∙ rw (pending,
 
 pub on_preempted : (s : State) (t : ℕ) → s.running ≡ Some t → s.pending ≡ true → (thread s t).posture.off ≡ false → preempted s ≡ record s { running = None; pending = false }
 on_preempted s t runs pending on = ap (preempted_from s) runs ∙ rw (pending, on) refl
-
-pub none_interrupted : (s : State) → s.running ≡ None → interrupted s s.running ≡ s
-none_interrupted s none = ap (interrupted s) none
 
 pub off_interrupted : (s : State) (t : ℕ) → s.running ≡ Some t → (thread s t).posture.off ≡ true → interrupted s s.running ≡ record s { pending = true }
 off_interrupted s t runs off = ap (interrupted s) runs ∙ rw off refl
@@ -153,8 +148,7 @@ module _ (b : Platform) (e : Seen) (r : SchedRow) (pending : Bool) (devices : Li
   picked_is t kept idle is =
       let there : with_statuses (set e.threads t (picked_with (filtered_in e.region.ram e.granules) (get_or e.threads t nobody))) r.statuses
       ≡ set (with_statuses e.threads r.statuses) t (picked_with (filtered_in e.region.ram e.granules) (get_or (with_statuses e.threads r.statuses) t nobody)) =
-      set_with e.threads r.statuses t (picked_with (filtered_in e.region.ram e.granules) (get_or e.threads t nobody)) kept.statuses
-      ∙ ap (λ (x : Thread). set (with_statuses e.threads r.statuses) t (picked_with (filtered_in e.region.ram e.granules) x)) (sym (given_status e.threads r.statuses t kept.statuses)) in
+      sym (changed_with (picked_with (filtered_in e.region.ram e.granules)) (λ x q. refl) e.threads r.statuses t) in
       rw (there, ram_is b.image e r kept) (sym (picks_as (Some t) kept idle is))
 
   pub none_is : (r' : SchedRow) → IsKept b.image e r → None ≡ e.running → None ≡ pick r.priorities r.statuses r.order → r' ≡ after_pick r None

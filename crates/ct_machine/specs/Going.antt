@@ -16,13 +16,10 @@ use Rattle.def_machine.specs.State as state
 use Rattle.def_machine.specs.State.{State}
 use Rattle.def_machine.specs.Threads.{timed}
 use Rattle.def_sched.specs.declared.Status.TheVariants.{Ended}
-use Rattle.def_sched.specs.Statuses.{asleep}
 use Rattle.def_machine.specs.Platform.{MachineRow, Platform}
 use Rattle.def_step.specs.Handlers.{handler_value, return_taken}
 use Rattle.def_step.specs.Instructions.{actor_of, trapped, served}
 use Rattle.def_step.specs.Native.{native}
-use Rattle.def_step.specs.Routines as routine
-use Rattle.def_step.specs.Switch.{return_checks}
 use Rattle.ct_sched.specs.Sched.{SchedRow, with_statuses}
 use Rattle.ct_switch.specs.declared.calls.Called.{Called}
 use Rattle.ct_switch.specs.declared.calls.Called.TheVariants as called
@@ -81,18 +78,7 @@ silence = record { deed = None; off = None }
 abbrev pub sleepers_on : State → State
 sleepers_on s = record s { threads = map timed s.threads }
 
--- ---- what a routine came to
-
--- where the check of c1 passes the thread stops, to be ready after so many ticks: yield for none, sleep for some
-abbrev pub rests_for : State → ℕ → ℕ → routine.Ran
-rests_for s t ticks =
-    routine.checked (return_checks (state.register (state.thread s t) 1))
-    (routine.stops s t (asleep ticks))
-
--- of a service: a check that failed, or nothing that is told
-abbrev pub ran_by_service : Option words.Trap → Ran
-ran_by_service (Some why) = Trapped why
-ran_by_service None = Went None
+-- ---- what a call came to
 
 abbrev pub ran_by_call : Called → Ran
 ran_by_call (called.Entered entry export) = Went (Some (act_by entry (Call export)))

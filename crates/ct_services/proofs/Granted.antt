@@ -1,90 +1,118 @@
--- What an allocation and a free leave of an engine, and what they came to.
-use Rattle.std.proofs.Common.{ℕ, ◌≡◌, ◌&&◌, ◌∙◌, Bool, true, false, List, Option, Some, None, refl, sym, ap, eq-eqb, if◌then◌else◌}
+-- Objects that are made and freed, in each state of the machine that holds what is seen.
+use Rattle.std.proofs.Common.{ℕ, ◌+◌, ◌-◌, ◌≡◌, ◌∙◌, true, List, Some, refl, sym, ap, arith}
 use Rattle.std.specs.Prelude.{find}
-use Rattle.std.proofs.lemmas.Bool.{and_from}
+use Rattle.std.proofs.lemmas.List.{length-set}
+use Rattle.law_granules.proofs.Lists.{zeroed_length, marked_length}
 use Rattle.ct_entry.specs.declared.acts.Act.TheVariants.{Allocate, Free}
+use Rattle.def_profile.specs.declared.layout.TheConstants.{CHUNK_HEAD}
+use Rattle.def_profile.specs.declared.rights.TheConstants.{HEAP_RIGHTS}
 use Rattle.def_words.specs.declared.Cap.{Cap}
-use Rattle.def_words.specs.Authority.{cap_base, cap_top}
 use Rattle.def_words.specs.Capability.{integer}
-use Rattle.def_words.specs.Seals.{cap_seal, is_unsealed}
-use Rattle.def_machine.specs.State.{Object, register}
-use Rattle.def_machine.specs.Objects.{charges}
-use Rattle.def_step.specs.Quotas.{is_whole, whole_of}
+use Rattle.def_words.specs.Derive.{derive, memory_root}
+use Rattle.def_memory.specs.declared.Granule.{Granule}
+use Rattle.def_memory.specs.Ranges.{zeroed_from}
+use Rattle.def_sched.specs.declared.Status.{Status}
+use Rattle.def_machine.specs.Image.{Image}
+use Rattle.def_machine.specs.State.{State, Object, Token}
+use Rattle.def_machine.specs.Objects.{charges, has_quarantined}
+use Rattle.def_machine.specs.Heap.{length_for}
+use Rattle.def_step.specs.Routines.{Ran, Leaves, answers, tells, code}
+use Rattle.def_step.specs.Quotas.{Allocation, Refused, Made, allocation, hands_out, freed_as}
 use Rattle.ct_heap.specs.declared.rows.Object as heap
+use Rattle.ct_heap.specs.declared.rows.HeapRefusal.{HeapRefusal}
+use Rattle.ct_heap.specs.declared.rows.HeapRefusal.TheVariants.{Size, Quota, NoGap}
 use Rattle.ct_heap.specs.Lookups.{spans_of}
-use Rattle.ct_execute.specs.declared.ran.Ran.{Ran}
+use Rattle.ct_engine.specs.Seen.{Seen}
+use Rattle.ct_engine.specs.Grants.{IsTold, new_object, with_object, allocation_in, refused_as}
+use Rattle.ct_engine.specs.Grants.{WasWhole, whole_in, freed, freed_by}
+use Rattle.ct_engine.specs.Written.{SharesObjects, state_with}
+use Rattle.ct_engine.proofs.Freeing.{whole_says, freed_shown}
+use Rattle.ct_engine.proofs.Granted.{allocation_same}
+use Rattle.ct_execute.specs.declared.ran.Ran as engine
 use Rattle.ct_execute.specs.declared.ran.Ran.TheVariants.{Went}
 use Rattle.ct_execute.specs.Deciding.{act_by}
-use Rattle.ct_engine.specs.Seen.{thread, Seen}
-use Rattle.ct_engine.specs.Grants.{IsTold, WasWhole, whole_in, freed, freed_by}
-use Rattle.ct_engine.proofs.Freeing.{whole_says}
-use Rattle.ct_services.specs.Granted.{quota_in, object_in, handed_out, freed_as}
+use Rattle.ct_services.specs.Arguments.{refusal_code}
 use Rattle.ct_services.specs.Served.{answered_in}
+use Rattle.ct_services.specs.Serves.{Holds, ServesAlone}
+use Rattle.ct_services.proofs.Serving.{Becomes, serves_answer, serves_as}
 
--- ---- the object that a capability is the whole of
+-- ---- an allocation
 
-pub if_true : (b : Bool) (x : Option Object) → b ≡ true → (if b then x else None) ≡ x
-if_true true x is = refl
-if_true false x is = absurd (cc)
+refused_so : (s : Seen) (why : HeapRefusal) → refused_as s why ≡ Refused (refusal_code why (has_quarantined s.objects))
+refused_so s Size = refl
+refused_so s Quota = refl
+refused_so s NoGap = refl
 
--- it is the one with its bounds
-by_bounds : (os : List Object) (quota base top : ℕ) (c : Cap) → c.tag ≡ true → cap_seal c ≡ 0 → base ≡ cap_base c → top ≡ cap_top c
-    → whole_of os quota c ≡ find (spans_of quota base top) os
-by_bounds os quota base top c tag seal base_is top_is =
-    if_true (c.tag && is_unsealed c) (find (is_whole quota c) os) (and_from c.tag (is_unsealed c) tag (eq-eqb (cap_seal c) 0 seal))
-    ∙ ap (λ b. find (spans_of quota b (cap_top c)) os) (sym base_is) ∙ ap (λ e. find (spans_of quota base e) os) (sym top_is)
+-- what comes of an allocation, as of a token
+module _ (s u new : Seen) (t quota size : ℕ) (comes : State → Allocation → Ran) where
+  -- the written one comes to this
+  by_allocation : (a : Allocation) (i : Image) (m : State) (ss : List Status) → allocation_in s quota size ≡ a
+      → Holds i s ss
+      → comes (state_with m s ss) (allocation i (state_with m s ss) quota size) ≡ comes (state_with m s ss) a
+  by_allocation a i m ss is h =
+      let shares : SharesObjects (state_with m s ss) s = record { objects = refl; next = refl } in
+      ap (comes (state_with m s ss)) (sym (allocation_same i (state_with m s ss) s quota size h.heap shares) ∙ is)
 
--- ---- an object that is handed out
+  pub serves_refused : (ran : engine.Ran) (why : HeapRefusal) → allocation_in s quota size ≡ refused_as s why → u ≡ s
+      → ((m : State) (n : ℕ) → comes m (Refused n) ≡ tells m t (code n))
+      → ServesAlone u new ran (λ i m. tells m t (code (refusal_code why (has_quarantined m.objects))))
+      → ServesAlone s new ran (λ i m. comes m (allocation i m quota size))
+  serves_refused ran why is same refuses serves =
+      serves_as (rw same at serves)
+      (λ i m ss h.
+      by_allocation (Refused (refusal_code why (has_quarantined s.objects))) i m ss (is ∙ refused_so s why) h
+      ∙ refuses (state_with m s ss) (refusal_code why (has_quarantined s.objects)))
 
-pair_is : (a b : Seen) (x y : Ran) → a ≡ b → x ≡ y → ◌≡◌ {A = Seen × Ran} (a, x) (b, y)
-pair_is a b x y left came = ap (λ (s : Seen). (s, x)) left ∙ ap (λ (r : Ran). (b, r)) came
+  abbrev made_at : ℕ → Object
+  made_at base = new_object s quota size base
 
-told_made : (n m b d l k v w q p : ℕ) → n ≡ m → b ≡ d → l ≡ k → v ≡ w → q ≡ p → Went (Some (act_by q (Allocate n b l v))) ≡ Went (Some (act_by p (Allocate m d k w)))
-told_made n m b d l k v w q p number base length live charged = rw (number, base, length, live, charged) refl
+  -- the capability of an object, sealed as a type where that isn't 0
+  abbrev cap_at : ℕ → ℕ → ℕ → ℕ → Cap
+  cap_at kind number base long =
+      derive memory_root base long HEAP_RIGHTS base kind (record { root = quota; source = number })
 
--- of an engine that an allocation left, with the capability of its object
-pub handed : (u new : Seen) (t quota : ℕ) (o : heap.Object) (r : Object) (c value : Cap) (ran : Ran) → IsTold u o r → quota ≡ r.quota → value ≡ c
-    → (new, ran) ≡ handed_out u t quota o value
-    → ◌≡◌ {A = Seen × Ran} (new, ran) (answered_in u t c, Went (Some (act_by r.quota (Allocate r.number r.base r.length (charges r.quota u.objects)))))
-handed u new t quota o r c value ran told charged sealed is =
-    is ∙ pair_is (answered_in u t value) (answered_in u t c) (Went (Some (act_by quota (Allocate o.number o.base o.length o.live)))) (Went (Some (act_by r.quota (Allocate r.number r.base r.length (charges r.quota u.objects)))))
-    (ap (λ (v : Cap). answered_in u t v) sealed)
-    (told_made o.number r.number o.base r.base o.length r.length o.live (charges r.quota u.objects) quota r.quota told.number told.base told.length told.live charged)
+  -- an object is handed out, with these rows of tokens
+  pub serves_made : (o : heap.Object) (ran : engine.Ran) (v : Cap) (kind : ℕ) (rows : List Token)
+      → u ≡ with_object (record s { tokens = rows }) (made_at o.base)
+      → allocation_in s quota size ≡ Made (made_at o.base) → IsTold u o (made_at o.base) → v ≡ cap_at kind o.number o.base o.length → new ≡ answered_in u t v
+      → ran ≡ Went (Some (act_by quota (Allocate o.number o.base o.length o.live)))
+      → ((m : State) (ss : List Status) → comes (state_with m s ss) (Made (made_at o.base))
+      ≡ hands_out (record (state_with m s ss) { tokens = rows }) t (made_at o.base)
+      (cap_at kind s.next o.base (length_for size)))
+      → ServesAlone s new ran (λ i m. comes m (allocation i m quota size))
+  serves_made o ran v kind rows left is told value now ran_is made =
+      rw (now, ran_is)
+      (serves_answer s u t v (Some (act_by quota (Allocate o.number o.base o.length o.live)))
+      (λ i m. comes m (allocation i m quota size))
+      (rw left (record { size = refl; threads = refl; made = omega arith; same = refl }))
+      (λ i m ss h.
+      by_allocation (Made (made_at o.base)) i m ss is h ∙ made m ss
+      ∙ rw (value, told.number, told.length, told.live, left) refl))
 
 -- ---- a free
 
-told_alike : (n m b d l k v w q p : ℕ) → n ≡ m → b ≡ d → l ≡ k → v ≡ w → q ≡ p → Went (Some (act_by q (Free n b l v))) ≡ Went (Some (act_by p (Free m d k w)))
-told_alike n m b d l k v w q p number base length live charged = rw (number, base, length, live, charged) refl
-
-module _ (s u new : Seen) (t quota base top : ℕ) (o : heap.Object) (w : WasWhole s u quota base top o) where
-  freed_is : u ≡ freed_by s t (whole_in s quota base top) → u ≡ freed s t w.object
-  freed_is left = left ∙ ap (λ (f : Option Object). freed_by s t f) w.is
-
-  charged : w.object.quota ≡ quota
-  charged = (whole_says quota base top s.objects w.object w.is).quota_is
-
-  came : u ≡ freed s t w.object
-      → Went (Some (act_by quota (Free o.number o.base o.length o.live)))
-      ≡ Went (Some (act_by w.object.quota (Free w.object.number w.object.base w.object.length (charges w.object.quota (freed s t w.object).objects))))
-  came left =
-      told_alike o.number w.object.number o.base w.object.base o.length w.object.length o.live (charges w.object.quota (freed s t w.object).objects) quota w.object.quota
-      w.told.number w.told.base w.told.length (w.told.live ∙ ap (λ (x : Seen). charges w.object.quota x.objects) left) (sym charged)
-
-  pub gives : (value : Cap) → u ≡ freed_by s t (whole_in s quota base top) → value ≡ integer 0 → new ≡ answered_in u t value
-      → ◌≡◌ {A = Seen × Ran} (new, Went (Some (act_by quota (Free o.number o.base o.length o.live)))) (freed_as s t (whole_in s quota base top))
-  gives value left value_is now =
-      pair_is new (answered_in (freed s t w.object) t (integer 0)) (Went (Some (act_by quota (Free o.number o.base o.length o.live))))
-      (Went (Some (act_by w.object.quota (Free w.object.number w.object.base w.object.length (charges w.object.quota (freed s t w.object).objects)))))
-      (now ∙ ap (λ (v : Cap). answered_in u t v) value_is ∙ ap (λ (x : Seen). answered_in x t (integer 0)) (freed_is left))
-      (came (freed_is left))
-      ∙ ap (λ (f : Option Object). freed_as s t f) (sym w.is)
-
--- the object that a capability is the whole of, by its bounds
-pub named_by_bounds : (s : Seen) (t quota base top : ℕ) (c : Cap) → c.tag ≡ true → cap_seal c ≡ 0 → base ≡ cap_base c → top ≡ cap_top c
-    → freed_as s t (whole_in s quota base top) ≡ freed_as s t (whole_of s.objects quota c)
-named_by_bounds s t quota base top c tag seal base_is top_is = ap (λ (f : Option Object). freed_as s t f) (sym (by_bounds s.objects quota base top c tag seal base_is top_is))
-
--- it is c11's
-pub object_named : (s : Seen) (t quota : ℕ) (c : Cap) → quota ≡ quota_in s t → c ≡ register (thread s t) 11 → freed_as s t (whole_of s.objects quota c) ≡ freed_as s t (object_in s t)
-object_named s t quota c named is =
-    ap (λ (q : ℕ). freed_as s t (whole_of s.objects q c)) named ∙ ap (λ (x : Cap). freed_as s t (whole_of s.objects (quota_in s t) x)) is
+pub serves_freed : (s u new : Seen) (t quota base top : ℕ) → u ≡ freed_by s t (whole_in s quota base top)
+    → (o : heap.Object) (v : Cap) → WasWhole s u quota base top o → v ≡ integer 0 → new ≡ answered_in u t v
+    → ServesAlone s new (Went (Some (act_by quota (Free o.number o.base o.length o.live))))
+    (λ i m. freed_as i m t (find (spans_of quota base top) m.objects))
+serves_freed s u new t quota base top left o v w value now =
+    let r : Object = w.object in
+    let freed_is : u ≡ freed s t r = left ∙ ap (freed_by s t) w.is in
+    let charged : r.quota ≡ quota = (whole_says quota base top s.objects r w.is).quota_is in
+    let zeroed : List Granule = zeroed_from r.base (r.base + r.length) s.region.ram s.granules in
+    let became : Becomes s u = rw freed_is (record {
+      size = marked_length (r.base - CHUNK_HEAD) (r.base + r.length) true s.region.ram zeroed
+          ∙ zeroed_length r.base (r.base + r.length) s.region.ram s.granules;
+      threads = length-set s.threads t _;
+      made = omega arith;
+      same = refl;
+    }) in
+    let leaves : State → Ran = λ y.
+    Leaves (answers y t (integer 0)) (Some (r.quota, Free r.number r.base r.length (charges r.quota y.objects))) in
+    rw now
+    (serves_answer s u t v (Some (act_by quota (Free o.number o.base o.length o.live)))
+    (λ i m. freed_as i m t (find (spans_of quota base top) m.objects)) became
+    (λ i m ss h.
+    ap (freed_as i (state_with m s ss) t) w.is
+    ∙ ap leaves (freed_shown i m s ss t r h.ram ∙ ap (λ (x : Seen). state_with m x ss) (sym freed_is))
+    ∙ rw (value, w.told.number, w.told.base, w.told.length, w.told.live, charged) refl))

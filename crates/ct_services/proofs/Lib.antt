@@ -1,5 +1,8 @@
 pub mod Answers
 pub mod Switching
 pub mod Held
+pub mod Statuses
+pub mod Serving
 pub mod Granted
 pub mod Sealed
+pub mod Rests

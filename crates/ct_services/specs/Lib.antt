@@ -1,3 +1,4 @@
 pub mod Served
-pub mod Granted
-pub mod Sealed
+pub mod Arguments
+pub mod Serves
+pub mod Conditions

@@ -1,11 +1,13 @@
 //! How a routine answers.
 
 ghost use Rattle.std.specs.Prelude.{◌≡◌, ◌<◌, Some};
-ghost use Rattle.def_step.specs.Routines.{code};
+ghost use Rattle.def_step.specs.Routines as routine;
 ghost use Rattle.ct_services.specs.Served.{answered_in};
+ghost use Rattle.ct_services.specs.Serves.{ServesAlone};
 
 use ct_cap::{Live, open};
 use ct_engine::Engine;
+use ct_execute::Ran;
 use ct_flow::posture_through;
 use ct_mem::Memory;
 
@@ -26,7 +28,26 @@ pub fn answer<M: Memory + Drop>(engine: &mut Engine<M>, t: u32, value: Live)
 /// A negative answer as a word.
 pub(crate) fn code(n: u32) -> Live
     requires { 0 < n }
-    ensures { result ≡ code n }
+    ensures { result ≡ routine.code n }
 {
     Live::integer(0u32.wrapping_sub(n))
+}
+
+/// The running thread goes on with an answer, and nothing else happened.
+pub(crate) fn tell<M: Memory + Drop>(engine: &mut Engine<M>, t: u32, value: Live) -> Ran
+    requires { engine.old.running ≡ Some t }
+    ensures { ServesAlone engine.old engine.new result (λ i m. routine.tells m t value) }
+{
+    answer(engine, t, value);
+    Ran::Went { done: None }
+}
+
+/// The running thread goes on with a negative answer, and nothing else happened.
+pub(crate) fn refuse<M: Memory + Drop>(engine: &mut Engine<M>, t: u32, n: u32) -> Ran
+    requires runs { engine.old.running ≡ Some t }
+    requires some { 0 < n }
+    ensures { ServesAlone engine.old engine.new result
+        (λ i m. routine.tells m t (routine.code n)) }
+{
+    tell(engine, t, code(n))
 }

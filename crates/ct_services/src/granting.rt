@@ -1,22 +1,23 @@
 //! Allocate, free and remaining.
 
-ghost use Rattle.std.specs.Prelude.{◌≡◌, ◌≤◌, ◌<◌, Some, None, length, if◌then◌else◌};
+ghost use Rattle.std.specs.Prelude.{◌≡◌, ◌≤◌, ◌<◌, Some, length, find, MatchResult};
+ghost use Rattle.ct_entry.specs.declared.acts.Act.TheVariants.{Allocate};
 ghost use Rattle.def_profile.specs.declared.limits.TheConstants.{MOST_STEPS};
-ghost use Rattle.def_words.specs.Authority.{cap_address, cap_base};
+ghost use Rattle.def_words.specs.Authority.{cap_base};
 ghost use Rattle.def_profile.specs.declared.rights.TheConstants as rights;
-ghost use Rattle.def_words.specs.Capability.{integer};
 ghost use Rattle.def_words.specs.Derive.{derive, memory_root};
 ghost use Rattle.def_machine.specs.Objects.{has_quarantined};
-ghost use Rattle.def_machine.specs.State.{register};
-ghost use Rattle.def_step.specs.Checks.{first_failed};
-ghost use Rattle.def_step.specs.Quotas.{is_quota_cap, whole_of};
-ghost use Rattle.def_step.specs.Routines as routines;
-ghost use Rattle.def_step.specs.Switch.{return_checks};
-ghost use Rattle.ct_engine.specs.Seen.{thread};
-ghost use Rattle.ct_engine.specs.Grants.{allocation_in, whole_in};
-ghost use Rattle.ct_services.specs.Granted.{NamesQuota, quota_in, object_in, left_in, named_by, by_quota, handed_out, allocated, freed_as, tells, refusal_code};
+ghost use Rattle.def_step.specs.Quotas as quotas;
+ghost use Rattle.def_step.specs.Quotas.{allocation, is_quota_cap};
+ghost use Rattle.def_step.specs.Routines as routine;
+ghost use Rattle.ct_heap.specs.Lookups.{spans_of};
+ghost use Rattle.ct_execute.specs.declared.ran.Ran.TheVariants.{Went};
+ghost use Rattle.ct_execute.specs.Deciding.{act_by};
+ghost use Rattle.ct_services.specs.Arguments.{NamesQuota, IsQuota, IsNoQuota, refusal_code};
+ghost use Rattle.ct_services.specs.Served.{answered_in};
+ghost use Rattle.ct_services.specs.Serves.{Routine, ServesAlone};
 
-use crate::answering::{answer, code};
+use crate::answering::{answer, refuse, tell};
 use ct_cap::{Live, Shadow, Trap, derive};
 use ct_engine::{Engine, HeapRefusal, NotWhole, Object};
 use ct_entry::Act;
@@ -27,27 +28,41 @@ use def_profile::answers::{NO_OBJECT, NO_PLACE, NO_PLACE_YET, NO_QUOTA, NO_SIZE,
 use def_profile::rights::{HEAP_RIGHTS, MEMORY_ROOT};
 use def_profile::seals::QUOTA_TYPE;
 
-/// The quota's entry that a capability names, where it is a quota's.
-fn quota_of(c: Live) -> Option<u32>
-    ensures { result ≡ (if is_quota_cap c then Some c.shadow.root else None) }
+/// Whether a capability is a quota's.
+fn is_quota(c: Live) -> bool
+    ensures { result ≡ is_quota_cap c }
 {
-    if c.cap.tag && c.seal == QUOTA_TYPE {
-        return Some(c.cap.shadow.root);
-    }
-    None
+    c.cap.tag && c.seal == QUOTA_TYPE
 }
 
-/// The quota's entry that c10 names, or none where c10 is no quota. The error is the check of c1 that fails.
-pub(crate) fn quota_named<M: Memory + Drop>(engine: &Engine<M>, t: u32) -> Result<Option<u32>, Trap>
+/// The quota's entry that c10 names. The error is the check of c1 that fails, or none where c10 is no quota.
+pub(crate) fn quota_named<M: Memory + Drop>(engine: &Engine<M>, t: u32) -> Result<u32, Option<Trap>>
     requires { engine.now.running ≡ Some t }
-    ensures { result
-        ≡ named_by (first_failed (return_checks (register (thread engine.now t) 1)))
-        (is_quota_cap (register (thread engine.now t) 10)) (quota_in engine.now t) }
+    ensures { MatchResult result (IsQuota engine.now t) (IsNoQuota engine.now t) }
 {
     if let Some(trap) = return_trap(engine.register(t, 1)) {
-        return Err(trap);
+        return Err(Some(trap));
     }
-    Ok(quota_of(engine.register(t, 10)))
+    let c = engine.register(t, 10);
+    if is_quota(c) {
+        Ok(c.cap.shadow.root)
+    } else {
+        Err(None)
+    }
+}
+
+/// What a routine comes to where c1 doesn't lead back, or c10 is no quota: the trap, or the running thread goes on
+/// with -1.
+pub(crate) fn no_quota<M: Memory + Drop>(engine: &mut Engine<M>, t: u32, why: Option<Trap>) -> Ran
+    requires runs { engine.old.running ≡ Some t }
+    requires none { IsNoQuota engine.old t why }
+    ensures { (x : Routine)
+        → ServesAlone engine.old engine.new result (λ i m. quotas.by_quota m t (x i m)) }
+{
+    match why {
+        Some(trap) => Ran::Trapped { trap },
+        None => refuse(engine, t, NO_QUOTA),
+    }
 }
 
 /// The capability of an object, sealed as a type where that isn't 0: its quota's entry is the root, its number the
@@ -72,18 +87,10 @@ pub(crate) fn capability(quota: u32, object: Object, kind: u32) -> Live
     )
 }
 
-/// The running thread goes on with an answer, and nothing else happened.
-pub(crate) fn tell<M: Memory + Drop>(engine: &mut Engine<M>, t: u32, value: Live) -> Ran
-    requires { engine.old.running ≡ Some t }
-    ensures { (engine.new, result) ≡ tells engine.old t value }
-{
-    answer(engine, t, value);
-    Ran::Went { done: None }
-}
-
 /// What an allocation's refusal answers, negated; `waits` tells whether something is quarantined.
 fn refused(why: HeapRefusal, waits: bool) -> u32
-    ensures { result ≡ refusal_code why waits }
+    ensures is { result ≡ refusal_code why waits }
+    ensures some { 0 < result }
 {
     match why {
         HeapRefusal::Size => NO_SIZE,
@@ -95,12 +102,12 @@ fn refused(why: HeapRefusal, waits: bool) -> u32
 /// The running thread goes on with -2 to -5 after an allocation was refused, and nothing else happened.
 pub(crate) fn decline<M: Memory + Drop>(engine: &mut Engine<M>, t: u32, why: HeapRefusal) -> Ran
     requires { engine.old.running ≡ Some t }
-    ensures { (engine.new, result)
-        ≡ tells engine.old t
-        (routines.code (refusal_code why (has_quarantined engine.old.objects))) }
+    ensures { ServesAlone engine.old engine.new result
+        (λ i m. routine.tells m t
+        (routine.code (refusal_code why (has_quarantined m.objects)))) }
 {
     let waits = engine.quarantined();
-    tell(engine, t, code(refused(why, waits)))
+    refuse(engine, t, refused(why, waits))
 }
 
 /// The running thread goes on with an object's capability, as it is handed out, and the object is told.
@@ -112,7 +119,10 @@ pub(crate) fn hand_out<M: Memory + Drop>(
     value: Live,
 ) -> Ran
     requires { engine.old.running ≡ Some t }
-    ensures { (engine.new, result) ≡ handed_out engine.old t quota object value }
+    ensures engine { engine.new ≡ answered_in engine.old t value }
+    ensures told { result
+        ≡ Went (Some (act_by quota
+        (Allocate object.number object.base object.length object.live))) }
 {
     answer(engine, t, value);
     Ran::Went {
@@ -128,16 +138,14 @@ pub(crate) fn hand_out<M: Memory + Drop>(
     }
 }
 
-/// An object of as many bytes as c11's address says is charged to a quota.
-fn grant<M: Memory + Drop>(engine: &mut Engine<M>, t: u32, quota: u32) -> Ran
+/// An object of so many bytes is charged to a quota.
+fn grant<M: Memory + Drop>(engine: &mut Engine<M>, t: u32, quota: u32, size: u32) -> Ran
     requires runs { engine.old.running ≡ Some t }
     requires quota { quota < length engine.old.limits }
     requires few { engine.old.next ≤ MOST_STEPS }
-    ensures { (engine.new, result)
-        ≡ allocated engine.old t
-        (allocation_in engine.old quota (cap_address (register (thread engine.old t) 11))) }
+    ensures { ServesAlone engine.old engine.new result
+        (λ i m. quotas.allocated m t (allocation i m quota size)) }
 {
-    let size = engine.register(t, 11).address();
     match engine.allocate(quota, size) {
         Ok(object) => hand_out(engine, t, quota, object, capability(quota, object, 0)),
         Err(why) => decline(engine, t, why),
@@ -150,20 +158,18 @@ fn grant<M: Memory + Drop>(engine: &mut Engine<M>, t: u32, quota: u32) -> Ran
 /// It goes on with -1 exactly where c10 is no quota; else with -4 where the size is zero or above the heap's length;
 /// else with -2 where the quota's limit would be passed; else, where no place is lawful, with -5 where an object is
 /// quarantined and with -3 where none is. The trap is the check of c1 that fails; then nothing changes.
-pub fn allocate<M: Memory + Drop>(engine: &mut Engine<M>, t: u32) -> Ran
+pub(crate) fn allocate<M: Memory + Drop>(engine: &mut Engine<M>, t: u32) -> Ran
     requires runs { engine.old.running ≡ Some t }
     requires quota { NamesQuota engine.old t }
     requires few { engine.old.next ≤ MOST_STEPS }
-    ensures { (engine.new, result)
-        ≡ by_quota engine.old t
-        (allocated engine.old t
-        (allocation_in engine.old (quota_in engine.old t)
-        (cap_address (register (thread engine.old t) 11)))) }
+    ensures { ServesAlone engine.old engine.new result (λ i m. quotas.allocate i m t) }
 {
     match quota_named(engine, t) {
-        Err(trap) => Ran::Trapped { trap },
-        Ok(Some(quota)) => grant(engine, t, quota),
-        Ok(None) => tell(engine, t, code(NO_QUOTA)),
+        Ok(quota) => {
+            let size = engine.register(t, 11);
+            grant(engine, t, quota, size.address())
+        }
+        Err(why) => no_quota(engine, t, why),
     }
 }
 
@@ -186,7 +192,8 @@ pub(crate) fn free_whole<M: Memory + Drop>(
 ) -> Ran
     requires runs { engine.old.running ≡ Some t }
     requires quota { quota < length engine.old.limits }
-    ensures { (engine.new, result) ≡ freed_as engine.old t (whole_in engine.old quota base top) }
+    ensures { ServesAlone engine.old engine.new result
+        (λ i m. quotas.freed_as i m t (find (spans_of quota base top) m.objects)) }
 {
     match engine.free(t, quota, base, top) {
         Ok(object) => {
@@ -203,7 +210,7 @@ pub(crate) fn free_whole<M: Memory + Drop>(
                 }),
             }
         }
-        Err(NotWhole) => tell(engine, t, code(NO_OBJECT)),
+        Err(NotWhole) => refuse(engine, t, NO_OBJECT),
     }
 }
 
@@ -211,24 +218,13 @@ pub(crate) fn free_whole<M: Memory + Drop>(
 fn free_named<M: Memory + Drop>(engine: &mut Engine<M>, t: u32, quota: u32, c: Live) -> Ran
     requires runs { engine.old.running ≡ Some t }
     requires quota { quota < length engine.old.limits }
-    ensures { (engine.new, result)
-        ≡ freed_as engine.old t (whole_of engine.old.objects quota c) }
+    ensures { ServesAlone engine.old engine.new result
+        (λ i m. quotas.freed_as i m t (quotas.whole_of m.objects quota c)) }
 {
     if !c.cap.tag || c.seal != 0 {
-        return tell(engine, t, code(NO_OBJECT));
+        return refuse(engine, t, NO_OBJECT);
     }
     free_whole(engine, t, quota, base_of(c), c.bounds.top)
-}
-
-/// The object that c11 names is freed.
-fn free_object<M: Memory + Drop>(engine: &mut Engine<M>, t: u32, quota: u32) -> Ran
-    requires runs { engine.old.running ≡ Some t }
-    requires quota { quota < length engine.old.limits }
-    requires named { quota ≡ quota_in engine.old t }
-    ensures { (engine.new, result) ≡ freed_as engine.old t (object_in engine.old t) }
-{
-    let c = engine.register(t, 11);
-    free_named(engine, t, quota, c)
 }
 
 /// Free: the live object that c11, tagged and unsealed, is the whole capability of, and that is charged to the quota
@@ -236,33 +232,32 @@ fn free_object<M: Memory + Drop>(engine: &mut Engine<M>, t: u32, quota: u32) -> 
 ///
 /// It goes on with -1 exactly where c10 is no quota; else with -6 where there is no such object. The trap is the check
 /// of c1 that fails; then nothing changes.
-pub fn free<M: Memory + Drop>(engine: &mut Engine<M>, t: u32) -> Ran
+pub(crate) fn free<M: Memory + Drop>(engine: &mut Engine<M>, t: u32) -> Ran
     requires runs { engine.old.running ≡ Some t }
     requires quota { NamesQuota engine.old t }
-    ensures { (engine.new, result)
-        ≡ by_quota engine.old t (freed_as engine.old t (object_in engine.old t)) }
+    ensures { ServesAlone engine.old engine.new result (λ i m. quotas.free i m t) }
 {
     match quota_named(engine, t) {
-        Err(trap) => Ran::Trapped { trap },
-        Ok(Some(quota)) => free_object(engine, t, quota),
-        Ok(None) => tell(engine, t, code(NO_QUOTA)),
+        Ok(quota) => {
+            let c = engine.register(t, 11);
+            free_named(engine, t, quota, c)
+        }
+        Err(why) => no_quota(engine, t, why),
     }
 }
 
 /// Remaining: the running thread goes on with what the quota that c10 names may still take, in bytes, or with -1
 /// exactly where c10 is no quota. The trap is the check of c1 that fails; then nothing changes.
-pub fn remaining<M: Memory + Drop>(engine: &mut Engine<M>, t: u32) -> Ran
+pub(crate) fn remaining<M: Memory + Drop>(engine: &mut Engine<M>, t: u32) -> Ran
     requires runs { engine.old.running ≡ Some t }
     requires quota { NamesQuota engine.old t }
-    ensures { (engine.new, result)
-        ≡ by_quota engine.old t (tells engine.old t (integer (left_in engine.old t))) }
+    ensures { ServesAlone engine.old engine.new result (λ i m. quotas.remaining i m t) }
 {
     match quota_named(engine, t) {
-        Err(trap) => Ran::Trapped { trap },
-        Ok(Some(quota)) => {
+        Ok(quota) => {
             let left = engine.remaining(quota);
             tell(engine, t, Live::integer(left))
         }
-        Ok(None) => tell(engine, t, code(NO_QUOTA)),
+        Err(why) => no_quota(engine, t, why),
     }
 }

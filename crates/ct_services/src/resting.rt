@@ -1,88 +1,88 @@
 //! Yield, sleep, wait and wake.
 
-ghost use Rattle.std.specs.Prelude.{◌≡◌, ◌*◌, ◌%◌, Some, length};
-ghost use Rattle.def_words.specs.Capability.{integer};
-ghost use Rattle.def_machine.specs.State.{register};
+ghost use Rattle.std.specs.Prelude.{◌≡◌, ◌*◌, ◌-◌, ◌%◌, Some, None, length};
+ghost use Rattle.def_words.specs.Authority.{cap_address};
+ghost use Rattle.def_memory.specs.Accesses.{loaded};
 ghost use Rattle.def_sched.specs.declared.Status.TheVariants.{Ready};
-ghost use Rattle.def_sched.specs.Statuses.{status_of, asleep, awaiting, woken, woken_count};
-ghost use Rattle.def_step.specs.Checks.{first_failed};
+ghost use Rattle.def_sched.specs.Statuses.{status_of, asleep};
+ghost use Rattle.def_machine.specs.State as state;
+ghost use Rattle.def_machine.specs.State.{register};
+ghost use Rattle.def_step.specs.Routines as routine;
+ghost use Rattle.def_step.specs.Routines.{checked, stops, waits};
 ghost use Rattle.def_step.specs.Switch.{return_checks};
 ghost use Rattle.ct_engine.specs.Seen.{thread};
 ghost use Rattle.ct_engine.specs.Bursts.{IsOpen};
+ghost use Rattle.ct_execute.specs.declared.ran.Ran.TheVariants.{Went};
 ghost use Rattle.ct_sched.specs.Sched.{with_statuses};
-ghost use Rattle.ct_services.specs.Served.{address_in, answered_in, rested, waited, with_status, word_held, unless, unless_row};
-ghost use Rattle.ct_services.specs.Served.{IfPasses, IsWord, IsWordTrap};
+ghost use Rattle.ct_services.specs.Served.{IsWord, rested};
+ghost use Rattle.ct_services.specs.Serves.{Serves};
 
-use crate::answering::{answer, code};
+use crate::answering::{answer, refuse};
 use crate::words::word_trap;
-use ct_cap::{Live, Trap};
+use ct_cap::Live;
 use ct_engine::Engine;
+use ct_execute::Ran;
 use ct_mem::Memory;
 use ct_sched::Sched;
 use ct_switch::return_trap;
 use def_profile::answers::DIFFERS;
 
-/// The running thread stops, to be ready after so many ticks.
-fn stop_for<M: Memory + Drop>(engine: &mut Engine<M>, sched: &mut Sched, t: u32, ticks: u32)
-    requires runs { engine.old.running ≡ Some t }
-    requires ready { status_of sched.old.statuses t ≡ Ready }
+/// The running thread stops, with the answer 0.
+fn stop<M: Memory + Drop>(engine: &mut Engine<M>, t: u32) -> Ran
+    requires { engine.old.running ≡ Some t }
     ensures engine { engine.new ≡ rested engine.old t }
-    ensures sched { sched.new ≡ with_status sched.old t (asleep ticks) }
+    ensures ran { result ≡ Went None }
 {
     answer(engine, t, Live::integer(0));
     engine.stop(t);
-    sched.sleep(t, ticks);
+    Ran::Went { done: None }
 }
 
 /// Yield, for no ticks, and sleep: the running thread stops, to be ready after so many ticks. The trap is the
 /// check of c1 that fails; then nothing changes.
-pub fn rest<M: Memory + Drop>(
+pub(crate) fn rest<M: Memory + Drop>(
     engine: &mut Engine<M>,
     sched: &mut Sched,
     t: u32,
     ticks: u32,
-) -> Option<Trap>
+) -> Ran
     requires runs { engine.old.running ≡ Some t }
     requires ready { status_of sched.old.statuses t ≡ Ready }
-    ensures trap { result
-        ≡ first_failed (return_checks (register (thread engine.old t) 1)) }
-    ensures engine { engine.new ≡ unless result engine.old (rested engine.old t) }
-    ensures sched { sched.new
-        ≡ unless_row result sched.old (with_status sched.old t (asleep ticks)) }
+    ensures serves { Serves engine.old sched.old.statuses engine.new sched.new.statuses result
+        (λ i m. checked (return_checks (register (state.thread m t) 1))
+        (stops m t (asleep ticks))) }
+    ensures sched { sched.new ≡ with_statuses sched.old sched.new.statuses }
 {
-    let link = engine.register(t, 1);
-    if let Some(trap) = return_trap(link) {
-        return Some(trap);
+    if let Some(trap) = return_trap(engine.register(t, 1)) {
+        return Ran::Trapped { trap };
     }
-    stop_for(engine, sched, t, ticks);
-    None
+    sched.sleep(t, ticks);
+    stop(engine, t)
 }
 
-/// The first check that fails of c1, then of c10 as a word of RAM.
-fn first_trap<M: Memory + Drop>(engine: &Engine<M>, t: u32, ram: u32) -> Option<Trap>
-    requires runs { engine.now.running ≡ Some t }
-    ensures is { IsWordTrap ram engine.now t result }
-    ensures passes { IfPasses result
-        (IsWord ram (8 * length engine.now.granules)
-        (register (thread engine.now t) 10)) }
+/// Sleep, for as many ticks as c10's address says.
+pub(crate) fn sleep<M: Memory + Drop>(engine: &mut Engine<M>, sched: &mut Sched, t: u32) -> Ran
+    requires runs { engine.old.running ≡ Some t }
+    requires ready { status_of sched.old.statuses t ≡ Ready }
+    ensures serves { Serves engine.old sched.old.statuses engine.new sched.new.statuses result
+        (λ i m. routine.sleep m t) }
+    ensures sched { sched.new ≡ with_statuses sched.old sched.new.statuses }
 {
-    let link = engine.register(t, 1);
-    if let Some(trap) = return_trap(link) {
-        return Some(trap);
-    }
-    word_trap(ram, engine.size(), engine.register(t, 10))
+    let ticks = engine.register(t, 10).address();
+    rest(engine, sched, t, ticks)
 }
 
 /// What the word holds that c10 names.
 #[tactic(auto, using(crate::proofs::Held::word_low, crate::proofs::Held::word_accessed, crate::proofs::Held::word_seen))]
-fn word_waited_for<M: Memory + Drop>(engine: &Engine<M>, t: u32, ram: u32) -> u32
+fn word_held<M: Memory + Drop>(engine: &Engine<M>, t: u32, ram: u32) -> u32
     requires runs { engine.now.running ≡ Some t }
     requires opens { IsOpen engine.now t }
     requires ram { ram ≡ engine.now.region.ram }
     requires even { ram % 16 ≡ 0 }
     requires word { IsWord ram (8 * length engine.now.granules)
         (register (thread engine.now t) 10) }
-    ensures { result ≡ word_held ram engine.now t }
+    ensures { result
+        ≡ loaded engine.now.granules (cap_address (register (thread engine.now t) 10) - ram) 4 }
 {
     let address = engine.register(t, 10).address();
     engine.load(address - ram, 4)
@@ -96,19 +96,17 @@ fn wait_for<M: Memory + Drop>(
     address: u32,
     held: u32,
     wanted: u32,
-)
+) -> Ran
     requires runs { engine.old.running ≡ Some t }
     requires ready { status_of sched.old.statuses t ≡ Ready }
-    ensures engine { engine.new
-        ≡ waited engine.old t held wanted }
-    ensures sched { sched.new ≡ with_status sched.old t (awaiting address held wanted) }
+    ensures serves { Serves engine.old sched.old.statuses engine.new sched.new.statuses result
+        (λ i m. waits m t address held wanted) }
+    ensures sched { sched.new ≡ with_statuses sched.old sched.new.statuses }
 {
     if sched.wait(t, address, held, wanted) {
-        answer(engine, t, Live::integer(0));
-        engine.stop(t);
-    } else {
-        answer(engine, t, code(DIFFERS));
+        return stop(engine, t);
     }
+    refuse(engine, t, DIFFERS)
 }
 
 /// Wait: the running thread waits for the word that c10 names where that holds c11's address, else it goes
@@ -116,67 +114,57 @@ fn wait_for<M: Memory + Drop>(
 /// changes.
 ///
 /// Condition: nothing is hidden that the thread may load.
-pub fn wait<M: Memory + Drop>(
+pub(crate) fn wait<M: Memory + Drop>(
     engine: &mut Engine<M>,
     sched: &mut Sched,
     t: u32,
     ram: u32,
-) -> Option<Trap>
+) -> Ran
     requires runs { engine.old.running ≡ Some t }
     requires ready { status_of sched.old.statuses t ≡ Ready }
     requires opens { IsOpen engine.old t }
     requires ram { ram ≡ engine.old.region.ram }
     requires even { ram % 16 ≡ 0 }
-    ensures trap { IsWordTrap ram engine.old t result }
-    ensures engine { engine.new
-        ≡ unless result engine.old
-        (waited engine.old t (word_held ram engine.old t)
-        (address_in engine.old t 11)) }
-    ensures sched { sched.new
-        ≡ unless_row result sched.old
-        (with_status sched.old t
-        (awaiting (address_in engine.old t 10) (word_held ram engine.old t)
-        (address_in engine.old t 11))) }
+    ensures serves { Serves engine.old sched.old.statuses engine.new sched.new.statuses result
+        (λ i m. routine.wait i m t) }
+    ensures sched { sched.new ≡ with_statuses sched.old sched.new.statuses }
 {
-    if let Some(trap) = first_trap(engine, t, ram) {
-        return Some(trap);
+    if let Some(trap) = return_trap(engine.register(t, 1)) {
+        return Ran::Trapped { trap };
     }
-    let address = engine.register(t, 10).address();
+    let word = engine.register(t, 10);
+    if let Some(trap) = word_trap(ram, engine.size(), word) {
+        return Ran::Trapped { trap };
+    }
+    let held = word_held(engine, t, ram);
     let wanted = engine.register(t, 11).address();
-    let held = word_waited_for(engine, t, ram);
-    wait_for(engine, sched, t, address, held, wanted);
-    None
+    wait_for(engine, sched, t, word.address(), held, wanted)
 }
 
 /// Wake: of the threads that wait for the word that c10 names, as many as c11's address says are ready, those
 /// with the lowest numbers, and the running thread goes on with how many they are. The trap is the first
 /// check that fails, of c1, then of c10 as a word of RAM; then nothing changes.
-pub fn wake<M: Memory + Drop>(
+pub(crate) fn wake<M: Memory + Drop>(
     engine: &mut Engine<M>,
     sched: &mut Sched,
     t: u32,
     ram: u32,
-) -> Option<Trap>
+) -> Ran
     requires runs { engine.old.running ≡ Some t }
-    ensures trap { IsWordTrap ram engine.old t result }
-    ensures engine { engine.new
-        ≡ unless result engine.old
-        (answered_in engine.old t
-        (integer
-        (woken_count (address_in engine.old t 10)
-        (address_in engine.old t 11) sched.old.statuses))) }
-    ensures sched { sched.new
-        ≡ unless_row result sched.old
-        (with_statuses sched.old
-        (woken (address_in engine.old t 10) (address_in engine.old t 11)
-        sched.old.statuses)) }
+    requires ram { ram ≡ engine.old.region.ram }
+    ensures serves { Serves engine.old sched.old.statuses engine.new sched.new.statuses result
+        (λ i m. routine.wake i m t) }
+    ensures sched { sched.new ≡ with_statuses sched.old sched.new.statuses }
 {
-    if let Some(trap) = first_trap(engine, t, ram) {
-        return Some(trap);
+    if let Some(trap) = return_trap(engine.register(t, 1)) {
+        return Ran::Trapped { trap };
     }
-    let address = engine.register(t, 10).address();
+    let word = engine.register(t, 10);
+    if let Some(trap) = word_trap(ram, engine.size(), word) {
+        return Ran::Trapped { trap };
+    }
     let most = engine.register(t, 11).address();
-    let count = sched.wake(address, most);
+    let count = sched.wake(word.address(), most);
     answer(engine, t, Live::integer(count));
-    None
+    Ran::Went { done: None }
 }

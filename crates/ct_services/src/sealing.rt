@@ -3,34 +3,30 @@
 ghost use Rattle.std.specs.Prelude.{◌≡◌, ◌≤◌, ◌<◌, Some, None, IfSome, length, true};
 ghost use Rattle.std.specs.List.{list_any};
 ghost use Rattle.def_machine.specs.Rows.{RowsFit};
-ghost use Rattle.def_profile.specs.declared.layout.TheConstants as layout;
 ghost use Rattle.def_profile.specs.declared.limits.TheConstants.{MOST_STEPS};
 ghost use Rattle.def_words.specs.Authority.{cap_address};
-ghost use Rattle.def_machine.specs.State.{register};
-ghost use Rattle.def_step.specs.Checks.{first_failed};
-ghost use Rattle.def_step.specs.Switch.{return_checks};
-ghost use Rattle.def_step.specs.Tokens.{is_key_row, sealed_object};
-ghost use Rattle.ct_heap.specs.Lookups.{found_as};
-ghost use Rattle.ct_engine.specs.Seen.{thread};
-ghost use Rattle.ct_engine.specs.Grants.{allocation_in};
-ghost use Rattle.ct_services.specs.Granted.{NamesQuota, quota_in, by_quota, checked};
-ghost use Rattle.ct_services.specs.Sealed.{key_of, token_of, number_of, made_token, by_key, opens, frees_token};
+ghost use Rattle.def_machine.specs.State.{register, thread};
+ghost use Rattle.def_step.specs.Quotas.{allocation};
+ghost use Rattle.def_step.specs.Tokens as tokens;
+ghost use Rattle.def_step.specs.Tokens.{is_key_row, sealed_object, as_key, as_token, key_of, token_object};
+ghost use Rattle.ct_services.specs.Arguments.{NamesQuota, Finds};
+ghost use Rattle.ct_services.specs.Serves.{ServesAlone};
 
-use crate::answering::code;
-use crate::granting::{base_of, capability, decline, free_whole, hand_out, quota_named, tell};
+use crate::answering::{refuse, tell};
+use crate::granting::{base_of, capability, decline, free_whole, hand_out, no_quota, quota_named};
 use ct_cap::Live;
 use ct_engine::{Engine, Found};
 use ct_execute::Ran;
 use ct_mem::Memory;
 use ct_switch::return_trap;
 use ct_token::opened;
-use def_profile::answers::{NO_KEY, NO_OBJECT, NO_QUOTA, NO_TOKEN};
+use def_profile::answers::{NO_KEY, NO_OBJECT, NO_TOKEN};
 use def_profile::layout::GRANULE;
 use def_profile::seals::TOKEN_TYPE;
 
 /// The live object that a capability is the whole of, where it is sealed as a key or a token.
 fn sealed_in<M: Memory + Drop>(engine: &Engine<M>, c: Live) -> Option<Found>
-    ensures { result ≡ found_as engine.now.objects (sealed_object engine.now.objects c) }
+    ensures { Finds engine.now.objects c (sealed_object engine.now.objects c) result }
 {
     if !c.cap.tag || c.seal != TOKEN_TYPE {
         return None;
@@ -38,16 +34,17 @@ fn sealed_in<M: Memory + Drop>(engine: &Engine<M>, c: Live) -> Option<Found>
     engine.find(base_of(c), c.bounds.top)
 }
 
-/// The number of the live key that a capability is of.
-fn key_in<M: Memory + Drop>(engine: &Engine<M>, c: Live) -> Option<u32>
-    ensures is { result ≡ number_of (key_of engine.now c) }
-    ensures key { IfSome result (λ n. list_any (is_key_row n) engine.now.tokens ≡ true) }
+/// The live key that a capability is of.
+fn key_in<M: Memory + Drop>(engine: &Engine<M>, c: Live) -> Option<Found>
+    ensures is { Finds engine.now.objects c
+        (as_key engine.now.tokens (sealed_object engine.now.objects c)) result }
+    ensures key { IfSome result
+        (λ f. list_any (is_key_row f.object.number) engine.now.tokens ≡ true) }
 {
     match sealed_in(engine, c) {
         Some(found) => {
-            let number = found.object.number;
-            if engine.is_key(number) {
-                Some(number)
+            if engine.is_key(found.object.number) {
+                Some(found)
             } else {
                 None
             }
@@ -59,7 +56,8 @@ fn key_in<M: Memory + Drop>(engine: &Engine<M>, c: Live) -> Option<u32>
 /// The live token that a capability is of, where it was made with this key.
 fn token_in<M: Memory + Drop>(engine: &Engine<M>, key: u32, c: Live) -> Option<Found>
     requires { list_any (is_key_row key) engine.now.tokens ≡ true }
-    ensures { result ≡ found_as engine.now.objects (token_of engine.now key c) }
+    ensures { Finds engine.now.objects c
+        (as_token engine.now.tokens key (sealed_object engine.now.objects c)) result }
 {
     match sealed_in(engine, c) {
         Some(found) => {
@@ -86,8 +84,8 @@ fn seal_new<M: Memory + Drop>(
     requires quota { quota < length engine.old.limits }
     requires few { engine.old.next ≤ MOST_STEPS }
     requires rows { RowsFit engine.old.objects engine.old.tokens }
-    ensures { (engine.new, result)
-        ≡ made_token engine.old t key (allocation_in engine.old quota size) }
+    ensures { ServesAlone engine.old engine.new result
+        (λ i m. tokens.made_token m t key (allocation i m quota size)) }
 {
     match engine.allocate_sealed(quota, size, key) {
         Ok(object) => hand_out(
@@ -108,20 +106,16 @@ fn seal_new<M: Memory + Drop>(
 /// c1 that fails; then nothing changes.
 ///
 /// Condition: each row is of a live object, and no two are of one.
-pub fn token_key<M: Memory + Drop>(engine: &mut Engine<M>, t: u32) -> Ran
+pub(crate) fn token_key<M: Memory + Drop>(engine: &mut Engine<M>, t: u32) -> Ran
     requires runs { engine.old.running ≡ Some t }
     requires quota { NamesQuota engine.old t }
     requires few { engine.old.next ≤ MOST_STEPS }
     requires rows { RowsFit engine.old.objects engine.old.tokens }
-    ensures { (engine.new, result)
-        ≡ by_quota engine.old t
-        (made_token engine.old t None
-        (allocation_in engine.old (quota_in engine.old t) layout.GRANULE)) }
+    ensures { ServesAlone engine.old engine.new result (λ i m. tokens.token_key i m t) }
 {
     match quota_named(engine, t) {
-        Err(trap) => Ran::Trapped { trap },
-        Ok(Some(quota)) => seal_new(engine, t, quota, GRANULE, None),
-        Ok(None) => tell(engine, t, code(NO_QUOTA)),
+        Ok(quota) => seal_new(engine, t, quota, GRANULE, None),
+        Err(why) => no_quota(engine, t, why),
     }
 }
 
@@ -131,18 +125,19 @@ fn make_token<M: Memory + Drop>(engine: &mut Engine<M>, t: u32, quota: u32) -> R
     requires quota { quota < length engine.old.limits }
     requires few { engine.old.next ≤ MOST_STEPS }
     requires rows { RowsFit engine.old.objects engine.old.tokens }
-    ensures { (engine.new, result)
-        ≡ by_key engine.old t (key_of engine.old (register (thread engine.old t) 12))
-        (λ key. made_token engine.old t (Some key)
-        (allocation_in engine.old quota (cap_address (register (thread engine.old t) 11)))) }
+    ensures { ServesAlone engine.old engine.new result
+        (λ i m. tokens.by_key m t (key_of m (register (thread m t) 12))
+        (λ key. tokens.made_token m t (Some key)
+        (allocation i m quota (cap_address (register (thread m t) 11))))) }
 {
     let c = engine.register(t, 12);
     match key_in(engine, c) {
-        Some(key) => {
+        Some(found) => {
+            let key = found.object.number;
             let size = engine.register(t, 11).address();
             seal_new(engine, t, quota, size, Some(key))
         }
-        None => tell(engine, t, code(NO_KEY)),
+        None => refuse(engine, t, NO_KEY),
     }
 }
 
@@ -153,22 +148,16 @@ fn make_token<M: Memory + Drop>(engine: &mut Engine<M>, t: u32, quota: u32) -> R
 /// those bytes. The trap is the check of c1 that fails; then nothing changes.
 ///
 /// Condition: each row is of a live object, and no two are of one.
-pub fn token_new<M: Memory + Drop>(engine: &mut Engine<M>, t: u32) -> Ran
+pub(crate) fn token_new<M: Memory + Drop>(engine: &mut Engine<M>, t: u32) -> Ran
     requires runs { engine.old.running ≡ Some t }
     requires quota { NamesQuota engine.old t }
     requires few { engine.old.next ≤ MOST_STEPS }
     requires rows { RowsFit engine.old.objects engine.old.tokens }
-    ensures { (engine.new, result)
-        ≡ by_quota engine.old t
-        (by_key engine.old t (key_of engine.old (register (thread engine.old t) 12))
-        (λ key. made_token engine.old t (Some key)
-        (allocation_in engine.old (quota_in engine.old t)
-        (cap_address (register (thread engine.old t) 11))))) }
+    ensures { ServesAlone engine.old engine.new result (λ i m. tokens.token_new i m t) }
 {
     match quota_named(engine, t) {
-        Err(trap) => Ran::Trapped { trap },
-        Ok(Some(quota)) => make_token(engine, t, quota),
-        Ok(None) => tell(engine, t, code(NO_QUOTA)),
+        Ok(quota) => make_token(engine, t, quota),
+        Err(why) => no_quota(engine, t, why),
     }
 }
 
@@ -176,29 +165,29 @@ pub fn token_new<M: Memory + Drop>(engine: &mut Engine<M>, t: u32) -> Ran
 fn open_token<M: Memory + Drop>(engine: &mut Engine<M>, t: u32, key: u32) -> Ran
     requires runs { engine.old.running ≡ Some t }
     requires key { list_any (is_key_row key) engine.old.tokens ≡ true }
-    ensures { (engine.new, result)
-        ≡ opens engine.old t (register (thread engine.old t) 11)
-        (token_of engine.old key (register (thread engine.old t) 11)) }
+    ensures { ServesAlone engine.old engine.new result
+        (λ i m. tokens.opens m t (register (thread m t) 11)
+        (token_object m key (register (thread m t) 11))) }
 {
     let c = engine.register(t, 11);
     match token_in(engine, key, c) {
         Some(_) => tell(engine, t, opened(c)),
-        None => tell(engine, t, code(NO_TOKEN)),
+        None => refuse(engine, t, NO_TOKEN),
     }
 }
 
 /// The token that c11 is, of the key that c10 is, is opened.
 fn open_by_key<M: Memory + Drop>(engine: &mut Engine<M>, t: u32) -> Ran
     requires { engine.old.running ≡ Some t }
-    ensures { (engine.new, result)
-        ≡ by_key engine.old t (key_of engine.old (register (thread engine.old t) 10))
-        (λ key. opens engine.old t (register (thread engine.old t) 11)
-        (token_of engine.old key (register (thread engine.old t) 11))) }
+    ensures { ServesAlone engine.old engine.new result
+        (λ i m. tokens.by_key m t (key_of m (register (thread m t) 10))
+        (λ key. tokens.opens m t (register (thread m t) 11)
+        (token_object m key (register (thread m t) 11)))) }
 {
     let c = engine.register(t, 10);
     match key_in(engine, c) {
-        Some(key) => open_token(engine, t, key),
-        None => tell(engine, t, code(NO_KEY)),
+        Some(found) => open_token(engine, t, found.object.number),
+        None => refuse(engine, t, NO_KEY),
     }
 }
 
@@ -207,13 +196,9 @@ fn open_by_key<M: Memory + Drop>(engine: &mut Engine<M>, t: u32) -> Ran
 ///
 /// It goes on with -7 exactly where c10 is no live key; else with -8 where c11 is no live token of it. The trap is the
 /// check of c1 that fails; then nothing changes.
-pub fn token_open<M: Memory + Drop>(engine: &mut Engine<M>, t: u32) -> Ran
+pub(crate) fn token_open<M: Memory + Drop>(engine: &mut Engine<M>, t: u32) -> Ran
     requires { engine.old.running ≡ Some t }
-    ensures { (engine.new, result)
-        ≡ checked (first_failed (return_checks (register (thread engine.old t) 1))) engine.old
-        (by_key engine.old t (key_of engine.old (register (thread engine.old t) 10))
-        (λ key. opens engine.old t (register (thread engine.old t) 11)
-        (token_of engine.old key (register (thread engine.old t) 11)))) }
+    ensures { ServesAlone engine.old engine.new result (λ i m. tokens.token_open m t) }
 {
     match return_trap(engine.register(t, 1)) {
         Some(trap) => Ran::Trapped { trap },
@@ -226,26 +211,19 @@ fn free_token<M: Memory + Drop>(engine: &mut Engine<M>, t: u32, quota: u32, key:
     requires runs { engine.old.running ≡ Some t }
     requires quota { quota < length engine.old.limits }
     requires key { list_any (is_key_row key) engine.old.tokens ≡ true }
-    ensures { (engine.new, result)
-        ≡ frees_token engine.old t quota
-        (token_of engine.old key (register (thread engine.old t) 12)) }
+    ensures { ServesAlone engine.old engine.new result
+        (λ i m. tokens.frees_token i m t quota
+        (token_object m key (register (thread m t) 12))) }
 {
     let c = engine.register(t, 12);
     match token_in(engine, key, c) {
         Some(found) => {
             if found.quota != quota {
-                return tell(engine, t, code(NO_OBJECT));
+                return refuse(engine, t, NO_OBJECT);
             }
-            let object = found.object;
-            free_whole(
-                engine,
-                t,
-                quota,
-                object.base,
-                object.base as u64 + object.length as u64,
-            )
+            free_whole(engine, t, quota, base_of(c), c.bounds.top)
         }
-        None => tell(engine, t, code(NO_TOKEN)),
+        None => refuse(engine, t, NO_TOKEN),
     }
 }
 
@@ -253,15 +231,15 @@ fn free_token<M: Memory + Drop>(engine: &mut Engine<M>, t: u32, quota: u32, key:
 fn take_token<M: Memory + Drop>(engine: &mut Engine<M>, t: u32, quota: u32) -> Ran
     requires runs { engine.old.running ≡ Some t }
     requires quota { quota < length engine.old.limits }
-    ensures { (engine.new, result)
-        ≡ by_key engine.old t (key_of engine.old (register (thread engine.old t) 11))
-        (λ key. frees_token engine.old t quota
-        (token_of engine.old key (register (thread engine.old t) 12))) }
+    ensures { ServesAlone engine.old engine.new result
+        (λ i m. tokens.by_key m t (key_of m (register (thread m t) 11))
+        (λ key. tokens.frees_token i m t quota
+        (token_object m key (register (thread m t) 12)))) }
 {
     let c = engine.register(t, 11);
     match key_in(engine, c) {
-        Some(key) => free_token(engine, t, quota, key),
-        None => tell(engine, t, code(NO_KEY)),
+        Some(found) => free_token(engine, t, quota, found.object.number),
+        None => refuse(engine, t, NO_KEY),
     }
 }
 
@@ -271,18 +249,13 @@ fn take_token<M: Memory + Drop>(engine: &mut Engine<M>, t: u32, quota: u32) -> R
 /// It goes on with -1 exactly where c10 is no quota; else with -7 where c11 is no live key; else with -8 where c12 is
 /// no live token of it; else with -6 where the token is charged to another quota. The trap is the check of c1 that
 /// fails; then nothing changes.
-pub fn token_free<M: Memory + Drop>(engine: &mut Engine<M>, t: u32) -> Ran
+pub(crate) fn token_free<M: Memory + Drop>(engine: &mut Engine<M>, t: u32) -> Ran
     requires runs { engine.old.running ≡ Some t }
     requires quota { NamesQuota engine.old t }
-    ensures { (engine.new, result)
-        ≡ by_quota engine.old t
-        (by_key engine.old t (key_of engine.old (register (thread engine.old t) 11))
-        (λ key. frees_token engine.old t (quota_in engine.old t)
-        (token_of engine.old key (register (thread engine.old t) 12)))) }
+    ensures { ServesAlone engine.old engine.new result (λ i m. tokens.token_free i m t) }
 {
     match quota_named(engine, t) {
-        Err(trap) => Ran::Trapped { trap },
-        Ok(Some(quota)) => take_token(engine, t, quota),
-        Ok(None) => tell(engine, t, code(NO_QUOTA)),
+        Ok(quota) => take_token(engine, t, quota),
+        Err(why) => no_quota(engine, t, why),
     }
 }

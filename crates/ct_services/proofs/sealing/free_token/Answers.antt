@@ -1,31 +1,32 @@
-use Rattle.std.proofs.Common.{◌+◌, ◌∙◌, refl, ap}
-use Rattle.def_words.specs.declared.Cap.{Cap}
-use Rattle.ct_services.specs.Granted.{tells}
-use Rattle.ct_services.specs.Sealed.{token_of, frees_token}
-use Rattle.ct_services.proofs.Sealed.{found_says, frees_other, frees_whole, frees_none}
+use Rattle.std.proofs.Common.{◌≡◌, ◌∙◌, refl, sym, eq-eqb, arith}
+use Rattle.def_words.specs.Authority.{cap_top}
+use Rattle.ct_services.proofs.Serving.{serves_as, register_alike}
+use Rattle.ct_services.proofs.Sealed.{of_quota, charged_else}
 use Rattle.ct_services.proofs.sealing.free_token.Goals as goal
 
 pub returns-then-found-quota : goal.returns-then-found-quota
 returns-then-found-quota g c =
-    let s = c.args.engine.now in
-    let t = c.args.t in
-    c.tell.ensures ∙ ap (λ (v : Cap). tells s t v) c.code.ensures
-    ∙ frees_other s t c.args.quota c.args.key c.register-c.result c.in-Some.found (found_says s.objects (token_of s c.args.key c.register-c.result) c.in-Some.found c.in-Some.ensures) c.if-found-quota.true
-    ∙ ap (λ (x : Cap). frees_token s t c.args.quota (token_of s c.args.key x)) c.register-c.ensures
+    let w = c.in-Some.ensures in
+    let other = charged_else c.in-Some.found.quota w.0.object.quota c.args.quota w.0.quota c.if-found-quota.true in
+    serves_as c.refuse.ensures
+    (λ i m ss h.
+    rw (← register_alike m c.args.engine.now ss c.args.t 12, ← c.register-c.ensures, w.1, other) refl)
 
 pub returns-else-found-quota : goal.returns-else-found-quota
 returns-else-found-quota g c =
     let s = c.args.engine.now in
-    let t = c.args.t in
-    c.free_whole.ensures
-    ∙ frees_whole s t c.args.quota c.args.key c.register-c.result c.in-Some.found (found_says s.objects (token_of s c.args.key c.register-c.result) c.in-Some.found c.in-Some.ensures)
-    c.in-Some.found.object.base (c.in-Some.found.object.base + c.in-Some.found.object.length) c.if-found-quota.false refl refl
-    ∙ ap (λ (x : Cap). frees_token s t c.args.quota (token_of s c.args.key x)) c.register-c.ensures
+    let w = c.in-Some.ensures in
+    let same = sym w.0.quota ∙ c.if-found-quota.false in
+    let own = eq-eqb w.0.object.quota c.args.quota same in
+    let top : c.c.inside.bounds.top ≡ cap_top c.register-c.result = grind arith in
+    let there = of_quota s.objects c.register-c.result w.0.object c.args.quota c.base_of.result c.c.inside.bounds.top
+    same c.base_of.ensures top w.0.whole in
+    serves_as c.free_whole.ensures
+    (λ i m ss h.
+    rw (← register_alike m s ss c.args.t 12, ← c.register-c.ensures, w.1, own, there) refl)
 
 pub returns-in-None : goal.returns-in-None
 returns-in-None g c =
-    let s = c.args.engine.now in
-    let t = c.args.t in
-    c.tell-in-None.ensures ∙ ap (λ (v : Cap). tells s t v) c.code-in-None.ensures
-    ∙ frees_none s t c.args.quota (token_of s c.args.key c.register-c.result) c.in-None.ensures
-    ∙ ap (λ (x : Cap). frees_token s t c.args.quota (token_of s c.args.key x)) c.register-c.ensures
+    serves_as c.refuse-in-None.ensures
+    (λ i m ss h.
+    rw (← register_alike m c.args.engine.now ss c.args.t 12, ← c.register-c.ensures, c.in-None.ensures) refl)

@@ -1,22 +1,18 @@
-use Rattle.std.proofs.Common.{◌∙◌, sym}
-use Rattle.def_step.specs.Tokens.{sealed_object}
-use Rattle.ct_services.proofs.Sealed.{key_then, key_else, key_none}
+use Rattle.std.proofs.Common.{◌∙◌, refl, sym}
 use Rattle.ct_services.proofs.sealing.key_in.Goals as goal
 
 pub returns-then-is_key-clause-is : goal.returns-then-is_key-clause-is
 returns-then-is_key-clause-is g c =
-    let s = c.args.engine.now in
-    key_then s.objects s.tokens (sealed_object s.objects c.args.c) c.in-Some.found c.in-Some.ensures (sym c.is_key.ensures ∙ c.if-is_key.true)
+    let w = c.in-Some.ensures in
+    (w.0, rw (w.1, ← w.0.number, sym c.is_key.ensures ∙ c.if-is_key.true) refl)
 
 pub returns-then-is_key-clause-key : goal.returns-then-is_key-clause-key
 returns-then-is_key-clause-key g c = sym c.is_key.ensures ∙ c.if-is_key.true
 
 pub returns-else-is_key-clause-is : goal.returns-else-is_key-clause-is
 returns-else-is_key-clause-is g c =
-    let s = c.args.engine.now in
-    key_else s.objects s.tokens (sealed_object s.objects c.args.c) c.in-Some.found c.in-Some.ensures (sym c.is_key.ensures ∙ c.if-is_key.false)
+    let w = c.in-Some.ensures in
+    rw (w.1, ← w.0.number, sym c.is_key.ensures ∙ c.if-is_key.false) refl
 
 pub returns-in-None-clause-is : goal.returns-in-None-clause-is
-returns-in-None-clause-is g c =
-    let s = c.args.engine.now in
-    key_none s.objects s.tokens (sealed_object s.objects c.args.c) c.in-None.ensures
+returns-in-None-clause-is g c = rw c.in-None.ensures refl

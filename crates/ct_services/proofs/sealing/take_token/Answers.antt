@@ -1,24 +1,16 @@
-use Rattle.std.proofs.Common.{ℕ, ◌∙◌, ap}
-use Rattle.def_words.specs.declared.Cap.{Cap}
-use Rattle.def_machine.specs.State.{register}
-use Rattle.ct_engine.specs.Seen.{Seen, thread}
-use Rattle.ct_execute.specs.declared.ran.Ran.{Ran}
-use Rattle.ct_services.specs.Granted.{tells}
-use Rattle.ct_services.specs.Sealed.{key_of, token_of, number_of, frees_token}
-use Rattle.ct_services.proofs.Sealed.{by_some, by_none}
+use Rattle.std.proofs.Common.{refl}
+use Rattle.ct_services.proofs.Serving.{serves_as, register_alike, registers_alike}
 use Rattle.ct_services.proofs.sealing.take_token.Goals as goal
 
 pub returns-in-Some : goal.returns-in-Some
 returns-in-Some g c =
-    let s = c.args.engine.now in
-    let t = c.args.t in
-    let came : ℕ → Seen × Ran = λ key. frees_token s t c.args.quota (token_of s key (register (thread s t) 12)) in
-    c.free_token.ensures ∙ by_some s t c.in-Some.key (key_of s (register (thread s t) 11)) came (c.in-Some.ensures.is ∙ ap (λ (x : Cap). number_of (key_of s x)) c.register-c.ensures)
+    let w = c.in-Some.ensures.is in
+    serves_as c.free_token.ensures
+    (λ i m ss h.
+    rw (registers_alike m c.args.engine.now ss c.args.t, ← c.register-c.ensures, w.1, w.0.number) refl)
 
 pub returns-in-None : goal.returns-in-None
 returns-in-None g c =
-    let s = c.args.engine.now in
-    let t = c.args.t in
-    let came : ℕ → Seen × Ran = λ key. frees_token s t c.args.quota (token_of s key (register (thread s t) 12)) in
-    c.tell.ensures ∙ ap (λ (v : Cap). tells s t v) c.code.ensures
-    ∙ by_none s t (key_of s (register (thread s t) 11)) came (c.in-None.ensures.is ∙ ap (λ (x : Cap). number_of (key_of s x)) c.register-c.ensures)
+    serves_as c.refuse.ensures
+    (λ i m ss h.
+    rw (← register_alike m c.args.engine.now ss c.args.t 11, ← c.register-c.ensures, c.in-None.ensures.is) refl)

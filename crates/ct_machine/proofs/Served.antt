@@ -1,0 +1,149 @@
+-- What a native routine asks, and that what it came to is what the written one comes to.
+use Rattle.std.proofs.Common.{ℕ, ◌%◌, ◌==◌, ◌≡◌, ◌≤◌, ◌<◌, Bool, length, inr, List, Option, Some, None, refl, sym, ap, ◌∙◌, subst}
+use Rattle.std.proofs.lemmas.Bool.{eqb-true, and_parts}
+use Rattle.ct_entry.specs.declared.rows.Kind.TheVariants as kind
+use Rattle.def_words.specs.declared.Cap.{Cap}
+use Rattle.def_words.specs.Seals.{cap_seal}
+use Rattle.def_sched.specs.declared.Status.{Status}
+use Rattle.def_reach.specs.Roots.{Listing, is_quota}
+use Rattle.def_confined.specs.Capabilities.{Rooted}
+use Rattle.def_confined.specs.Confined.{Confined}
+use Rattle.def_confined.specs.Facts.{Facts}
+use Rattle.def_machine.specs.Image.{Image, root}
+use Rattle.def_machine.specs.State.{State, Counts, thread, register}
+use Rattle.def_machine.specs.Platform.{Platform, MachineRow}
+use Rattle.def_step.specs.Devices.{DeviceStates}
+use Rattle.def_step.specs.Quotas.{is_quota_cap}
+use Rattle.def_step.specs.Native.{native}
+use Rattle.def_step.specs.Routines as routine
+use Rattle.def_step.specs.Instructions.{ran, served, trapped}
+use Rattle.law_moves.proofs.JumpsMoves.{in_rooted}
+use Rattle.ct_sched.specs.Sched as sched
+use Rattle.ct_sched.specs.Sched.{SchedRow}
+use Rattle.ct_engine.specs.Seen.{Seen}
+use Rattle.ct_execute.specs.declared.ran.Ran.{Ran}
+use Rattle.ct_execute.specs.declared.ran.Ran.TheVariants.{Went, Returned, Native, Trapped}
+use Rattle.ct_execute.specs.Deciding.{IfUnfinished}
+use Rattle.ct_services.specs.Conditions.{MayServe}
+use Rattle.ct_services.specs.Arguments.{NamesQuota}
+use Rattle.ct_services.specs.Serves.{ComesTo, Serves, routine_or_trap}
+use Rattle.ct_services.proofs.Serving.{register_alike}
+use Rattle.ct_machine.specs.Parts.{state_by, IsKept, IsCounted}
+use Rattle.ct_machine.specs.Going.{CameTo, IsDone, MayGoOn, Runs}
+use Rattle.ct_machine.proofs.Taking.{ram_is}
+use Rattle.ct_machine.proofs.Keeping.{machine_by, stays_kept, unfinished_map}
+use Rattle.ct_machine.proofs.Opened.{is_open}
+use Rattle.ct_machine.proofs.Sizes.{few_by, made_by}
+
+-- a number of none traps
+ran_or_trap : (b : Platform) (s : State) (t : ℕ) (x : Option routine.Ran)
+    → ran b s t (routine_or_trap x) ≡ served b s t x
+ran_or_trap b s t (Some x) = refl
+ran_or_trap b s t None = refl
+
+-- it comes to no second routine, and to no return
+done_by : (after : State) (q : Ran) (x : routine.Ran) → ComesTo after q x → IsDone q
+done_by after (Went acted) x is = tt
+done_by after (Trapped why) x is = tt
+done_by after Returned x is = absurd is
+done_by after (Native number) x is = absurd is
+
+module _ (i : Image) (e : Seen) (r : SchedRow) (k : DeviceStates) (pending : Bool) (time : ℕ) (c : Counts) (t : ℕ)
+    (kept : IsKept i e r) where
+  abbrev here : State
+  here = state_by e r pending k.states time c
+
+  abbrev machine : Seen → SchedRow → MachineRow
+  machine x y = machine_by i x y k pending time c
+
+  abbrev board : Platform
+  board = record { image = i; bases = k.bases }
+
+  -- ---- what it asks
+
+  -- c10 is a quota's capability only where its root is a quota of the image
+  names_quota : Facts i → Confined i here → NamesQuota e t
+  names_quota facts held is =
+      let ten = register_alike here e r.statuses t 10 in
+      let c10 : Cap = register (thread here t) 10 in
+      let both = and_parts c10.tag (cap_seal c10 == 10) (ap is_quota_cap (sym ten) ∙ is) in
+      let sealed : cap_seal c10 ≡ 10 = eqb-true (cap_seal c10) 10 both.1 in
+      let rooted : Rooted i c10 = in_rooted i here.objects t (thread here t).frames c10 (held.registers t 10) both.0 in
+      let origin : (root i c10.shadow.root).origin ≡ Listing kind.Quota =
+      facts.quotas c10.shadow.root (sym (rooted.boot (inr (inr (inr (inr sealed))))).seal ∙ sealed) in
+      subst (λ (z : Cap). z.shadow.root < length e.limits) (sym ten) (kept.quotas c10.shadow.root (ap is_quota origin))
+
+  pub may_serve : (ram : ℕ) (m : MachineRow) → machine e r ≡ m → MayGoOn m → Runs m t
+      → m.state.next ≤ m.state.counts.steps → IsCounted c time e.next → ram ≡ i.ram → MayServe e r.statuses t ram
+  may_serve ram m is may_now runs_now few_now counted place =
+      let may = subst MayGoOn (sym is) may_now in
+      let runs = subst (λ (x : MachineRow). Runs x t) (sym is) runs_now in
+      let few = subst (λ (x : MachineRow). x.state.next ≤ x.state.counts.steps) (sym is) few_now in
+      record {
+        runs = runs.runs;
+        ready = kept.ready t runs.runs;
+        quota = names_quota may.facts may.keeps.confined;
+        opens = is_open i e r pending k.states time c t kept may.shut may.keeps.confined runs.runs;
+        few = few_by c time e.next counted few;
+        rows = may.rows;
+        place = place ∙ sym (ram_is i e r kept);
+        even = subst (λ n. n % 16 ≡ 0) (sym place) kept.placed.even;
+      }
+
+  -- ---- what it came to
+
+  came_ran : (m : MachineRow) (q : Ran) (x : routine.Ran) → m.board ≡ board → m.state.counts ≡ c → ComesTo m.state q x
+      → IfUnfinished q (m ≡ machine e r) → CameTo (machine e r) m t q (ran board here t x)
+  came_ran m (Went None) x board_is counts is same =
+      rw is (record { is = refl; board = board_is; counts = counts; unfinished = tt })
+  came_ran m (Went (Some d)) x board_is counts is same =
+      rw is (record { is = refl; board = board_is; counts = counts; unfinished = tt })
+  came_ran m (Trapped why) x board_is counts is same =
+      rw is
+      (record {
+        is = ap (λ (n : MachineRow). trapped board n.state t why) same;
+        board = board_is;
+        counts = counts;
+        unfinished = same;
+      })
+  came_ran m Returned x board_is counts is same = absurd is
+  came_ran m (Native number) x board_is counts is same = absurd is
+
+  module _ (number : ℕ) (new : Seen) (row : SchedRow) (q : Ran) (turn : row ≡ sched.with_statuses r row.statuses)
+      (h : Serves e r.statuses new row.statuses q (λ j m. routine_or_trap (native j m t number))) where
+    -- the machine that it left, and what the written routine comes to
+    abbrev left : MachineRow
+    left = machine new (sched.with_statuses r row.statuses)
+
+    abbrev written : routine.Ran
+    written = routine_or_trap (native i here t number)
+
+    comes : ComesTo left.state q written
+    comes = h.comes i here (record { ram = ram_is i e r kept; heap = kept.heap; statuses = kept.statuses })
+
+    -- where it traps nothing has changed
+    stays : IfUnfinished q (left ≡ machine e r)
+    stays =
+        unfinished_map q _ _
+        (λ same.
+        ap (λ (x : Seen). machine x (sched.with_statuses r row.statuses)) same.0
+        ∙ ap (λ (ss : List Status). machine e (sched.with_statuses r ss)) same.1)
+        h.same
+
+    pub came_served : CameTo (machine e r) (machine new row) t q (served board here t (native i here t number))
+    came_served =
+        subst (CameTo (machine e r) (machine new row) t q) (ran_or_trap board here t (native i here t number))
+        (subst (λ (y : SchedRow). CameTo (machine e r) (machine new y) t q (ran board here t written)) (sym turn)
+        (came_ran left q written refl refl comes stays))
+
+    pub served_done : IsDone q
+    served_done = done_by left.state q written comes
+
+    -- one object is made at most
+    pub served_kept : (m : MachineRow) → machine e r ≡ m → m.state.next ≤ m.state.counts.steps
+        → IsCounted c time e.next → IsKept i new row × IsCounted c time new.next
+    served_kept m is few counted = (
+      subst (IsKept i new) (sym turn) (stays_kept i e new r row.statuses kept h.beside h.many (h.ready kept.ready)),
+      made_by c time e.next new.next counted
+          (subst (λ (x : MachineRow). x.state.next ≤ x.state.counts.steps) (sym is) few) h.made,
+    )

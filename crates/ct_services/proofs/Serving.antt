@@ -1,0 +1,115 @@
+-- What routines share, in each state of the machine that holds what is seen: an answer, and a trap.
+use Rattle.std.proofs.Common.{ℕ, ◌+◌, ◌≡◌, ◌≤◌, ◌∙◌, List, length, Option, None, refl, sym, ap, subst, arith}
+use Rattle.std.specs.Prelude.{option_map}
+use Rattle.std.proofs.lemmas.List.{length-set}
+use Rattle.def_words.specs.declared.Cap.{Cap}
+use Rattle.def_words.specs.declared.Trap.{Trap}
+use Rattle.def_sched.specs.declared.Status.{Status}
+use Rattle.def_sched.specs.declared.Status.TheVariants.{Ended}
+use Rattle.def_machine.specs.Image.{Image}
+use Rattle.def_machine.specs.State as state
+use Rattle.def_machine.specs.State.{State, Thread, register}
+use Rattle.def_step.specs.Routines.{Traps, Leaves, answered, answers, tells}
+use Rattle.ct_engine.specs.Seen.{Seen, thread}
+use Rattle.ct_engine.specs.Written.{state_with}
+use Rattle.ct_execute.specs.declared.ran.ActBy.{ActBy}
+use Rattle.ct_execute.specs.declared.ran.Ran.{Ran}
+use Rattle.ct_execute.specs.declared.ran.Ran.TheVariants.{Went, Trapped}
+use Rattle.ct_services.specs.Served.{answered_in}
+use Rattle.ct_services.specs.Serves.{Holds, ComesTo, StaysBeside, Routine, Serves, ServesAlone, told_by}
+use Rattle.ct_services.proofs.Statuses.{like_with, changed_with}
+
+-- ---- the running thread in a state that holds what is seen
+
+pub register_alike : (m : State) (s : Seen) (ss : List Status) (t n : ℕ)
+    → register (thread s t) n ≡ register (state.thread (state_with m s ss) t) n
+register_alike m s ss t n = ap (λ (u : Thread). register u n) (sym (like_with s.threads ss t Ended))
+
+pub registers_alike : (m : State) (s : Seen) (ss : List Status) (t : ℕ)
+    → (state.thread (state_with m s ss) t).registers ≡ (thread s t).registers
+registers_alike m s ss t = ap (λ (u : Thread). u.registers) (like_with s.threads ss t Ended)
+
+pub answers_alike : (m : State) (s : Seen) (ss : List Status) (t : ℕ) (v : Cap)
+    → answers (state_with m s ss) t v ≡ state_with m (answered_in s t v) ss
+answers_alike m s ss t v =
+    ap (λ (ts : List Thread). record (state_with m s ss) { threads = ts })
+    (changed_with (λ (u : Thread). answered u v) (λ u q. refl) s.threads ss t)
+
+-- ---- an answer
+
+-- what a routine makes of an engine before it answers
+pub record Becomes (s u : Seen) : Type 0 where
+  pub size : length u.granules ≡ length s.granules
+  pub threads : length u.threads ≡ length s.threads
+  pub made : u.next ≤ s.next + 1
+  pub same : u
+      ≡ record s { granules = u.granules; threads = u.threads; objects = u.objects; tokens = u.tokens; next = u.next }
+
+pub same_beside : (s : Seen) → StaysBeside s s
+same_beside s = record {
+  region = refl;
+  areas = refl;
+  size = refl;
+  threads = refl;
+  heap_base = refl;
+  heap_end = refl;
+  limits = refl;
+}
+
+-- of an engine that became this
+pub serves_answer : (s u : Seen) (t : ℕ) (v : Cap) (done : Option ActBy) (x : Routine) → Becomes s u
+    → ((i : Image) (m : State) (ss : List Status) → Holds i s ss
+    → x i (state_with m s ss) ≡ Leaves (answers (state_with m u ss) t v) (option_map told_by done))
+    → ServesAlone s (answered_in u t v) (Went done) x
+serves_answer s u t v done x became comes ss = record {
+  comes = λ i m h. comes i m ss h ∙ ap (λ (y : State). Leaves y (option_map told_by done)) (answers_alike m u ss t v);
+  same = tt;
+  beside = record {
+    region = ap (λ (y : Seen). y.region) became.same;
+    areas = ap (λ (y : Seen). y.areas) became.same;
+    size = became.size;
+    threads = length-set u.threads t _ ∙ became.threads;
+    heap_base = ap (λ (y : Seen). y.heap_base) became.same;
+    heap_end = ap (λ (y : Seen). y.heap_end) became.same;
+    limits = ap (λ (y : Seen). y.limits) became.same;
+  };
+  made = became.made;
+  many = refl;
+  ready = λ ready n runs. ready n (sym (ap (λ (y : Seen). y.running) became.same) ∙ runs);
+}
+
+pub serves_tell : (s new : Seen) (t : ℕ) (v : Cap) → new ≡ answered_in s t v
+    → ServesAlone s new (Went None) (λ i m. tells m t v)
+serves_tell s new t v is =
+    rw is
+    (serves_answer s s t v None (λ i m. tells m t v)
+    (record { size = refl; threads = refl; made = omega arith; same = refl }) (λ i m ss h. refl))
+
+-- ---- what comes to the same
+
+pub serves_alike : {s new : Seen} {ss after : List Status} {ran : Ran} {x y : Routine}
+    → Serves s ss new after ran x
+    → ((i : Image) (m : State) → Holds i s ss → y i (state_with m s ss) ≡ x i (state_with m s ss))
+    → Serves s ss new after ran y
+serves_alike {new = new} {after = after} {ran = ran} h alike = record {
+  comes = λ i m holds. subst (ComesTo (state_with m new after) ran) (sym (alike i m holds)) (h.comes i m holds);
+  same = h.same;
+  beside = h.beside;
+  made = h.made;
+  many = h.many;
+  ready = h.ready;
+}
+
+pub serves_as : {s new : Seen} {ran : Ran} {x y : Routine} → ServesAlone s new ran x
+    → ((i : Image) (m : State) (ss : List Status) → Holds i s ss → y i (state_with m s ss) ≡ x i (state_with m s ss))
+    → ServesAlone s new ran y
+serves_as serves alike ss = serves_alike (serves ss) (λ i m h. alike i m ss h)
+
+-- ---- a trap
+
+-- where the routine traps nothing has changed
+pub serves_trapped : (s : Seen) (ss : List Status) (why : Trap) (x : Routine)
+    → ((i : Image) (m : State) → Holds i s ss → x i (state_with m s ss) ≡ Traps why)
+    → Serves s ss s ss (Trapped why) x
+serves_trapped s ss why x is =
+    record { comes = is; same = (refl, refl); beside = same_beside s; made = omega arith; many = refl; ready = λ r. r }

@@ -1,0 +1,36 @@
+use Rattle.std.proofs.Common.{refl, sym, ap, ◌∙◌}
+use Rattle.ct_sched.specs.Sched.{SchedRow}
+use Rattle.ct_engine.specs.Written.{state_with}
+use Rattle.ct_services.proofs.Rests.{serves_woken}
+use Rattle.ct_services.proofs.Serving.{serves_alike, serves_trapped, registers_alike}
+use Rattle.ct_services.proofs.resting.wake.Goals as goal
+
+pub returns-in-Some-clause-serves : goal.returns-in-Some-clause-serves
+returns-in-Some-clause-serves g c =
+    let s = c.args.engine.now in
+    let ss = c.args.sched.now.statuses in
+    serves_trapped s ss c.in-Some.trap _
+    (λ i m h. rw (registers_alike m s ss c.args.t, ← c.register.ensures, ← c.in-Some.ensures) refl)
+
+pub returns-in-Some-word_trap-clause-serves : goal.returns-in-Some-word_trap-clause-serves
+returns-in-Some-word_trap-clause-serves g c =
+    let s = c.args.engine.now in
+    let ss = c.args.sched.now.statuses in
+    serves_trapped s ss c.in-Some-word_trap.trap _
+    (λ i m h.
+    let fails = c.in-Some-word_trap.ensures.is i (state_with m s ss) (sym (c.requires.ram ∙ h.ram)) (sym c.size.ensures) in
+    rw (registers_alike m s ss c.args.t, ← c.register.ensures, ← c.in_default.ensures, ← c.register-word.ensures, ← fails)
+    refl)
+
+pub returns-clause-serves : goal.returns-clause-serves
+returns-clause-serves g c =
+    let s = c.args.engine.now in
+    let ss = c.args.sched.now.statuses in
+    let after = ap (λ (r : SchedRow). r.statuses) c.wake-count.ensures.row in
+    rw (c.answer.ensures, c.integer.ensures, c.wake-count.ensures.count, after)
+    (serves_alike (serves_woken s ss c.args.t c.address.result c.address-most.result)
+    (λ i m h.
+    let passes =
+    c.in_default-word_trap.ensures.is i (state_with m s ss) (sym (c.requires.ram ∙ h.ram)) (sym c.size.ensures) in
+    rw (registers_alike m s ss c.args.t, ← c.register.ensures, ← c.in_default.ensures, ← c.register-word.ensures)
+    (rw (← passes, c.address.ensures, c.address-most.ensures, c.register-2.ensures) refl)))

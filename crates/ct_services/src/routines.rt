@@ -1,0 +1,52 @@
+//! Which routine a number is.
+
+ghost use Rattle.std.specs.Prelude.{◌≡◌, ◌≤◌};
+ghost use Rattle.def_native.specs.declared.TheConstants as numbers;
+ghost use Rattle.def_step.specs.declared.TheConstants.{LAST_ROUTINE};
+ghost use Rattle.def_step.specs.Native.{native};
+ghost use Rattle.ct_sched.specs.Sched.{with_statuses};
+ghost use Rattle.ct_services.specs.Conditions.{MayServe};
+ghost use Rattle.ct_services.specs.Serves.{Serves, routine_or_trap};
+
+use crate::granting::{allocate, free, remaining};
+use crate::resting::{rest, sleep, wait, wake};
+use crate::sealing::{token_free, token_key, token_new, token_open};
+use ct_engine::Engine;
+use ct_execute::Ran;
+use ct_mem::Memory;
+use ct_sched::Sched;
+use def_native::{
+    ALLOCATE, FREE, REMAINING, SLEEP, TOKEN_KEY, TOKEN_NEW, TOKEN_OPEN, WAIT, WAKE, YIELD,
+};
+
+/// The native routine of a number, which isn't the switch's or the return's: what it does of the running thread, of
+/// the scheduler and of the heap is what the written routine does of each state of the machine that holds what is seen
+/// of them. The trap is the first check that fails; then nothing changes. RAM begins at `ram`.
+pub fn serve<M: Memory + Drop>(
+    engine: &mut Engine<M>,
+    sched: &mut Sched,
+    t: u32,
+    ram: u32,
+    number: u32,
+) -> Ran
+    requires may { MayServe engine.old sched.old.statuses t ram }
+    requires routine { (numbers.YIELD ≤ number) × (number ≤ LAST_ROUTINE) }
+    ensures serves { Serves engine.old sched.old.statuses engine.new sched.new.statuses result
+        (λ i m. routine_or_trap (native i m t number)) }
+    ensures sched { sched.new ≡ with_statuses sched.old sched.new.statuses }
+{
+    match number {
+        YIELD => rest(engine, sched, t, 0),
+        SLEEP => sleep(engine, sched, t),
+        WAIT => wait(engine, sched, t, ram),
+        WAKE => wake(engine, sched, t, ram),
+        ALLOCATE => allocate(engine, t),
+        FREE => free(engine, t),
+        REMAINING => remaining(engine, t),
+        TOKEN_KEY => token_key(engine, t),
+        TOKEN_NEW => token_new(engine, t),
+        TOKEN_OPEN => token_open(engine, t),
+        // Only token_free is left.
+        _ => token_free(engine, t),
+    }
+}
