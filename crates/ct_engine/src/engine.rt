@@ -18,12 +18,9 @@ ghost use Rattle.ct_switch.specs.Calls.{call_outcome};
 ghost use Rattle.ct_engine.specs.Calls.{TopLies, MayCall, switch_at, after_call, returned, ended_with};
 ghost use Rattle.ct_engine.specs.Handling.{MayHandle, is_handled_at, is_marked, after_trap};
 
-use crate::calls;
-use crate::handling::{handle, is_handling, value_in};
 use crate::rows::{Region, Rows};
 use crate::starting::start;
-use crate::steps::{actor, jump_to, pcc, posture, register};
-use crate::turns::pick;
+use crate::turns::take_up;
 use ct_areas::Fresh;
 use ct_bus::Bus;
 use ct_cap::{Live, Posture, Trap};
@@ -32,7 +29,9 @@ use ct_heap::Heap;
 use ct_loadstore::Moved;
 use ct_mem::Memory;
 use ct_switch::Called;
-use ct_threads::{access, call_row, next};
+use ct_threads::{
+    access, call_row, end_row, handle_row, jump_row, next, read, return_row, value_of,
+};
 use def_instr::Instr;
 use def_profile::answers::UNWOUND;
 use def_refusals::NoMemory;
@@ -118,7 +117,7 @@ impl<M: Memory + Drop> Engine<M> {
         requires number { number < 16 }
         ensures { result ≡ register (thread self.now t) number }
     {
-        register(&self.rows, t, number)
+        read(&self.rows.list[t as usize].regs, number)
     }
 
     /// The program counter capability of the running thread.
@@ -127,7 +126,7 @@ impl<M: Memory + Drop> Engine<M> {
         requires { self.now.running ≡ Some t }
         ensures { result ≡ (thread self.now t).pcc }
     {
-        pcc(&self.rows, t)
+        self.rows.list[t as usize].pcc
     }
 
     /// The posture of the running thread.
@@ -135,7 +134,7 @@ impl<M: Memory + Drop> Engine<M> {
         requires { self.now.running ≡ Some t }
         ensures { result ≡ (thread self.now t).posture }
     {
-        posture(&self.rows, t)
+        self.rows.list[t as usize].posture
     }
 
     /// The compartment of the running thread's innermost frame, of which it has one.
@@ -144,7 +143,7 @@ impl<M: Memory + Drop> Engine<M> {
         ensures is { result ≡ actor_of (thread self.now t).frames }
         ensures some { 0 < length (thread self.now t).frames }
     {
-        actor(&self.rows, t)
+        self.rows.list[t as usize].actor
     }
 
     /// The running thread goes on elsewhere, with this posture, and a register gets a value, which register 0 drops.
@@ -153,7 +152,7 @@ impl<M: Memory + Drop> Engine<M> {
         requires to { to < 16 }
         ensures { self.new ≡ after_jump self.old t pcc posture to value }
     {
-        jump_to(&mut self.rows, t, pcc, posture, to, value);
+        jump_row(&mut self.rows.list[t as usize], pcc, posture, to, value);
     }
 
     /// The running thread stops. Nothing else changes.
@@ -172,7 +171,10 @@ impl<M: Memory + Drop> Engine<M> {
         requires alive { 0 < length (thread self.old t).frames }
         ensures { self.new ≡ resumed self.old t }
     {
-        pick(&mut self.rows, &mut self.mem, t);
+        let stood = self.rows.standing[t as usize];
+        take_up(&mut self.rows.list[t as usize], &mut self.mem, stood);
+        self.rows.standing[t as usize] = true;
+        self.rows.running = Some(t);
     }
 
     /// The running thread calls the export whose capability stands in c6, as the switcher does.
@@ -199,7 +201,19 @@ impl<M: Memory + Drop> Engine<M> {
         ensures result { result ≡ nat_lt 1 (length (thread self.old t).frames) }
         ensures is { self.new ≡ returned self.old e.now t }
     {
-        calls::return_to_caller(&mut self.rows, &mut self.mem, t, e)
+        let back = return_row(&mut self.rows.list[t as usize], &mut self.mem, e);
+        self.rows.stay(t, back)
+    }
+
+    /// The innermost frame of the running thread ends with a value. `false` exactly where it was the thread's last.
+    fn end_with(&mut self, t: u32, value: u32) -> bool
+        requires runs { self.old.running ≡ Some t }
+        requires top { TopLies self.old t }
+        ensures result { result ≡ nat_lt 1 (length (thread self.old t).frames) }
+        ensures is { self.new ≡ ended_with self.old t value }
+    {
+        let more = end_row(&mut self.rows.list[t as usize], &mut self.mem, value);
+        self.rows.stay(t, more)
     }
 
     /// The innermost frame of the running thread is unwound after a trap: the return with c10 = -1 and c11 = 0. `false`
@@ -210,7 +224,7 @@ impl<M: Memory + Drop> Engine<M> {
         ensures result { result ≡ nat_lt 1 (length (thread self.old t).frames) }
         ensures is { self.new ≡ ended_with self.old t UNWOUND }
     {
-        calls::end_with(&mut self.rows, &mut self.mem, t, UNWOUND)
+        self.end_with(t, UNWOUND)
     }
 
     /// The running thread trapped: its compartment's error handler, the export with this number, is entered where
@@ -224,7 +238,13 @@ impl<M: Memory + Drop> Engine<M> {
         ensures result { result ≡ is_handled_at self.old t handler }
         ensures is { self.new ≡ after_trap self.old e.now t handler trap }
     {
-        handle(&mut self.rows, &mut self.mem, t, e, handler, trap)
+        handle_row(
+            &mut self.rows.list[t as usize],
+            &mut self.mem,
+            e,
+            handler,
+            trap,
+        )
     }
 
     /// Whether the error handler of the running thread's innermost frame was entered.
@@ -232,7 +252,7 @@ impl<M: Memory + Drop> Engine<M> {
         requires { self.now.running ≡ Some t }
         ensures { result ≡ is_marked (thread self.now t).frames }
     {
-        is_handling(&self.rows, t)
+        self.rows.list[t as usize].handling
     }
 
     /// The innermost frame of the running thread, whose error handler was entered, ends: where the address of c10 is 1
@@ -244,8 +264,8 @@ impl<M: Memory + Drop> Engine<M> {
         ensures result { result ≡ nat_lt 1 (length (thread self.old t).frames) }
         ensures is { self.new ≡ ended_with self.old t (handler_value (thread self.old t)) }
     {
-        let value = value_in(&self.rows, t);
-        calls::end_with(&mut self.rows, &mut self.mem, t, value)
+        let value = value_of(self.register(t, 10), self.register(t, 11));
+        self.end_with(t, value)
     }
 
     /// What stands at an address, where nothing is hidden: an instruction, the return, another native routine by its
