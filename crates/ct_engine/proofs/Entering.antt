@@ -2,25 +2,22 @@
 use Rattle.std.proofs.Common.{ℕ, ◌≡◌, ◌+◌, ◌-◌, ◌*◌, ◌/◌, ◌≤◌, true, false, List, length, refl, sym, ap, ◌∙◌, arith, subst}
 use Rattle.ct_entry.specs.Listed.{Listed}
 use Rattle.def_words.specs.declared.Cap.{Cap}
-use Rattle.def_words.specs.Capability.{with_address}
 use Rattle.def_words.specs.Seals.{cap_seal}
 use Rattle.def_memory.specs.declared.Granule.{Granule}
-use Rattle.def_reach.specs.Roots.{root_of, gate_for}
-use Rattle.def_boot.specs.Made.{return_sentry}
-use Rattle.def_machine.specs.Image.{Image, made_cap, code_entry, globals_entry, stack_base}
+use Rattle.def_reach.specs.Roots.{root_of}
+use Rattle.def_machine.specs.Image.{Image}
 use Rattle.def_machine.specs.State.{Thread, register}
-use Rattle.def_machine.specs.Frames.{Given, callee_start, entered_by}
-use Rattle.def_step.specs.Switch.{Switched, Trapped, TooDeep, NoStack, Enters, switch_of, frame_top}
+use Rattle.def_machine.specs.Frames.{callee_start, entered_by}
+use Rattle.def_step.specs.Switch.{Switched, Trapped, TooDeep, NoStack, Enters, frame_top}
 use Rattle.def_memory.specs.Granules.{cap_in}
 use Rattle.def_areas.specs.Touches.{Touches}
 use Rattle.law_hidden.proofs.Granules.{with_hidden_length, seen_at}
-use Rattle.ct_areas.specs.declared.thread.Area.{Area}
 use Rattle.ct_areas.specs.declared.thread.Thread as row
 use Rattle.ct_areas.specs.Threads.{area_begin, area_end, frames_most, thread_of}
 use Rattle.ct_areas.specs.Parts.{register_in}
 use Rattle.ct_switch.specs.Exports.{IsCallable, callee_of, table_of}
 use Rattle.ct_switch.specs.Ready as ready
-use Rattle.ct_switch.specs.Calls.{switch_in, thread_after, given_in, stack_cap}
+use Rattle.ct_switch.specs.Calls.{switch_in, thread_after, given_in}
 use Rattle.ct_switch.proofs.Failing.{checks_passed}
 use Rattle.ct_threads.specs.Kept.{IsKept}
 use Rattle.ct_threads.specs.Rows.{cleared}
@@ -48,32 +45,15 @@ head_seen {gs} {rows} h e export open_ =
 
 -- ---- the switch
 
-made : Cap → Cap → Cap → Given
-made pcc stack globals = record { pcc = pcc; back = return_sentry; stack = stack; globals = globals }
-
 module _ {gs : List Granule} {rows : Rows} {t : ℕ} {r : row.Thread} (h : Runner gs rows t r) (e : Listed) where
   pub switch_is : switch_in gs e r ≡ switch_at (engine_view gs rows) e t
-  switch_is =
-      let s : Thread = thread (engine_view gs rows) t in
-      ap (λ u. switch_of e r.area.stack r.top (frames_most r.area) u) (sym (running_thread h))
-      ∙ ap (λ n. switch_of e r.area.stack n (frames_most r.area) s) (sym (running_top h))
-      ∙ ap (λ (a : Area). switch_of e a.stack (frame_top s.frames) (frames_most a) s) (sym (running_area h))
+  switch_is = rw (running_area h, running_top h, running_thread h) refl
 
   given_is : (export high : ℕ) → IsEnterable (engine_view gs rows) e export
       → given_in gs e r export high ≡ given_at (engine_view gs rows) e t export high
-  unfolding made
   given_is export high open_ =
-      let v : Seen = engine_view gs rows in
-      let code : ℕ = (gate_for e.gates export).code in
-      let place : ℕ = (table_of e (callee_of e export) - r.area.ram) / 8 in
       let head = head_seen h e export open_ in
-      let pcc : Cap = with_address (cap_in v.granules (head_at v e export)) code in
-      let stack : stack_cap r.area.stack high (register_in r 2).shadow ≡ stack_cap (area_at v t).stack high (register (thread v t) 2).shadow =
-      ap (λ (c : Cap). stack_cap r.area.stack high c.shadow) (sym (register_is h 2))
-      ∙ ap (λ (a : Area). stack_cap a.stack high (register (thread v t) 2).shadow) (sym (running_area h)) in
-      ap (λ c. made (with_address c code) (stack_cap r.area.stack high (register_in r 2).shadow) (cap_in gs (place + 1))) head.0
-      ∙ ap (λ c. made pcc c (cap_in gs (place + 1))) stack
-      ∙ ap (λ c. made pcc (stack_cap (area_at v t).stack high (register (thread v t) 2).shadow) c) head.1
+      rw (head.0, head.1, running_area h, register_is h 2) refl
 
   module _ (may : MayCall (engine_view gs rows) t e) where
     -- what is asked of the row
@@ -139,15 +119,4 @@ module _ {gs : List Granule} {rows : Rows} {t : ℕ} {r : row.Thread} (h : Runne
 
 pub given_made : (i : Image) (s : Seen) (t export high : ℕ) → HeadStands i s t export
     → given_at s i.entries t export high ≡ callee_start i (thread s t) t (callee_of i.entries export) export high
-given_made i s t export high h =
-    let callee : ℕ = callee_of i.entries export in
-    let code : ℕ = (gate_for i.entries.gates export).code in
-    let head : ℕ = head_at s i.entries export in
-    let stack : ℕ → Cap = λ b. stack_cap b high (register (thread s t) 2).shadow in
-    all_made (with_address (cap_in s.granules head) code) return_sentry (stack (area_at s t).stack) (cap_in s.granules (head + 1))
-    (with_address (made_cap i (code_entry i callee)) code) (made_cap i 0) (stack (stack_base i t)) (made_cap i (globals_entry i callee))
-    (ap (λ c. with_address c code) h.code) (sym h.back) (ap stack (sym h.stack)) h.globals
-  where
-    all_made : (p b s g q c u l : Cap) → p ≡ q → b ≡ c → s ≡ u → g ≡ l
-        → (let x : Given = record { pcc = p; back = b; stack = s; globals = g } in x) ≡ record { pcc = q; back = c; stack = u; globals = l }
-    all_made p b s g q c u l one two three four = rw (one, two, three, four) refl
+given_made i s t export high h = rw (h.code, h.globals, h.back, h.stack) refl

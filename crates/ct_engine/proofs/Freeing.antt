@@ -37,7 +37,7 @@ use Rattle.ct_engine.specs.Written.{state_with}
 use Rattle.ct_engine.proofs.Clear.{zero_clear}
 use Rattle.ct_engine.proofs.HiddenTwice.{seen_both}
 use Rattle.ct_engine.proofs.HeapTurns.{with_heap, HeapTurns, turned_holds, turned_seen}
-use Rattle.ct_engine.proofs.Granted.{seen_as, hides_by, hide_by}
+use Rattle.ct_engine.proofs.Granted.{hides_by, hide_by}
 use Rattle.ct_engine.proofs.Tables.{with_table, table_holds}
 
 -- ---- an object that is found by its quota and its bounds
@@ -227,7 +227,7 @@ freed_seen gs hs rows n quota base top number place long live holds f =
     ∙ wiped_as base top r.base (r.base + r.length) ram now w.base_is w.top_is
     ∙ ap (λ m. marked_from (r.base - 8) (r.base + r.length) true m (zeroed_from r.base (r.base + r.length) m now)) holds.heap.ram in
     turned_seen gs hs rows n rows.front holds (freed_turns gs hs rows n quota base top number place long live holds.heap.laid f)
-    ∙ seen_as (engine_view gs rows) _ _ _ _ _ _ memory f.objects f.next
+    ∙ rw (memory, f.objects, f.next) refl
 
 -- ---- a state of the machine where this is seen
 
@@ -260,8 +260,7 @@ gone_seen : (gs hs : List Granule) (rows : Rows) (n : HeapRow) (k : Table) (quot
     → engine_view hs (with_table (with_heap rows n rows.front) k) ≡ let_go (engine_view gs rows) f.object
 gone_seen gs hs rows n k quota base top number place long live holds f gone =
     let with_rows : Seen → List Token → Seen = λ x ks. record x { tokens = ks } in
-    ap (λ x. with_rows x k.rows) (freed_seen gs hs rows n quota base top number place long live holds f)
-    ∙ ap (with_rows (quarantined (engine_view gs rows) f.object)) (gone ∙ ap (λ m. without_row m rows.tokens.rows) f.number_is)
+    ap (λ x. with_rows x k.rows) (freed_seen gs hs rows n quota base top number place long live holds f) ∙ rw (gone, f.number_is) refl
 
 pub free_is : (gs hs : List Granule) (rows : Rows) (n : HeapRow) (k : Table) (v z : Seen) (t quota base top number place long live : ℕ) → engine_view gs rows ≡ v → IsEngine gs rows
     → Frees rows.heap n gs hs quota base top number place long live → k.rows ≡ without_row number rows.tokens.rows

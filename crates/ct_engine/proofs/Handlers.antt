@@ -5,11 +5,8 @@ use Rattle.ct_entry.specs.Listed.{Listed}
 use Rattle.def_words.specs.declared.Cap.{Cap}
 use Rattle.def_words.specs.declared.Trap.{Trap}
 use Rattle.def_words.specs.Authority.{cap_address}
-use Rattle.def_words.specs.Capability.{with_address}
 use Rattle.def_memory.specs.declared.Granule.{Granule}
-use Rattle.def_memory.specs.Granules.{plain, cap_in}
-use Rattle.def_reach.specs.Roots.{gate_for}
-use Rattle.def_boot.specs.Made.{return_sentry}
+use Rattle.def_memory.specs.Granules.{plain}
 use Rattle.def_machine.specs.State.{Thread, Frame, register}
 use Rattle.def_step.specs.Handlers.{Handed, is_handled_by, record_by, record_words, words_written}
 use Rattle.law_areas.proofs.Changes.{unchanged}
@@ -18,14 +15,14 @@ use Rattle.ct_areas.specs.declared.thread.Area.{Area}
 use Rattle.ct_areas.specs.declared.thread.Thread as row
 use Rattle.ct_areas.specs.Threads.{area_begin, area_end, living}
 use Rattle.ct_areas.specs.Parts.{register_in, inner_frame}
-use Rattle.ct_switch.specs.Exports.{IsCallable, callee_of, table_of}
+use Rattle.ct_switch.specs.Exports.{IsCallable}
 use Rattle.ct_switch.specs.Ready.{IsReady}
 use Rattle.ct_threads.specs.Handling.{RowMayHandle, is_handled_in, handed_in, record_place, recorded, handling_row, memory_by, row_by}
 use Rattle.ct_threads.proofs.Beside.{kept_as}
 use Rattle.ct_threads.proofs.Handlers.{Says, says, handled_over, handled_thread}
 use Rattle.ct_engine.specs.declared.rows.Rows.{Rows}
 use Rattle.ct_engine.specs.Seen.{Seen, engine_view, thread, area_at, hidden, with_granules, with_running, with_thread}
-use Rattle.ct_engine.specs.Calls.{IsEnterable, head_at}
+use Rattle.ct_engine.specs.Calls.{IsEnterable}
 use Rattle.ct_engine.specs.Handling.{MayHandle, is_handled_of, is_handled_at, handed_at, handler_begun, after_trap}
 use Rattle.ct_engine.proofs.Whole.{Turn, turned, turn_sees, turn_stays}
 use Rattle.ct_engine.proofs.Goes.{Runner, running_lies, running_is, running_frames, running_some, running_thread, running_turn}
@@ -35,9 +32,6 @@ use Rattle.ct_engine.proofs.Entering.{head_seen}
 place_numbers : (ram own stack long top c : ℕ) → ram ≡ own → ram % 16 ≡ 0 → stack + 80 ≤ c / 16 * 16 → c ≤ top → top ≤ stack + long → ram ≤ stack
     → (stack ≤ own + 8 * ((c / 16 * 16 - 80 - ram) / 8)) × (own + 8 * ((c / 16 * 16 - 80 - ram) / 8 + 10) ≤ stack + long)
 place_numbers ram own stack long top c base even low high under start = (omega (arith, base, even, low, start), omega (arith, base, even, low, high, under, start))
-
-made : Cap → Cap → Handed
-made pcc globals = record { pcc = pcc; back = return_sentry; globals = globals }
 
 module _ {gs : List Granule} {rows : Rows} {t : ℕ} {r : row.Thread} (h : Runner gs rows t r) (e : Listed) (handler : ℕ) where
   -- whether it is entered
@@ -50,13 +44,9 @@ module _ {gs : List Granule} {rows : Rows} {t : ℕ} {r : row.Thread} (h : Runne
 
   -- what the handler gets
   handed_is : IsEnterable (engine_view gs rows) e handler → handed_in gs e r handler ≡ handed_at (engine_view gs rows) e handler
-  unfolding made
   handed_is open_ =
-      let v : Seen = engine_view gs rows in
-      let code : ℕ = (gate_for e.gates handler).code in
       let head = head_seen h e handler open_ in
-      ap (λ c. made (with_address c code) (cap_in gs ((table_of e (callee_of e handler) - r.area.ram) / 8 + 1))) head.0
-      ∙ ap (λ c. made (with_address (cap_in v.granules (head_at v e handler)) code) c) head.1
+      rw (head.0, head.1) refl
 
   module _ (may : MayHandle (engine_view gs rows) t e handler) where
     ready : IsReady gs r

@@ -3,7 +3,6 @@ use Rattle.std.proofs.Common.{ℕ, zero, suc, ◌≡◌, ◌+◌, ◌*◌, ◌/�
 use Rattle.std.proofs.Math.ListN.{get_or}
 use Rattle.def_memory.specs.declared.Granule.{Granule}
 use Rattle.def_memory.specs.Granules.{cap_in}
-use Rattle.def_machine.specs.State.{Thread}
 use Rattle.def_machine.specs.Objects.{Each}
 use Rattle.def_hidden.specs.Hiding.{with_hidden}
 use Rattle.def_chunks.specs.declared.rows.Range.{Range}
@@ -90,12 +89,6 @@ turned_holds gs hs rows n front holds t laid clear within =
       room = holds.room ∙ ap (λ (r : Range). r.length / 16) (sym t.same.range);
     }
 
-seen_as : (s : Seen) (gs gs' : List Granule) (ts ts' : List Thread) (b b' l l' : ℕ) (limits limits' : List ℕ)
-    → gs ≡ gs' → ts ≡ ts' → b ≡ b' → l ≡ l' → limits ≡ limits'
-    → (let x : Seen = record s { granules = gs; threads = ts; heap_base = b; heap_end = l; limits = limits } in x)
-    ≡ record s { granules = gs'; threads = ts'; heap_base = b'; heap_end = l'; limits = limits' }
-seen_as s gs gs' ts ts' b b' l l' limits limits' p q t u v = rw (p, q, t, u, v) refl
-
 hide_over : (rows : Rows) (n : HeapRow) (hs : List Granule) → n.range.ram ≡ rows.region.ram
     → with_hidden (hides_over rows.region n.range (objects_of n hs)) hs ≡ with_hidden (region_hides rows.region) (with_hidden (heap_hides n hs) hs)
 hide_over rows n hs ram =
@@ -106,11 +99,12 @@ pub turned_seen : (gs hs : List Granule) (rows : Rows) (n : HeapRow) (front : Op
     → engine_view hs (with_heap rows n front)
     ≡ record (engine_view gs rows) { granules = with_hidden (region_hides rows.region) (with_hidden (heap_hides n hs) hs); objects = objects_of n hs; next = n.next; front = front }
 turned_seen gs hs rows n front holds t =
-    let put : Seen = record (engine_view gs rows) { objects = objects_of n hs; next = n.next; front = front } in
-    seen_as put _ _ _ _ _ _ _ _ _ _
-    (hide_over rows n hs (ap (λ (r : Range). r.ram) t.same.range ∙ holds.heap.ram))
-    (threads_same rows.region.ram gs hs rows.standing.items rows.standing.items 0 rows.region.trusted rows.region.end rows.list.items holds.areas
-    (region_same gs hs rows n holds t) (λ u lo. refl))
-    (ap (λ (r : Range). r.base) t.same.range)
-    (ap (λ (r : Range). r.base + r.length) t.same.range)
-    (limits_stay rows.heap n t.same)
+    let threads = threads_same rows.region.ram gs hs rows.standing.items rows.standing.items 0 rows.region.trusted rows.region.end rows.list.items
+    holds.areas (region_same gs hs rows n holds t) (λ u lo. refl) in
+    rw (
+      hide_over rows n hs (ap (λ (r : Range). r.ram) t.same.range ∙ holds.heap.ram),
+      threads,
+      limits_stay rows.heap n t.same,
+      ap (λ (r : Range). r.base) t.same.range,
+      ap (λ (r : Range). r.length) t.same.range,
+    ) refl

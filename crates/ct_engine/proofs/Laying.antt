@@ -1,5 +1,5 @@
 -- Threads have started, and the heap is laid: what is seen of them, and what they keep.
-use Rattle.std.proofs.Common.{ℕ, ◌≡◌, ◌+◌, ◌*◌, ◌/◌, ◌≤◌, ◌<◌, inl, inr, Bool, true, false, List, [], length, replicate, map, Option, None, unwrap_or, refl, sym, ap, ◌∙◌, arith, subst}
+use Rattle.std.proofs.Common.{ℕ, ◌≡◌, ◌+◌, ◌*◌, ◌/◌, ◌≤◌, ◌<◌, inl, inr, Bool, true, false, List, [], length, replicate, map, None, unwrap_or, refl, sym, ap, ◌∙◌, arith, subst}
 use Rattle.std.proofs.lemmas.List.{get_or-replicate, get_or_past, length-replicate}
 use Rattle.law_lists.proofs.Tests.{bool_tells, le_tells, lt_tells}
 use Rattle.def_words.specs.declared.Cap.{Cap}
@@ -7,7 +7,7 @@ use Rattle.def_memory.specs.declared.Granule.{Granule}
 use Rattle.def_memory.specs.Granules.{plain, granule_at, blank, cap_in}
 use Rattle.def_memory.specs.Ranges.{is_tagged}
 use Rattle.def_machine.specs.Objects.{Each}
-use Rattle.def_machine.specs.State.{Thread, Object, Token}
+use Rattle.def_machine.specs.State.{Object}
 use Rattle.def_hidden.specs.Hiding.{with_hidden}
 use Rattle.law_hidden.proofs.Granules.{with_hidden_is, seen_at}
 use Rattle.def_chunks.specs.declared.rows.Range.{Range}
@@ -20,7 +20,7 @@ use Rattle.ct_areas.specs.declared.thread.Area.{Area}
 use Rattle.ct_areas.specs.declared.thread.Fresh.{Fresh}
 use Rattle.ct_engine.specs.declared.rows.Region.{Region}
 use Rattle.ct_engine.specs.declared.rows.Rows.{Rows}
-use Rattle.ct_engine.specs.Seen.{Seen, stands, region_hides, hides_over, engine_view}
+use Rattle.ct_engine.specs.Seen.{stands, region_hides, hides_over, engine_view}
 use Rattle.ct_engine.specs.Kept.{StackLies, IsClear, IsEngine}
 use Rattle.ct_engine.specs.Starts.{HaveBegun, MayStart, started}
 use Rattle.ct_engine.proofs.Lists.{areas_same, threads_same}
@@ -135,28 +135,24 @@ region_same was gs hs rows fs h l m lo hi =
 
 -- ---- all that is seen
 
-seen_as : (s : Seen) (gs gs' : List Granule) (ts ts' : List Thread) (ps ps' : List Area) (os os' : List Object) (ks ks' : List Token) (n n' b b' l l' : ℕ) (limits limits' : List ℕ) (run run' front front' : Option ℕ)
-    → gs ≡ gs' → ts ≡ ts' → ps ≡ ps' → os ≡ os' → ks ≡ ks' → n ≡ n' → b ≡ b' → l ≡ l' → limits ≡ limits' → run ≡ run' → front ≡ front'
-    → (let x : Seen = record s { granules = gs; threads = ts; running = run; front = front; areas = ps; objects = os; tokens = ks; next = n; heap_base = b; heap_end = l; limits = limits } in x)
-    ≡ record s { granules = gs'; threads = ts'; running = run'; front = front'; areas = ps'; objects = os'; tokens = ks'; next = n'; heap_base = b'; heap_end = l'; limits = limits' }
-seen_as s gs gs' ts ts' ps ps' os os' ks ks' n n' b b' l l' limits limits' run run' front front' p q r t o u v w x y z = rw (p, q, r, t, o, u, v, w, x, y, z) refl
-
 pub laid_seen : (was gs hs : List Granule) (rows : Rows) (fs : List Fresh) (h : HeapRow) → Lays was gs hs rows fs h
     → engine_view hs rows ≡ started was rows.region fs h
 laid_seen was gs hs rows fs h l =
-    seen_as (started was rows.region fs h) _ _ _ _ _ _ _ _ _ _ _ _ _ _ _ _ _ _ _ _ _ _
-    (memory_is was gs hs rows fs h l)
-    (threads_same rows.region.ram gs hs [] rows.standing.items 0 rows.region.trusted rows.region.end rows.list.items l.begun.areas (region_same was gs hs rows fs h l) (λ u lo. l.empty u)
-    ∙ l.begun.threads)
-    l.begun.places
-    l.objects
-    l.no_row
-    l.next
-    (ap (λ (r : Range). r.base) l.same.range)
-    (ap (λ (r : Range). r.base + r.length) l.same.range)
-    (limits_stay h rows.heap l.same)
-    l.none
-    l.idle
+    let threads = threads_same rows.region.ram gs hs [] rows.standing.items 0 rows.region.trusted rows.region.end rows.list.items l.begun.areas
+    (region_same was gs hs rows fs h l) (λ u lo. l.empty u) ∙ l.begun.threads in
+    rw (
+      memory_is was gs hs rows fs h l,
+      threads,
+      l.begun.places,
+      l.objects,
+      l.no_row,
+      l.next,
+      limits_stay h rows.heap l.same,
+      l.none,
+      l.idle,
+      ap (λ (r : Range). r.base) l.same.range,
+      ap (λ (r : Range). r.length) l.same.range,
+    ) refl
 
 -- ---- what is kept
 

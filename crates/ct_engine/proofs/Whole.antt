@@ -78,6 +78,9 @@ in_rows {gs} {rows} holds t e =
 pub the_runner : {gs : List Granule} {rows : Rows} → IsEngine gs rows → (t : ℕ) → rows.running ≡ Some t → t < length rows.list.items
 the_runner holds t runs = in_rows holds t (holds.runs t runs)
 
+pub runner_stands : {gs : List Granule} {rows : Rows} → IsEngine gs rows → (t : ℕ) → rows.running ≡ Some t → t < length rows.standing.items
+runner_stands {gs} {rows} holds t runs = stood_lies rows.standing.items t (holds.runs t runs)
+
 pub set_stands : (standing : List Bool) (t : ℕ) (b : Bool) → t < length standing → stands (set standing t b) t ≡ b
 set_stands standing t b lt = get_or-set_same standing t b false lt
 
@@ -314,15 +317,10 @@ settles_all was old gs rows count s le u stood = s.away u (let lt = in_rows s.ho
 
 pub tight_holds : (was : List Granule) (old : Rows) (gs : List Granule) (rows : Rows) (count : ℕ) → Settles was old gs rows count → length rows.list.items ≤ count
     → IsEngine gs (record rows { loose = false })
-tight_holds was old gs rows count s le = record {
-  areas = s.holds.areas;
-  sizes = s.holds.sizes;
-  runs = s.holds.runs;
-  alone = λ tight. settles_all was old gs rows count s le;
-  stacks = s.holds.stacks;
-  heap = s.holds.heap;
-  room = s.holds.room;
-}
+tight_holds was old gs rows count s le =
+    let h = s.holds in
+    let alone = settles_all was old gs rows count s le in
+    record { areas = h.areas; sizes = h.sizes; runs = h.runs; alone = λ tight. alone; stacks = h.stacks; heap = h.heap; room = h.room }
 
 -- ---- a pick
 

@@ -1,5 +1,5 @@
 //! The engine.
-#![tactic(auto, using(crate::proofs::Whole::the_runner))]
+#![tactic(auto, using(crate::proofs::Whole::the_runner, crate::proofs::Whole::runner_stands))]
 
 ghost use Rattle.std.specs.Prelude.{◌≡◌, ◌*◌, ◌/◌, ◌%◌, ◌<◌, Some, None, true, false, length, nat_lt, IfOk};
 ghost use Rattle.def_instr.specs.Shapes.{is_access};

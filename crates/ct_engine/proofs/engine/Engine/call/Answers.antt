@@ -1,10 +1,6 @@
-use Rattle.std.proofs.Common.{◌∙◌, refl, sym, ap, subst}
-use Rattle.def_words.specs.declared.Cap.{Cap}
-use Rattle.def_step.specs.Switch.{Switched}
-use Rattle.def_machine.specs.State.{register}
-use Rattle.ct_switch.specs.Calls.{call_outcome, switch_in}
-use Rattle.ct_engine.specs.Seen.{Seen, engine_view, thread}
-use Rattle.ct_engine.specs.Calls.{MayCall, switch_at, after_call}
+use Rattle.std.proofs.Common.{refl, sym, subst}
+use Rattle.ct_engine.specs.Seen.{Seen}
+use Rattle.ct_engine.specs.Calls.{MayCall}
 use Rattle.ct_engine.proofs.Whole.{turn_holds}
 use Rattle.ct_engine.proofs.Goes.{runner, running_lies, register_is}
 use Rattle.ct_engine.proofs.Entering.{switch_is, may_is, call_turn, call_sees}
@@ -29,20 +25,13 @@ invariant_of-self g c =
 pub returns-clause-result : goal.returns-clause-result
 returns-clause-result g c =
     let h = runner c.self.invariant c.self.view_is c.requires.runs c.index_mut.ensures.value in
-    let e = c.args.e.now in
-    let gs = g.M.Memory.granules c.self.inside.mem in
-    c.call_row.ensures.result
-    ∙ ap (λ (x : Cap). call_outcome x (switch_in gs e c.index_mut.result.now)) (sym (register_is h 6))
-    ∙ ap (λ (w : Switched). call_outcome (register (thread (engine_view gs c.self.inside.rows) c.args.t) 6) w) (switch_is h e)
-    ∙ ap (λ (s : Seen). call_outcome (register (thread s c.args.t) 6) (switch_at s e c.args.t)) c.self.view_is
+    rw (← c.self.view_is, ← switch_is h c.args.e.now, register_is h 6) c.call_row.ensures.result
 
 pub returns-clause-is : goal.returns-clause-is
 returns-clause-is g c =
     let h = runner c.self.invariant c.self.view_is c.requires.runs c.index_mut.ensures.value in
     let may = subst (λ (s : Seen). MayCall s c.args.t c.args.e.now) (sym c.self.view_is) c.requires.may in
     let e = c.args.e.now in
-    let gs = g.M.Memory.granules c.self.inside.mem in
     let did = c.call_row.ensures in
-    call_sees h e may _ refl (call_turn h e may _ refl did.touches did.area did.kept) did.thread
-    ∙ ap (λ (w : Switched). after_call (engine_view gs c.self.inside.rows) e c.args.t w) (switch_is h e)
-    ∙ ap (λ (s : Seen). after_call s e c.args.t (switch_at s e c.args.t)) c.self.view_is
+    rw (← c.self.view_is, ← switch_is h e)
+    (call_sees h e may _ refl (call_turn h e may _ refl did.touches did.area did.kept) did.thread)

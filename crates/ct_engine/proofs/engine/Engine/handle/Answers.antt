@@ -1,6 +1,6 @@
-use Rattle.std.proofs.Common.{◌∙◌, sym, ap, subst}
+use Rattle.std.proofs.Common.{◌∙◌, sym, subst}
 use Rattle.ct_engine.specs.Seen.{Seen}
-use Rattle.ct_engine.specs.Handling.{MayHandle, is_handled_at, after_trap}
+use Rattle.ct_engine.specs.Handling.{MayHandle}
 use Rattle.ct_engine.proofs.Whole.{turn_holds}
 use Rattle.ct_engine.proofs.Goes.{runner}
 use Rattle.ct_engine.proofs.Handlers.{row_may, handled_is, trap_turn, trap_sees}
@@ -22,14 +22,12 @@ invariant_of-self g c =
 pub returns-clause-result : goal.returns-clause-result
 returns-clause-result g c =
     let h = runner c.self.invariant c.self.view_is c.requires.runs c.index_mut.ensures.value in
-    c.handle_row.ensures.result ∙ handled_is h c.args.e.now c.args.handler
-    ∙ ap (λ (s : Seen). is_handled_at s c.args.t c.args.handler) c.self.view_is
+    rw (← c.self.view_is) (c.handle_row.ensures.result ∙ handled_is h c.args.e.now c.args.handler)
 
 pub returns-clause-is : goal.returns-clause-is
 returns-clause-is g c =
     let h = runner c.self.invariant c.self.view_is c.requires.runs c.index_mut.ensures.value in
     let may = subst (λ (s : Seen). MayHandle s c.args.t c.args.e.now c.args.handler) (sym c.self.view_is) c.requires.may in
     let did = c.handle_row.ensures in
-    trap_sees h c.args.e.now c.args.handler may c.args.trap c.handle_row.result
-    (g.M.Memory.granules c.handle_row.new.mem) c.handle_row.new.t did.result did.memory did.row
-    ∙ ap (λ (s : Seen). after_trap s c.args.e.now c.args.t c.args.handler c.args.trap) c.self.view_is
+    rw (← c.self.view_is) (trap_sees h c.args.e.now c.args.handler may c.args.trap c.handle_row.result
+    (g.M.Memory.granules c.handle_row.new.mem) c.handle_row.new.t did.result did.memory did.row)

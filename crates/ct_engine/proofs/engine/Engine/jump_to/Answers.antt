@@ -1,5 +1,3 @@
-use Rattle.std.proofs.Common.{◌∙◌, ap}
-use Rattle.ct_engine.specs.Seen.{Seen, after_jump}
 use Rattle.ct_engine.proofs.Whole.{turn_holds}
 use Rattle.ct_engine.proofs.Goes.{runner, jump_turn, jump_sees}
 use Rattle.ct_engine.proofs.engine.Engine.jump_to.Goals as goal
@@ -12,5 +10,4 @@ invariant_of-self g c =
 pub returns : goal.returns
 returns g c =
     let h = runner c.self.invariant c.self.view_is c.requires.runs c.index_mut.ensures.value in
-    jump_sees h c.jump_row.new.t c.args.pcc c.args.posture c.args.to c.args.value c.jump_row.ensures
-    ∙ ap (λ (s : Seen). after_jump s c.args.t c.args.pcc c.args.posture c.args.to c.args.value) c.self.view_is
+    rw (← c.self.view_is) (jump_sees h c.jump_row.new.t c.args.pcc c.args.posture c.args.to c.args.value c.jump_row.ensures)

@@ -1,5 +1,5 @@
 use Rattle.std.proofs.Common.{◌<◌, ◌∙◌, false, length, refl, sym, ap, arith, subst}
-use Rattle.ct_engine.specs.Seen.{Seen, thread, resumed}
+use Rattle.ct_engine.specs.Seen.{Seen, thread}
 use Rattle.ct_engine.proofs.Whole.{row_at, row_lies, row_depth, there_in, only_turn, turn_holds, pick_sees}
 use Rattle.ct_engine.proofs.Away.{alive_there}
 use Rattle.ct_engine.proofs.engine.Engine.pick.Goals as goal
@@ -47,4 +47,4 @@ returns g c =
     let w = row_at c.self.invariant lt c.index_mut.ensures.value c.index-stood.ensures refl in
     let did = c.take_up.ensures in
     let none = ap (λ (s : Seen). s.running) c.self.view_is ∙ c.requires.none in
-    pick_sees (only_turn w did.touches did.area did.kept false none) did.thread refl ∙ ap (λ (s : Seen). resumed s c.args.t) c.self.view_is
+    rw (← c.self.view_is) (pick_sees (only_turn w did.touches did.area did.kept false none) did.thread refl)
