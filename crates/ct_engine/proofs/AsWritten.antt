@@ -1,22 +1,19 @@
 -- Calls, frames' ends and error handlers over what is seen, as the machine's definitions write them.
-use Rattle.std.proofs.Common.{ℕ, ◌≡◌, true, false, cond, List, [], ◌∷◌, Option, None, refl, ap, ◌∙◌}
+use Rattle.std.proofs.Common.{ℕ, ◌≡◌, true, false, List, [], ◌∷◌, Option, None, refl, ap, ◌∙◌}
 use Rattle.def_words.specs.declared.Cap.{Cap}
 use Rattle.def_words.specs.declared.Trap.{Trap}
-use Rattle.def_memory.specs.declared.Granule.{Granule}
 use Rattle.def_memory.specs.Granules.{plain}
-use Rattle.std.proofs.Math.ListN.{set}
 use Rattle.def_machine.specs.Image.{Image, handler_entry, stack_base, frames_most}
 use Rattle.def_machine.specs.State.{State, Thread, Frame, nobody, register}
 use Rattle.def_machine.specs.State as state
 use Rattle.def_machine.specs.Memory.{filtered_in}
-use Rattle.def_machine.specs.Frames.{callee_start, entered_by, answer, answer_by, left_with, left_by}
+use Rattle.def_machine.specs.Frames.{entered_by, answer, answer_by, left_with, left_by}
 use Rattle.def_step.specs.Switch.{Enters, switch_of, frame_top}
-use Rattle.def_step.specs.Handlers.{Handed, handed, is_handled, is_handled_by, handled_by, record_words, words_written}
+use Rattle.def_step.specs.Handlers.{handed, is_handled}
 use Rattle.ct_switch.specs.Exports.{callee_of}
-use Rattle.ct_threads.specs.Handling.{record_place}
 use Rattle.ct_engine.specs.Seen.{Seen, thread}
 use Rattle.ct_engine.specs.Calls.{HeadStands, switch_at, switched, after_call, ended_by, returned, ended_with}
-use Rattle.ct_engine.specs.Handling.{is_handled_of, is_handled_at, handed_at, handler_begun, after_trap}
+use Rattle.ct_engine.specs.Handling.{is_handled_at, handed_at, after_trap}
 use Rattle.ct_engine.specs.Written.{Shows, written, callee_thread, handler_seen}
 use Rattle.ct_engine.proofs.Entering.{given_made}
 
@@ -31,10 +28,8 @@ switched_is i m s t high new run h = rw (h.stack, h.ram, h.granules) refl
 pub enters_is : (i : Image) (m : State) (s : Seen) (t export high : ℕ) → Shows i m s t → HeadStands i s t export
     → after_call s i.entries t (Enters export high) ≡ written i m s t high (callee_thread i m t export high) s.running
 enters_is i m s t export high h heads =
-    let callee : ℕ = callee_of i.entries export in
-    ap (λ g. switched s t high (entered_by i.entries (thread s t) callee export high g) s.running) (given_made i s t export high heads)
-    ∙ ap (λ u. switched s t high (entered_by i.entries u callee export high (callee_start i u t callee export high)) s.running) h.thread
-    ∙ switched_is i m s t high (callee_thread i m t export high) s.running h
+    ap (λ g. switched s t high (entered_by i.entries (thread s t) (callee_of i.entries export) export high g) s.running) (given_made i s t export high heads)
+    ∙ rw h.thread (switched_is i m s t high (callee_thread i m t export high) s.running h)
 
 frames_is : (i : Image) (m : State) (s : Seen) (t : ℕ) (fs : List Frame) → Shows i m s t → (state.thread m t).frames ≡ fs → (thread s t).frames ≡ fs
 frames_is i m s t fs h frames = ap (λ (u : Thread). u.frames) h.thread ∙ frames
@@ -67,20 +62,14 @@ pub last_is : (i : Image) (m : State) (s : Seen) (t v : ℕ) (f : Frame) → Sho
     → (returned s i.entries t ≡ written i m s t f.top nobody None) × (ended_with s t v ≡ written i m s t f.top nobody None)
 last_is i m s t v f h frames =
     let one = frames_is i m s t (f ∷ []) h frames in
-    let over = switched_is i m s t f.top nobody None h in (
-      ap (λ l. ended_by s t (λ x. answer_by i.entries (thread s t) x 10) (λ x. answer_by i.entries (thread s t) x 11) l) one ∙ over,
-      ap (λ l. ended_by s t (λ x. plain v) (λ x. plain 0) l) one ∙ over,
-    )
+    let over = switched_is i m s t f.top nobody None h in
+    (rw one over, rw one over)
 
 -- ---- an error handler
 
 pub handled_comes : (i : Image) (m : State) (s : Seen) (t : ℕ) (f : Frame) (fs : List Frame) → Shows i m s t → (state.thread m t).frames ≡ f ∷ fs
     → is_handled_at s t (handler_entry i f.actor) ≡ is_handled i (stack_base i t) (state.thread m t) f
-handled_comes i m s t f fs h frames =
-    let handler : ℕ = handler_entry i f.actor in
-    ap (λ (l : List Frame). is_handled_of s t handler l) (frames_is i m s t (f ∷ fs) h frames)
-    ∙ ap (λ n. is_handled_by handler n (thread s t) f) h.stack
-    ∙ ap (λ (u : Thread). is_handled_by handler (stack_base i t) u f) h.thread
+handled_comes i m s t f fs h frames = rw (frames_is i m s t (f ∷ fs) h frames, h.stack, h.thread) refl
 
 -- what it gets, where the export is of this compartment
 pub handed_made : (i : Image) (s : Seen) (t actor : ℕ) → HeadStands i s t (handler_entry i actor) → callee_of i.entries (handler_entry i actor) ≡ actor
@@ -91,20 +80,18 @@ pub handler_enters : (i : Image) (m : State) (s : Seen) (t : ℕ) (why : Trap) (
     → callee_of i.entries (handler_entry i f.actor) ≡ f.actor → (state.thread m t).frames ≡ f ∷ fs → is_handled i (stack_base i t) (state.thread m t) f ≡ true
     → after_trap s i.entries t (handler_entry i f.actor) why ≡ handler_seen i m s t why f fs
 handler_enters i m s t why f fs h heads own frames is =
-    let handler : ℕ = handler_entry i f.actor in
-    let begun : List Frame → Seen = λ l. handler_begun s i.entries t handler why l in
-    let put : ℕ → List Granule → Thread → Handed → Seen = λ n gs u g. record s {
-      granules = words_written gs (record_place n (register u 2)) (record_words u why);
-      threads = set s.threads t (handled_by g u why f fs);
-    } in
-    ap (λ b. cond b (begun (thread s t).frames) s) (handled_comes i m s t f fs h frames ∙ is)
-    ∙ ap begun (frames_is i m s t (f ∷ fs) h frames)
-    ∙ ap (λ g. put s.region.ram s.granules (thread s t) g) (handed_made i s t f.actor heads own)
-    ∙ ap (λ u. put s.region.ram s.granules u (handed i f.actor)) h.thread
-    ∙ ap (λ n. put n s.granules (state.thread m t) (handed i f.actor)) h.ram
-    ∙ ap (λ gs. put i.ram gs (state.thread m t) (handed i f.actor)) h.granules
+    rw (
+      handled_comes i m s t f fs h frames ∙ is,
+      frames_is i m s t (f ∷ fs) h frames,
+      heads.code,
+      heads.globals,
+      heads.back,
+      own,
+      h.thread,
+      h.ram,
+      h.granules,
+    ) refl
 
 pub handler_stays : (i : Image) (m : State) (s : Seen) (t : ℕ) (why : Trap) (f : Frame) (fs : List Frame) → Shows i m s t → (state.thread m t).frames ≡ f ∷ fs
     → is_handled i (stack_base i t) (state.thread m t) f ≡ false → after_trap s i.entries t (handler_entry i f.actor) why ≡ s
-handler_stays i m s t why f fs h frames is =
-    ap (λ b. cond b (handler_begun s i.entries t (handler_entry i f.actor) why (thread s t).frames) s) (handled_comes i m s t f fs h frames ∙ is)
+handler_stays i m s t why f fs h frames is = rw (handled_comes i m s t f fs h frames ∙ is) refl

@@ -1,5 +1,6 @@
 -- Changes of memory that meet nothing hidden leave the threads, and what is kept of them.
-use Rattle.std.proofs.Common.{ℕ, zero, suc, ◌≡◌, ◌*◌, ◌/◌, ◌<◌, ◌≤◌, ◌+◌, ◌⊎◌, inl, inr, Bool, true, false, List, [], ◌∷◌, length, map, refl, sym, ap, ◌∙◌, arith, subst}
+use Rattle.std.proofs.Common.{ℕ, ◌≡◌, ◌*◌, ◌/◌, ◌<◌, ◌+◌, ◌⊎◌, inl, inr, Bool, true, false, List, length, map, refl, sym, ap, ◌∙◌, arith, subst}
+use Rattle.std.proofs.lemmas.List.{get_or_past}
 use Rattle.law_lists.proofs.Tests.{lt_tells}
 use Rattle.def_memory.specs.declared.Granule.{Granule}
 use Rattle.def_memory.specs.Accesses.{IsAccess, loaded}
@@ -12,7 +13,6 @@ use Rattle.def_chunks.specs.Heaps.{objects_of}
 use Rattle.def_chunks.specs.Hides.{hides_heap, heap_hides}
 use Rattle.std.proofs.lemmas.Bool.{or_cases, or_left, or_right}
 use Rattle.ct_engine.proofs.HeapStays.{HeapStays, heap_keeps, heap_holds}
-use Rattle.std.proofs.Math.ListN.{get_or}
 use Rattle.ct_areas.specs.declared.thread.Thread as row
 use Rattle.ct_engine.specs.declared.rows.Rows.{Rows}
 use Rattle.ct_engine.specs.Seen.{Seen, hides, threads_of, engine_view, thread, with_granules, region_hides, seen_by, hidden}
@@ -86,13 +86,8 @@ load_is gs rows v at width is open_ =
 pub count_is : (gs : List Granule) (rows : Rows) (v : Seen) → engine_view gs rows ≡ v → length rows.list.items ≡ length v.threads
 count_is gs rows v is = sym (how_many gs rows.standing.items 0 rows.list.items) ∙ ap (λ (s : Seen). length s.threads) is
 
-past_end : (ts : List Thread) (t : ℕ) → length ts ≤ t → get_or ts t nobody ≡ nobody
-past_end [] t le = refl
-past_end (u ∷ us) zero le = absurd (omega (arith, le))
-past_end (u ∷ us) (suc t) le = past_end us t (omega (arith, le))
-
 pub alive_there : (gs : List Granule) (rows : Rows) (v : Seen) (t : ℕ) → engine_view gs rows ≡ v → 0 < length (thread v t).frames → t < length rows.list.items
 alive_there gs rows v t is alive = elim (lt_tells t (length v.threads)) [
   | inl a ↦ (let lt = a.1 in let size = count_is gs rows v is in omega (arith, lt, size))
-  | inr a ↦ absurd (let none : length (thread v t).frames ≡ 0 = ap (λ (u : Thread). length u.frames) (past_end v.threads t a.1) in omega (arith, alive, none))
+  | inr a ↦ absurd (let none : length (thread v t).frames ≡ 0 = ap (λ (u : Thread). length u.frames) (get_or_past v.threads t nobody a.1) in omega (arith, alive, none))
 ]

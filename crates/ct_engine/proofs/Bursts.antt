@@ -1,7 +1,7 @@
 -- Instructions on the running thread's row and on memory, one after another, are the ones of what is seen.
 use Rattle.std.proofs.Common.{ℕ, zero, suc, ◌*◌, ◌≡◌, ◌≤◌, ◌<◌, true, List, [], length, map, refl, sym, ap, ◌∙◌, subst, arith}
 use Rattle.std.proofs.Math.ListN.{set}
-use Rattle.std.proofs.lemmas.List.{get_or-set_same, set-set}
+use Rattle.std.proofs.lemmas.List.{get_or-set_same, set-get_or, set-set}
 use Rattle.std.specs.Vec.{with_item}
 use Rattle.def_memory.specs.declared.Granule.{Granule}
 use Rattle.def_machine.specs.State.{Frame, Thread, nobody, register}
@@ -24,7 +24,7 @@ use Rattle.ct_engine.proofs.Goes.{Runner, running_is, jump_turn, jump_sees}
 use Rattle.ct_engine.proofs.Lists.{how_many}
 use Rattle.ct_engine.proofs.Outcomes.{once_gone, once_seen, once_size, once_stays, Gone, Sees}
 use Rattle.ct_engine.proofs.Reaching.{fetch_seen, register_seen}
-use Rattle.ct_engine.proofs.Whole.{set_self, the_runner, turn_holds}
+use Rattle.ct_engine.proofs.Whole.{the_runner, turn_holds}
 use Rattle.ct_engine.proofs.Windows.{counter_seen}
 
 -- a row while its thread is w
@@ -134,7 +134,7 @@ module _ {gs : List Granule} {rows : Rows} {t : ℕ} {r : row.Thread} (h : Runne
   own_row : (w : Thread) → w ≡ thread (engine_view gs rows) t → rows.list.items ≡ set rows.list.items t (row_of r w)
   own_row w is =
       let same : row_of r w ≡ r = ap (λ (u : Thread). row_of r u) (is ∙ running_is h) in
-      sym (ap (λ (q : row.Thread). set rows.list.items t q) (same ∙ h.is) ∙ set_self rows.list.items t r)
+      sym (ap (λ (q : row.Thread). set rows.list.items t q) (same ∙ h.is) ∙ set-get_or rows.list.items t r)
 
   burst_stands : (n : ℕ) (w : Thread) (hs : List Granule) → n ≤ most → raw.GoesFor rows.region.ram n (thread (engine_view gs rows) t) gs w hs
       → Stands (engine_view gs rows) t n w hs (put_row rows t (row_of r w))

@@ -1,6 +1,7 @@
 -- A change of the heap, and of memory from the heap's base on: what is kept, and what is seen.
-use Rattle.std.proofs.Common.{ℕ, zero, suc, ◌≡◌, ◌+◌, ◌*◌, ◌/◌, ◌<◌, ◌≤◌, List, [], ◌∷◌, length, map, Option, unwrap_or, refl, sym, ap, ◌∙◌, subst, arith}
-use Rattle.std.proofs.Math.ListN.{get_or}
+use Rattle.std.proofs.Common.{ℕ, ◌≡◌, ◌+◌, ◌*◌, ◌/◌, ◌<◌, ◌≤◌, List, length, map, Option, unwrap_or, refl, sym, ap, ◌∙◌, subst, arith}
+use Rattle.std.proofs.lemmas.List.{ext_get_or, length-map}
+use Rattle.std.proofs.Math.ListN.{get_or, get_or-map}
 use Rattle.def_memory.specs.declared.Granule.{Granule}
 use Rattle.def_memory.specs.Granules.{cap_in}
 use Rattle.def_machine.specs.Objects.{Each}
@@ -24,25 +25,17 @@ with_heap rows n front = record rows { heap = n; front = front }
 -- ---- limits
 
 pub limit_of : (accounts : List Account) (q : ℕ) → get_or (limits_in accounts) q 0 ≡ (get_or accounts q no_account).limit
-limit_of [] q = refl
-limit_of (a ∷ rest) zero = refl
-limit_of (a ∷ rest) (suc q) = limit_of rest q
+limit_of accounts q = get_or-map (λ (a : Account). a.limit) accounts q no_account
+
+limits_length : (accounts : List Account) → length (limits_in accounts) ≡ length accounts
+limits_length accounts = length-map accounts (λ (a : Account). a.limit)
 
 limits_same : (a b : List Account) → length b ≡ length a → ((q : ℕ) → (get_or b q no_account).limit ≡ (get_or a q no_account).limit) → limits_in b ≡ limits_in a
-limits_same [] [] size same = refl
-limits_same [] (y ∷ ys) size same = absurd (omega (arith, size))
-limits_same (x ∷ xs) [] size same = absurd (omega (arith, size))
-limits_same (x ∷ xs) (y ∷ ys) size same =
-    let first : y.limit ≡ x.limit = same zero in
-    let rest = limits_same xs ys (omega (arith, size)) (λ q. same (suc q)) in
-    ap (λ n. n ∷ limits_in ys) first ∙ ap (λ ls. x.limit ∷ ls) rest
+limits_same a b size same =
+    ext_get_or 0 (limits_in b) (limits_in a) (limits_length b ∙ size ∙ sym (limits_length a)) (λ q lt. limit_of b q ∙ same q ∙ sym (limit_of a q))
 
 pub limits_stay : (h n : HeapRow) → Same h n → limits_in n.accounts ≡ limits_in h.accounts
 limits_stay h n same = limits_same h.accounts n.accounts same.quotas same.limits
-
-limits_length : (accounts : List Account) → length (limits_in accounts) ≡ length accounts
-limits_length [] = refl
-limits_length (a ∷ rest) = ap (λ n. suc n) (limits_length rest)
 
 -- a quota is one of the accounts
 pub quota_there : (gs : List Granule) (rows : Rows) (s : Seen) (quota : ℕ) → engine_view gs rows ≡ s → quota < length s.limits → quota < length rows.heap.accounts

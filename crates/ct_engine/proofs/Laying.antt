@@ -1,7 +1,7 @@
 -- Threads have started, and the heap is laid: what is seen of them, and what they keep.
 use Rattle.std.proofs.Common.{ℕ, ◌≡◌, ◌+◌, ◌*◌, ◌/◌, ◌≤◌, ◌<◌, inl, inr, Bool, true, false, List, [], length, replicate, map, None, unwrap_or, refl, sym, ap, ◌∙◌, arith, subst}
 use Rattle.std.proofs.lemmas.List.{get_or-replicate, get_or_past, length-replicate}
-use Rattle.law_lists.proofs.Tests.{bool_tells, le_tells, lt_tells}
+use Rattle.law_lists.proofs.Tests.{bool_tells, lt_tells}
 use Rattle.def_words.specs.declared.Cap.{Cap}
 use Rattle.def_memory.specs.declared.Granule.{Granule}
 use Rattle.def_memory.specs.Granules.{plain, granule_at, blank, cap_in}
@@ -15,7 +15,7 @@ use Rattle.def_chunks.specs.Heaps.{HeapRow, objects_of, Laid}
 use Rattle.ct_heap.specs.Effects.{Stays, Same}
 use Rattle.def_chunks.specs.Hides.{hides_heap}
 use Rattle.def_chunks.specs.LiveObjects.{Appears}
-use Rattle.law_hidden.proofs.Objects.{place_seen, object_appears}
+use Rattle.law_hidden.proofs.Objects.{object_appears}
 use Rattle.ct_areas.specs.declared.thread.Area.{Area}
 use Rattle.ct_areas.specs.declared.thread.Fresh.{Fresh}
 use Rattle.ct_engine.specs.declared.rows.Region.{Region}
@@ -26,6 +26,7 @@ use Rattle.ct_engine.specs.Starts.{HaveBegun, MayStart, started}
 use Rattle.ct_engine.proofs.Lists.{areas_same, threads_same}
 use Rattle.ct_engine.proofs.Whole.{none_is}
 use Rattle.ct_engine.proofs.Stacks.{hidden_place}
+use Rattle.ct_engine.proofs.HeapStays.{hidden_lies}
 use Rattle.ct_engine.proofs.HiddenTwice.{with_hidden_both}
 use Rattle.ct_engine.proofs.HeapTurns.{limits_stay}
 
@@ -64,21 +65,6 @@ clear_seen hidden gs clear =
       | inl e ↦ rw e (zero_is (granule_at gs k) (clear k e))
       | inr e ↦ rw e refl
     ]))
-
-hidden_lies : (ram base end : ℕ) (os : List Object) (k : ℕ) → hides_heap ram base end os k ≡ true → (base ≤ ram + 8 * k) × (ram + 8 * k < end)
-hidden_lies ram base end os k hidden = (low, high)
-  where
-    low : base ≤ ram + 8 * k
-    low = elim (le_tells base (ram + 8 * k)) [
-      | inl a ↦ a.1
-      | inr a ↦ absurd (let clash : true ≡ false = sym hidden ∙ place_seen ram base end os k (inl a.1) in cc)
-    ]
-
-    high : ram + 8 * k < end
-    high = elim (lt_tells (ram + 8 * k) end) [
-      | inl a ↦ a.1
-      | inr a ↦ absurd (let clash : true ≡ false = sym hidden ∙ place_seen ram base end os k (inr (inl a.1)) in cc)
-    ]
 
 -- past the region nothing is hidden by it
 past_region : (g : Region) (k : ℕ) → g.end ≤ g.ram + 8 * k → region_hides g k ≡ false

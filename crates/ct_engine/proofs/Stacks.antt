@@ -1,8 +1,9 @@
 -- Stacks that lie apart from the region: zeroing one, and writing to one, meets nothing hidden.
 use Rattle.std.proofs.Common.{ℕ, zero, suc, ◌≡◌, ◌+◌, ◌*◌, ◌%◌, ◌<◌, ◌≤◌, inl, inr, Bool, true, false, nat_le, nat_lt, List, [], ◌∷◌, length, map, refl, sym, ap, ◌∙◌, arith, subst}
+use Rattle.std.proofs.lemmas.List.{get_or-map}
 use Rattle.std.proofs.Math.ListN.{get_or}
-use Rattle.std.proofs.lemmas.Bool.{leb-true}
-use Rattle.law_lists.proofs.Tests.{bool_tells, both_left, both_right, lt_tells}
+use Rattle.std.proofs.lemmas.Bool.{leb-true, ltb-true, and_parts}
+use Rattle.law_lists.proofs.Tests.{bool_tells, lt_tells}
 use Rattle.law_granules.proofs.Lists.{zeroed_length, zeroed_at}
 use Rattle.def_memory.specs.declared.Granule.{Granule}
 use Rattle.def_words.specs.declared.Cap.{Cap}
@@ -35,12 +36,6 @@ stack_at g base size [] t d stacks lt = absurd (omega (arith, lt))
 stack_at g base size (u ∷ us) zero d stacks lt = stacks.0
 stack_at g base size (u ∷ us) (suc t) d stacks lt = stack_at g base size us t d stacks.1 (omega (arith, lt))
 
-area_of_row : (ts : List row.Thread) (t : ℕ) (d : Area) (r : row.Thread) → t < length ts
-    → get_or (map (λ (u : row.Thread). u.area) ts) t d ≡ (get_or ts t r).area
-area_of_row [] t d r lt = absurd (omega (arith, lt))
-area_of_row (u ∷ us) zero d r lt = refl
-area_of_row (u ∷ us) (suc t) d r lt = area_of_row us t d r (omega (arith, lt))
-
 has_stack : (g : Region) (base : ℕ) (gs : List Granule) (runs : Bool) (t : row.Thread) → Lies g.ram gs runs g.trusted g.end t → StackLies g base (8 * length gs) t.area
     → HasStack (8 * length gs) t.area
 has_stack g base gs runs t l s =
@@ -67,7 +62,8 @@ module _ {gs : List Granule} {rows : Rows} {t : ℕ} {r : row.Thread} (h : Runne
 
   pub running_area : area_at (engine_view gs rows) t ≡ r.area
   running_area =
-      area_of_row rows.list.items t no_area r (the_runner h.holds t h.runs) ∙ ap (λ (u : row.Thread). u.area) (sym h.is)
+      get_or-map (λ (u : row.Thread). u.area) rows.list.items t r no_area (the_runner h.holds t h.runs)
+      ∙ ap (λ (u : row.Thread). u.area) (sym h.is)
 
   -- what a call and a frame's end ask of the row
   pub ready_is : TopLies (engine_view gs rows) t → IsReady gs r
@@ -90,13 +86,9 @@ module _ {gs : List Granule} {rows : Rows} {t : ℕ} {r : row.Thread} (h : Runne
 -- ---- what isn't hidden
 
 pub hidden_place : (g : Region) (k : ℕ) → region_hides g k ≡ true → (g.trusted ≤ g.ram + 8 * k) × (g.ram + 8 * k < g.end)
-hidden_place g k hidden = (
-  leb-true g.trusted (g.ram + 8 * k) (both_left (nat_le g.trusted (g.ram + 8 * k)) (nat_lt (g.ram + 8 * k) g.end) hidden),
-  below (g.ram + 8 * k) g.end (both_right (nat_le g.trusted (g.ram + 8 * k)) (nat_lt (g.ram + 8 * k) g.end) hidden),
-)
-  where
-    below : (a b : ℕ) → nat_lt a b ≡ true → a < b
-    below a b e = elim (lt_tells a b) [ inl x ↦ x.1 | inr x ↦ absurd (let clash : true ≡ false = sym e ∙ x.0 in cc) ]
+hidden_place g k hidden =
+    let both = and_parts (nat_le g.trusted (g.ram + 8 * k)) (nat_lt (g.ram + 8 * k) g.end) hidden in
+    (leb-true g.trusted (g.ram + 8 * k) both.0, ltb-true (g.ram + 8 * k) g.end both.1)
 
 -- what stands in a stack
 stack_seen : (gs : List Granule) (rows : Rows) (a : Area) (j : ℕ) → IsEngine gs rows → StackLies rows.region rows.heap.range.base (8 * length gs) a

@@ -1,9 +1,11 @@
 -- What a change of one thread makes of all that is seen, and of what is kept.
 use Rattle.std.proofs.Common.{ℕ, zero, suc, ◌≡◌, ◌≢◌, ◌+◌, ◌*◌, ◌<◌, ◌≤◌, inl, inr, Bool, true, false, cond, List, [], ◌∷◌, length, map, Option, Some, None, unwrap_or, is_some, refl, sym, ap, ◌∙◌, arith, subst}
+use Rattle.std.proofs.lemmas.Bool.{le-leb, lt-ltb}
+use Rattle.std.proofs.Math.Seq.{map-set_same}
 use Rattle.std.proofs.Math.ListN.{get_or, set}
 use Rattle.std.specs.Vec.{with_item}
-use Rattle.std.proofs.lemmas.List.{get_or_default, get_or-set_same, get_or-set_other, length-set}
-use Rattle.law_lists.proofs.Tests.{bool_tells, le_tells, lt_tells}
+use Rattle.std.proofs.lemmas.List.{get_or_default, get_or-set_same, get_or-set_other, set-get_or, length-set}
+use Rattle.law_lists.proofs.Tests.{bool_tells, lt_tells}
 use Rattle.def_words.specs.declared.Cap.{Cap}
 use Rattle.def_memory.specs.declared.Granule.{Granule}
 use Rattle.def_machine.specs.State.{Thread, Object, nobody}
@@ -29,16 +31,13 @@ use Rattle.ct_engine.specs.declared.rows.Region.{Region}
 use Rattle.ct_engine.specs.declared.rows.Rows.{Rows}
 use Rattle.ct_engine.specs.Seen.{Seen, stands, threads_of, engine_view, thread, with_thread, with_running, resumed, region_hides, hides_over, seen_by, hidden}
 use Rattle.ct_engine.specs.Kept.{StackLies, IsEngine, OnlyRunnerStands}
-use Rattle.ct_engine.proofs.Lists.{Lies, OthersStand, lies, areas_put, threads_put, places_put, how_many, the_thread}
+use Rattle.ct_engine.proofs.Lists.{Lies, OthersStand, lies, areas_put, threads_put, how_many, the_thread}
 use Rattle.ct_engine.proofs.HeapStays.{turn_heap, turn_objects}
 use Rattle.law_moves.proofs.Slices.{is_itself, number_is}
 
 -- a granule of the region is hidden
 pub hidden_is : (g : Region) (k : ℕ) → g.trusted ≤ g.ram + 8 * k → g.ram + 8 * k < g.end → region_hides g k ≡ true
-hidden_is g k low high = elim (le_tells g.trusted (g.ram + 8 * k)) [
-  | inl a ↦ elim (lt_tells (g.ram + 8 * k) g.end) [ inl b ↦ rw (a.0, b.0) refl | inr b ↦ absurd (let h = b.1 in omega (arith, h, high)) ]
-  | inr a ↦ absurd (let l = a.1 in omega (arith, l, low))
-]
+hidden_is g k low high = rw (le-leb g.trusted (g.ram + 8 * k) low, lt-ltb (g.ram + 8 * k) g.end high) refl
 
 pub some_is : (t u : ℕ) → (let o : Option ℕ = Some t in o) ≡ Some u → t ≡ u
 some_is t u e = ap (λ (o : Option ℕ). unwrap_or o 0) e
@@ -159,7 +158,7 @@ module _ {gs hs : List Granule} {rows new : Rows} {t : ℕ} {r q : row.Thread} {
   place_at = subst (λ (x : row.Thread). q.area ≡ x.area) u.row.is u.place
 
   places_stay : map (λ (x : row.Thread). x.area) (set rows.list.items t q) ≡ map (λ (x : row.Thread). x.area) rows.list.items
-  places_stay = places_put rows.list.items t r q place_at u.row.there
+  places_stay = map-set_same (λ (x : row.Thread). x.area) rows.list.items t q r place_at
 
   others_at : OthersStand rows.standing.items new.standing.items (0 + t)
   others_at = let start : 0 + t ≡ t = omega arith in rw start u.others
@@ -231,18 +230,13 @@ module _ {gs hs : List Granule} {rows new : Rows} {t : ℕ} {r q : row.Thread} {
       ap (λ (xs : List Object). seen_by xs rows hs (set ts t q) new.standing.items new.running)
       (turn_objects gs hs g rows.heap rows.front stood r u.row.holds.heap (row_lies u.row) u.touches) ∙ rest
 
-pub set_self : {A : Type 0} (xs : List A) (t : ℕ) (d : A) → set xs t (get_or xs t d) ≡ xs
-set_self [] t d = refl
-set_self (x ∷ xs) zero d = refl
-set_self (x ∷ xs) (suc t) d = ap (λ r. x ∷ r) (set_self xs t d)
-
 -- nothing, where the thread that is seen is the same
 pub turn_stays : {gs hs : List Granule} {rows new : Rows} {t : ℕ} {r q : row.Thread} {stood now : Bool} → Turn gs hs rows new t r q stood now
     → thread_of hs now q ≡ thread_of gs stood r → engine_view hs (turned rows new t q) ≡ with_running (engine_view gs rows) new.running
 turn_stays {gs} {hs} {rows} {new} {t} u same =
     turn_sees u (thread (engine_view gs rows) t) (same ∙ sym (row_thread u.row))
     ∙ ap (λ (xs : List Thread). let s : Seen = record (engine_view gs rows) { threads = xs; running = new.running } in s)
-    (set_self (engine_view gs rows).threads t nobody)
+    (set-get_or (engine_view gs rows).threads t nobody)
 
 -- ---- whether it stands in its row is noted anew
 
