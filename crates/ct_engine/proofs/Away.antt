@@ -8,16 +8,16 @@ use Rattle.def_memory.specs.Granules.{cap_in}
 use Rattle.def_hidden.specs.Hiding.{with_hidden}
 use Rattle.law_hidden.proofs.Granules.{with_hidden_length, load_seen}
 use Rattle.def_machine.specs.Objects.{Each}
-use Rattle.def_machine.specs.State.{Thread, Object, nobody}
+use Rattle.def_machine.specs.State.{Thread, nobody}
 use Rattle.def_chunks.specs.Heaps.{objects_of}
 use Rattle.def_chunks.specs.Hides.{hides_heap, heap_hides}
 use Rattle.std.proofs.lemmas.Bool.{or_cases, or_left, or_right}
 use Rattle.ct_engine.proofs.HeapStays.{HeapStays, heap_keeps, heap_holds}
 use Rattle.ct_areas.specs.declared.thread.Thread as row
 use Rattle.ct_engine.specs.declared.rows.Rows.{Rows}
-use Rattle.ct_engine.specs.Seen.{Seen, hides, threads_of, engine_view, thread, with_granules, region_hides, seen_by, hidden}
-use Rattle.ct_engine.specs.Kept.{StackLies, IsEngine}
-use Rattle.ct_engine.proofs.Lists.{areas_same, threads_same, how_many}
+use Rattle.ct_engine.specs.Seen.{Seen, hides, threads_of, engine_view, thread, with_granules, region_hides, hidden}
+use Rattle.ct_engine.specs.Kept.{AreasFrom, StackLies, IsEngine}
+use Rattle.ct_engine.proofs.Lists.{rows_same, how_many}
 use Rattle.ct_engine.proofs.Whole.{hidden_is}
 
 -- what is hidden holds what it held
@@ -41,10 +41,16 @@ heap_hidden gs rows k holds is =
 heap_stays : (gs hs : List Granule) (rows : Rows) → IsEngine gs rows → HiddenStays gs hs rows → HeapStays rows.heap gs hs
 heap_stays gs hs rows holds same k is = same k (heap_hidden gs rows k holds is)
 
+away_rows : (gs hs : List Granule) (rows : Rows) → IsEngine gs rows → length hs ≡ length gs → HiddenStays gs hs rows
+    → AreasFrom rows.region.ram hs rows.standing.items 0 rows.region.trusted rows.region.end rows.list.items
+    × (threads_of hs rows.standing.items 0 rows.list.items ≡ threads_of gs rows.standing.items 0 rows.list.items)
+away_rows gs hs rows holds size same =
+    rows_same rows.region.ram gs hs rows.standing.items rows.standing.items 0 rows.region.trusted rows.region.end rows.list.items holds.areas size
+    (λ m lo hi. same m (region_hidden gs rows m (hidden_is rows.region m lo hi))) (λ u lo. refl)
+
 pub away_holds : (gs hs : List Granule) (rows : Rows) → IsEngine gs rows → length hs ≡ length gs → HiddenStays gs hs rows → IsEngine hs rows
 away_holds gs hs rows holds size same = record {
-  areas = areas_same rows.region.ram gs hs rows.standing.items rows.standing.items 0 rows.region.trusted rows.region.end rows.list.items holds.areas size
-      (λ m lo hi. same m (region_hidden gs rows m (hidden_is rows.region m lo hi))) (λ u lo. refl);
+  areas = (away_rows gs hs rows holds size same).0;
   runs = holds.runs;
   sizes = holds.sizes;
   alone = holds.alone;
@@ -53,15 +59,11 @@ away_holds gs hs rows holds size same = record {
   room = holds.room;
 }
 
-pub away_seen : (gs hs : List Granule) (rows : Rows) → IsEngine gs rows → length hs ≡ length gs → HiddenStays gs hs rows → engine_view hs rows ≡ with_granules (engine_view gs rows) (with_hidden (hidden gs rows) hs)
+pub away_seen : (gs hs : List Granule) (rows : Rows) → IsEngine gs rows → length hs ≡ length gs → HiddenStays gs hs rows
+    → engine_view hs rows ≡ with_granules (engine_view gs rows) (with_hidden (hidden gs rows) hs)
 away_seen gs hs rows holds size same =
-    let objects : objects_of rows.heap hs ≡ objects_of rows.heap gs =
-    (heap_keeps gs hs rows.region rows.heap rows.front holds.heap size (heap_stays gs hs rows holds same)).objects in
-    let threads : threads_of hs rows.standing.items 0 rows.list.items ≡ threads_of gs rows.standing.items 0 rows.list.items =
-    threads_same rows.region.ram gs hs rows.standing.items rows.standing.items 0 rows.region.trusted rows.region.end rows.list.items holds.areas
-    (λ m lo hi. same m (region_hidden gs rows m (hidden_is rows.region m lo hi))) (λ u lo. refl) in
-    ap (λ (os : List Object). seen_by os rows hs rows.list.items rows.standing.items rows.running) objects
-    ∙ ap (λ (ts : List Thread). let s : Seen = record (seen_by (objects_of rows.heap gs) rows hs rows.list.items rows.standing.items rows.running) { threads = ts } in s) threads
+    let threads = (away_rows gs hs rows holds size same).1 in
+    rw ((heap_keeps gs hs rows.region rows.heap rows.front holds.heap size (heap_stays gs hs rows holds same)).objects, threads) refl
 
 pub apart : (h : ℕ → Bool) (k m : ℕ) → h m ≡ false → h k ≡ true → k ≡ m → ⊥
 apart h k m open_ hidden e = let clash : true ≡ false = sym hidden ∙ ap (λ n. h n) e ∙ open_ in cc

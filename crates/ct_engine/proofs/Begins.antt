@@ -22,7 +22,7 @@ use Rattle.ct_engine.specs.declared.rows.Region.{Region}
 use Rattle.ct_engine.specs.Seen.{region_hides, threads_of}
 use Rattle.ct_engine.specs.Kept.{ArePlain, AreasFrom}
 use Rattle.ct_engine.specs.Starts.{AreFresh, HaveBegun}
-use Rattle.ct_engine.proofs.Lists.{Same, ends, outside, areas_same, threads_same}
+use Rattle.ct_engine.proofs.Lists.{Same, ends, outside, rows_same}
 use Rattle.ct_engine.proofs.Whole.{hidden_is}
 
 -- ---- one more after others
@@ -122,14 +122,11 @@ begun_next g was gs hs ts t done todo f b touches kept place same =
     let end : end_of g.trusted (done ++ f ∷ []) ≡ f.area.trusted + f.area.trusted_length = end_last g.trusted done f in
     let before : Same g.ram gs hs g.trusted (end_of g.trusted done) =
     λ m lo hi. outside (8 * length was) f.area gs hs m has touches (inl (omega (arith, hi, low, base))) in
-    let threads : threads_of hs [] 0 ts ≡ threads_of gs [] 0 ts =
-    threads_same g.ram gs hs [] [] 0 g.trusted (end_of g.trusted done) ts b.areas before (λ u lo. refl) in
-    let areas : AreasFrom g.ram hs [] 0 g.trusted (end_of g.trusted done) ts =
-    areas_same g.ram gs hs [] [] 0 g.trusted (end_of g.trusted done) ts b.areas touches.size before (λ u lo. refl) in
+    let same_rows = rows_same g.ram gs hs [] [] 0 g.trusted (end_of g.trusted done) ts b.areas touches.size before (λ u lo. refl) in
     let between : ArePlain g.ram hs (end_of g.trusted done) f.area.trusted =
     λ m lo hi. plain_zero (cap_in hs m) (outside (8 * length was) f.area gs hs m has touches (inl (omega (arith, hi, base))) ∙ b.clear m lo (omega (arith, hi, high))) in
     let last : AreasFrom g.ram hs [] 0 g.trusted (t.area.trusted + t.area.trusted_length) (ts ++ t ∷ []) =
-    areas_last g.ram hs 0 g.trusted (end_of g.trusted done) ts t areas (rw place low) (rw place base) kept
+    areas_last g.ram hs 0 g.trusted (end_of g.trusted done) ts t same_rows.0 (rw place low) (rw place base) kept
     (subst (λ (a : Area). ArePlain g.ram hs (end_of g.trusted done) a.trusted) (sym place) between) in
     let to : t.area.trusted + t.area.trusted_length ≡ end_of g.trusted (done ++ f ∷ []) = ap (λ (a : Area). a.trusted + a.trusted_length) place ∙ sym end in
     record {
@@ -140,7 +137,7 @@ begun_next g was gs hs ts t done todo f b touches kept place same =
           let h = w.1 in
           hidden_is g k (omega (arith, from, low, base, l)) (omega (arith, high, base, h)))
           ∙ b.memory;
-      threads = threads_last hs 0 ts t ∙ ap (λ xs. xs ++ thread_of hs false t ∷ []) (threads ∙ b.threads)
+      threads = threads_last hs 0 ts t ∙ ap (λ xs. xs ++ thread_of hs false t ∷ []) (same_rows.1 ∙ b.threads)
           ∙ ap (λ x. map (λ u. first_of u) done ++ x ∷ []) same ∙ sym (map_push (λ u. first_of u) done f);
       places = map_push (λ (u : row.Thread). u.area) ts t ∙ ap (λ xs. xs ++ t.area ∷ []) b.places
           ∙ ap (λ a. map (λ (u : Fresh). u.area) done ++ a ∷ []) place ∙ sym (map_push (λ (u : Fresh). u.area) done f);

@@ -57,46 +57,47 @@ pub hide_by : (h n : HeapRow) (hs : List Granule) (new : List state.Object) → 
     → with_hidden (heap_hides n hs) hs ≡ with_hidden (λ k. hides_heap h.range.ram h.range.base (h.range.base + h.range.length) new k) hs
 hide_by h n hs new same is = rw (is, same.range) refl
 
--- an allocation's object appears
-allocated_appears : (h n : HeapRow) (gs hs : List Granule) (quota size number base long live : ℕ) → Allocates h n gs hs quota size number base long live
-    → Appears h.range.ram h.range.base (h.range.base + h.range.length) (objects_of h gs) (placed_among (made h quota size base) (objects_of h gs)) gs hs base (base + length_for size)
-allocated_appears h n gs hs quota size number base long live a = record {
-  size = a.stays.size;
-  marks = a.stays.marks;
-  rest = a.stays.rest;
-  stays = λ x is. among_live (made h quota size base) (objects_of h gs) x is;
-  comes = λ x is. elim (placed_live (made h quota size base) (objects_of h gs) x is) [ inl new ↦ inl (covers_tells (made h quota size base) x new) | inr old ↦ inr old ];
-  zero = a.zero;
-}
+module _ {h n : HeapRow} {gs hs : List Granule} {quota size number base long live : ℕ} (a : Allocates h n gs hs quota size number base long live) where
+  abbrev more : List state.Object
+  more = placed_among (made h quota size base) (objects_of h gs)
 
--- outside the heap everything stays
-allocated_turns : (gs hs : List Granule) (rows : Rows) (n : HeapRow) (quota size number base long live : ℕ) → Allocates rows.heap n gs hs quota size number base long live → HeapTurns gs hs rows n
-allocated_turns gs hs rows n quota size number base long live a = record {
-  size = a.stays.size;
-  below = λ k under. ap (λ (g : Granule). g.cap) (a.stays.rest k (inl under));
-  same = a.same;
-}
+  -- an allocation's object appears
+  allocated_appears : Appears h.range.ram h.range.base (h.range.base + h.range.length) (objects_of h gs) more gs hs base (base + length_for size)
+  allocated_appears = record {
+    size = a.stays.size;
+    marks = a.stays.marks;
+    rest = a.stays.rest;
+    stays = λ x is. among_live (made h quota size base) (objects_of h gs) x is;
+    comes = λ x is. elim (placed_live (made h quota size base) (objects_of h gs) x is) [
+      | inl new ↦ inl (covers_tells (made h quota size base) x new)
+      | inr old ↦ inr old
+    ];
+    zero = a.zero;
+  }
 
-pub allocated_seen : (gs hs : List Granule) (rows : Rows) (n : HeapRow) (quota size number base long live : ℕ) → IsEngine gs rows → Allocates rows.heap n gs hs quota size number base long live
-    → engine_view hs (with_heap rows n rows.front) ≡ with_object (engine_view gs rows) (new_object (engine_view gs rows) quota size base)
-allocated_seen gs hs rows n quota size number base long live holds a =
-    let h : HeapRow = rows.heap in
-    let region : ℕ → Bool = region_hides rows.region in
-    let new : List state.Object = placed_among (made h quota size base) (objects_of h gs) in
-    let memory : with_hidden region (with_hidden (heap_hides n hs) hs) ≡ (engine_view gs rows).granules =
-    ap (λ xs. with_hidden region xs) (hide_by h n hs new a.same a.objects
-    ∙ object_appears h.range.ram h.range.base (h.range.base + h.range.length) (objects_of h gs) new gs hs base (base + length_for size) (allocated_appears h n gs hs quota size number base long live a))
-    ∙ sym (seen_both gs rows holds) in
-    turned_seen gs hs rows n rows.front holds (allocated_turns gs hs rows n quota size number base long live a)
-    ∙ rw (memory, a.objects, a.next) refl
+  -- it keeps clear what it hides
+  allocated_clear : IsClear h gs → IsClear n hs
+  allocated_clear clear =
+      clear_tags h n gs hs clear a.stays.tags
+      (λ k hid. less_hidden h.range.ram h.range.base (h.range.base + h.range.length) (objects_of h gs) more k
+      (λ is. among_live (made h quota size base) (objects_of h gs) (h.range.ram + 8 * k) is) (sym (hides_by h n hs more k a.same a.objects) ∙ hid))
 
--- an allocation keeps clear what it hides
-allocated_clear : (h n : HeapRow) (gs hs : List Granule) (quota size number base long live : ℕ) → Allocates h n gs hs quota size number base long live → IsClear h gs → IsClear n hs
-allocated_clear h n gs hs quota size number base long live a clear =
-    clear_tags h n gs hs clear a.stays.tags
-    (λ k hid. less_hidden h.range.ram h.range.base (h.range.base + h.range.length) (objects_of h gs) (placed_among (made h quota size base) (objects_of h gs)) k
-    (λ is. among_live (made h quota size base) (objects_of h gs) (h.range.ram + 8 * k) is)
-    (sym (hides_by h n hs (placed_among (made h quota size base) (objects_of h gs)) k a.same a.objects) ∙ hid))
+module _ {gs hs : List Granule} {rows : Rows} {n : HeapRow} {quota size number base long live : ℕ} (holds : IsEngine gs rows)
+    (a : Allocates rows.heap n gs hs quota size number base long live) where
+  -- outside the heap everything stays
+  pub allocated_turns : HeapTurns gs hs rows n
+  allocated_turns = record { size = a.stays.size; below = λ k under. ap (λ (g : Granule). g.cap) (a.stays.rest k (inl under)); same = a.same }
+
+  pub allocated_seen : engine_view hs (with_heap rows n rows.front) ≡ with_object (engine_view gs rows) (new_object (engine_view gs rows) quota size base)
+  allocated_seen =
+      let h : HeapRow = rows.heap in
+      let region : ℕ → Bool = region_hides rows.region in
+      let new : List state.Object = placed_among (made h quota size base) (objects_of h gs) in
+      let memory : with_hidden region (with_hidden (heap_hides n hs) hs) ≡ (engine_view gs rows).granules =
+      ap (λ xs. with_hidden region xs) (hide_by h n hs new a.same a.objects
+      ∙ object_appears h.range.ram h.range.base (h.range.base + h.range.length) (objects_of h gs) new gs hs base (base + length_for size)
+      (allocated_appears a)) ∙ sym (seen_both gs rows holds) in
+      turned_seen gs hs rows n rows.front holds allocated_turns ∙ rw (memory, a.objects, a.next) refl
 
 -- ---- the place
 
@@ -235,16 +236,14 @@ NothingNew h n gs hs result = OnErr result ((n ≡ h) × (hs ≡ gs))
 pub holds_after : (gs hs : List Granule) (rows : Rows) (n : HeapRow) (quota size : ℕ) (result : Result told.Object HeapRefusal) → IsEngine gs rows → Laid n hs
     → Answers rows.heap n gs hs quota size result → NothingNew rows.heap n gs hs result → IsEngine hs (with_heap rows n rows.front)
 holds_after gs hs rows n quota size (Ok o) holds laid a same =
-    turned_holds gs hs rows n rows.front holds (allocated_turns gs hs rows n quota size o.number o.base o.length o.live a) laid
-    (allocated_clear rows.heap n gs hs quota size o.number o.base o.length o.live a holds.heap.clear) holds.heap.within
+    turned_holds gs hs rows n rows.front holds (allocated_turns holds a) laid (allocated_clear a holds.heap.clear) holds.heap.within
 holds_after gs hs rows n quota size (Err why) holds laid a same =
     subst (λ x. IsEngine hs (with_heap rows x rows.front)) (sym same.0) (subst (λ x. IsEngine x rows) (sym same.1) holds)
 
 pub seen_after : (gs hs : List Granule) (rows : Rows) (n : HeapRow) (s : Seen) (quota size : ℕ) (result : Result told.Object HeapRefusal) → engine_view gs rows ≡ s → IsEngine gs rows
     → Answers rows.heap n gs hs quota size result → NothingNew rows.heap n gs hs result → engine_view hs (with_heap rows n rows.front) ≡ after_allocation s quota size result
 seen_after gs hs rows n s quota size (Ok o) is holds a same =
-    allocated_seen gs hs rows n quota size o.number o.base o.length o.live holds a
-    ∙ ap (λ x. with_object x (new_object x quota size o.base)) is
+    allocated_seen holds a ∙ ap (λ x. with_object x (new_object x quota size o.base)) is
 seen_after gs hs rows n s quota size (Err why) is holds a same = ap (λ x. engine_view hs (with_heap rows x rows.front)) same.0 ∙ ap (λ x. engine_view x rows) same.1 ∙ is
 
 pub answer_after : (gs hs : List Granule) (rows : Rows) (n : HeapRow) (s : Seen) (quota size : ℕ) (result : Result told.Object HeapRefusal) → engine_view gs rows ≡ s → Answers rows.heap n gs hs quota size result

@@ -16,7 +16,7 @@ use Rattle.ct_areas.specs.declared.thread.Thread as row
 use Rattle.ct_areas.specs.Threads.{area_begin, area_end}
 use Rattle.ct_threads.proofs.Beside.{within}
 use Rattle.ct_engine.specs.declared.rows.Region.{Region}
-use Rattle.ct_engine.specs.Kept.{IsClear, HeapHolds}
+use Rattle.ct_engine.specs.Kept.{HeapHolds}
 use Rattle.ct_engine.proofs.Lists.{Lies}
 
 -- what the heap hides lies in its range
@@ -36,11 +36,6 @@ HeapStays h gs hs = (k : ℕ) → heap_hides h gs k ≡ true → cap_in hs k ≡
 pub heap_keeps : (gs hs : List Granule) (g : Region) (h : HeapRow) (front : Option ℕ) → HeapHolds gs g h front → length hs ≡ length gs → HeapStays h gs hs → KeepsHeap h gs hs
 heap_keeps gs hs g h front holds size same = hidden_keeps h gs hs holds.laid size same
 
-clear_same : (h : HeapRow) (gs hs : List Granule) → IsClear h gs → objects_of h hs ≡ objects_of h gs → HeapStays h gs hs → IsClear h hs
-clear_same h gs hs clear objects same k hid =
-    let was : heap_hides h gs k ≡ true = sym (hides_same h gs hs k objects) ∙ hid in
-    ap (λ (c : Cap). c.tag) (same k was) ∙ clear k was
-
 pub heap_holds : (gs hs : List Granule) (g : Region) (h : HeapRow) (front : Option ℕ) → HeapHolds gs g h front → length hs ≡ length gs → HeapStays h gs hs → HeapHolds hs g h front
 heap_holds gs hs g h front holds size same =
     let keeps = heap_keeps gs hs g h front holds size same in
@@ -49,13 +44,15 @@ heap_holds gs hs g h front holds size same =
       ram = holds.ram;
       past = holds.past;
       within = subst (λ n. unwrap_or front 0 ≤ 8 * n) (sym size) holds.within;
-      clear = clear_same h gs hs holds.clear keeps.objects same;
+      clear = λ k hid.
+          let was : heap_hides h gs k ≡ true = sym (hides_same h gs hs k keeps.objects) ∙ hid in
+          ap (λ (c : Cap). c.tag) (same k was) ∙ holds.clear k was;
     }
 
 -- a change of one area
-turn_stays : (gs hs : List Granule) (g : Region) (h : HeapRow) (front : Option ℕ) (runs : Bool) (t : row.Thread) → HeapHolds gs g h front → Lies g.ram gs runs g.trusted g.end t
+pub area_stays : (gs hs : List Granule) (g : Region) (h : HeapRow) (front : Option ℕ) (runs : Bool) (t : row.Thread) → HeapHolds gs g h front → Lies g.ram gs runs g.trusted g.end t
     → Touches (area_begin t.area) (area_end t.area) gs hs → HeapStays h gs hs
-turn_stays gs hs g h front runs t holds l touches k hid =
+area_stays gs hs g h front runs t holds l touches k hid =
     let low = heap_low h gs k hid in
     let ram = holds.ram in
     let past = holds.past in
@@ -68,11 +65,3 @@ turn_stays gs hs g h front runs t holds l touches k hid =
         | inr b ↦ inr b.1
       ]
     ]))
-
-pub turn_objects : (gs hs : List Granule) (g : Region) (h : HeapRow) (front : Option ℕ) (runs : Bool) (t : row.Thread) → HeapHolds gs g h front → Lies g.ram gs runs g.trusted g.end t
-    → Touches (area_begin t.area) (area_end t.area) gs hs → objects_of h hs ≡ objects_of h gs
-turn_objects gs hs g h front runs t holds l touches = (heap_keeps gs hs g h front holds touches.size (turn_stays gs hs g h front runs t holds l touches)).objects
-
-pub turn_heap : (gs hs : List Granule) (g : Region) (h : HeapRow) (front : Option ℕ) (runs : Bool) (t : row.Thread) → HeapHolds gs g h front → Lies g.ram gs runs g.trusted g.end t
-    → Touches (area_begin t.area) (area_end t.area) gs hs → HeapHolds hs g h front
-turn_heap gs hs g h front runs t holds l touches = heap_holds gs hs g h front holds touches.size (turn_stays gs hs g h front runs t holds l touches)

@@ -13,9 +13,9 @@ use Rattle.def_chunks.specs.Hides.{hides_heap, heap_hides}
 use Rattle.ct_heap.specs.Effects.{Same}
 use Rattle.ct_areas.specs.declared.thread.Thread as row
 use Rattle.ct_engine.specs.declared.rows.Rows.{Rows}
-use Rattle.ct_engine.specs.Seen.{Seen, region_hides, hides_over, limits_in, engine_view}
-use Rattle.ct_engine.specs.Kept.{IsClear, StackLies, IsEngine}
-use Rattle.ct_engine.proofs.Lists.{areas_same, threads_same}
+use Rattle.ct_engine.specs.Seen.{Seen, region_hides, hides_over, limits_in, threads_of, engine_view}
+use Rattle.ct_engine.specs.Kept.{AreasFrom, IsClear, StackLies, IsEngine}
+use Rattle.ct_engine.proofs.Lists.{rows_same}
 use Rattle.ct_engine.proofs.HiddenTwice.{with_hidden_both}
 
 -- these rows, with this heap and this front
@@ -51,12 +51,14 @@ pub record HeapTurns (gs hs : List Granule) (rows : Rows) (n : HeapRow) : Type 0
   pub below : (k : ℕ) → rows.heap.range.ram + 8 * k < rows.heap.range.base → cap_in hs k ≡ cap_in gs k
   pub same : Same rows.heap n
 
-region_same : (gs hs : List Granule) (rows : Rows) (n : HeapRow) → IsEngine gs rows → HeapTurns gs hs rows n
-    → (m : ℕ) → rows.region.trusted ≤ rows.region.ram + 8 * m → rows.region.ram + 8 * m < rows.region.end → cap_in hs m ≡ cap_in gs m
-region_same gs hs rows n holds t m lo hi =
+rows_stay : (gs hs : List Granule) (rows : Rows) (n : HeapRow) → IsEngine gs rows → HeapTurns gs hs rows n
+    → AreasFrom rows.region.ram hs rows.standing.items 0 rows.region.trusted rows.region.end rows.list.items
+    × (threads_of hs rows.standing.items 0 rows.list.items ≡ threads_of gs rows.standing.items 0 rows.list.items)
+rows_stay gs hs rows n holds t =
     let ram = holds.heap.ram in
     let past = holds.heap.past in
-    t.below m (omega (arith, hi, ram, past))
+    rows_same rows.region.ram gs hs rows.standing.items rows.standing.items 0 rows.region.trusted rows.region.end rows.list.items
+    holds.areas t.size (λ m lo hi. t.below m (omega (arith, hi, ram, past))) (λ u lo. refl)
 
 pub turned_holds : (gs hs : List Granule) (rows : Rows) (n : HeapRow) (front : Option ℕ) → IsEngine gs rows → HeapTurns gs hs rows n → Laid n hs → IsClear n hs
     → unwrap_or front 0 ≤ 8 * length gs → IsEngine hs (with_heap rows n front)
@@ -65,8 +67,7 @@ turned_holds gs hs rows n front holds t laid clear within =
     let ram : n.range.ram ≡ rows.heap.range.ram = ap (λ (r : Range). r.ram) t.same.range in
     let past = holds.heap.past in
     record {
-      areas = areas_same rows.region.ram gs hs rows.standing.items rows.standing.items 0 rows.region.trusted rows.region.end rows.list.items holds.areas t.size
-          (region_same gs hs rows n holds t) (λ u lo. refl);
+      areas = (rows_stay gs hs rows n holds t).0;
       runs = holds.runs;
       sizes = holds.sizes;
       alone = holds.alone;
@@ -92,8 +93,7 @@ pub turned_seen : (gs hs : List Granule) (rows : Rows) (n : HeapRow) (front : Op
     → engine_view hs (with_heap rows n front)
     ≡ record (engine_view gs rows) { granules = with_hidden (region_hides rows.region) (with_hidden (heap_hides n hs) hs); objects = objects_of n hs; next = n.next; front = front }
 turned_seen gs hs rows n front holds t =
-    let threads = threads_same rows.region.ram gs hs rows.standing.items rows.standing.items 0 rows.region.trusted rows.region.end rows.list.items
-    holds.areas (region_same gs hs rows n holds t) (λ u lo. refl) in
+    let threads = (rows_stay gs hs rows n holds t).1 in
     rw (
       hide_over rows n hs (ap (λ (r : Range). r.ram) t.same.range ∙ holds.heap.ram),
       threads,

@@ -20,10 +20,10 @@ use Rattle.ct_areas.specs.declared.thread.Area.{Area}
 use Rattle.ct_areas.specs.declared.thread.Fresh.{Fresh}
 use Rattle.ct_engine.specs.declared.rows.Region.{Region}
 use Rattle.ct_engine.specs.declared.rows.Rows.{Rows}
-use Rattle.ct_engine.specs.Seen.{stands, region_hides, hides_over, engine_view}
-use Rattle.ct_engine.specs.Kept.{StackLies, IsClear, IsEngine}
+use Rattle.ct_engine.specs.Seen.{stands, region_hides, hides_over, engine_view, threads_of}
+use Rattle.ct_engine.specs.Kept.{AreasFrom, StackLies, IsClear, IsEngine}
 use Rattle.ct_engine.specs.Starts.{HaveBegun, MayStart, started}
-use Rattle.ct_engine.proofs.Lists.{areas_same, threads_same}
+use Rattle.ct_engine.proofs.Lists.{rows_same}
 use Rattle.ct_engine.proofs.Whole.{none_is}
 use Rattle.ct_engine.proofs.Stacks.{hidden_place}
 use Rattle.ct_engine.proofs.HeapStays.{hidden_lies}
@@ -112,20 +112,21 @@ memory_is was gs hs rows fs h l =
 
 -- ---- threads
 
-region_same : (was gs hs : List Granule) (rows : Rows) (fs : List Fresh) (h : HeapRow) → Lays was gs hs rows fs h
-    → (m : ℕ) → rows.region.trusted ≤ rows.region.ram + 8 * m → rows.region.ram + 8 * m < rows.region.end → cap_in hs m ≡ cap_in gs m
-region_same was gs hs rows fs h l m lo hi =
+rows_stay : (was gs hs : List Granule) (rows : Rows) (fs : List Fresh) (h : HeapRow) → Lays was gs hs rows fs h
+    → AreasFrom rows.region.ram hs rows.standing.items 0 rows.region.trusted rows.region.end rows.list.items
+    × (threads_of hs rows.standing.items 0 rows.list.items ≡ threads_of gs [] 0 rows.list.items)
+rows_stay was gs hs rows fs h l =
     let ram = l.may.heap.ram in
     let past = l.may.heap.past in
-    ap (λ (x : Granule). x.cap) (l.stays.rest m (inl (omega (arith, hi, past, ram))))
+    rows_same rows.region.ram gs hs [] rows.standing.items 0 rows.region.trusted rows.region.end rows.list.items l.begun.areas l.stays.size
+    (λ m lo hi. ap (λ (x : Granule). x.cap) (l.stays.rest m (inl (omega (arith, hi, past, ram))))) (λ u lo. l.empty u)
 
 -- ---- all that is seen
 
 pub laid_seen : (was gs hs : List Granule) (rows : Rows) (fs : List Fresh) (h : HeapRow) → Lays was gs hs rows fs h
     → engine_view hs rows ≡ started was rows.region fs h
 laid_seen was gs hs rows fs h l =
-    let threads = threads_same rows.region.ram gs hs [] rows.standing.items 0 rows.region.trusted rows.region.end rows.list.items l.begun.areas
-    (region_same was gs hs rows fs h l) (λ u lo. l.empty u) ∙ l.begun.threads in
+    let threads = (rows_stay was gs hs rows fs h l).1 ∙ l.begun.threads in
     rw (
       memory_is was gs hs rows fs h l,
       threads,
@@ -164,7 +165,7 @@ laid_holds was gs hs rows fs h l =
     let past = l.may.heap.past in
     let size : length hs ≡ length was = l.stays.size ∙ l.begun.size in
     record {
-      areas = areas_same rows.region.ram gs hs [] rows.standing.items 0 rows.region.trusted rows.region.end rows.list.items l.begun.areas l.stays.size (region_same was gs hs rows fs h l) (λ u lo. l.empty u);
+      areas = (rows_stay was gs hs rows fs h l).0;
       sizes = l.sizes;
       runs = λ u e. none_is u (sym l.none ∙ e);
       alone = λ tight u stood. absurd (let clash : true ≡ false = sym stood ∙ l.empty u in cc);

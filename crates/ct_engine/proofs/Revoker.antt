@@ -1,6 +1,6 @@
 -- The revoker: what is kept and what is seen as a sweep begins, passes granules and ends.
 use Rattle.std.proofs.Common.{ℕ, zero, suc, ◌≡◌, ◌+◌, ◌-◌, ◌*◌, ◌<◌, ◌≤◌, inl, inr, ◌&&◌, ◌||◌, Bool, true, false, not, cond, nat_eq, nat_le, nat_lt, List, [], ◌∷◌, length, Option, Some, None, is_some, min, unwrap_or, refl, sym, ap, ◌∙◌, arith, subst}
-use Rattle.std.proofs.lemmas.Bool.{or_parts, le-leb, lt-leb}
+use Rattle.std.proofs.lemmas.Bool.{or_parts, not-false, le-leb, lt-leb}
 use Rattle.law_lists.proofs.Tests.{bool_tells, chosen, eq_tells, lt_tells}
 use Rattle.def_words.specs.declared.Cap.{Cap}
 use Rattle.def_memory.specs.declared.Granule.{Granule}
@@ -54,17 +54,10 @@ live_plain h gs = live_plain_in h.names h.range.base h.range.base (chunks h.rang
 none_painted : (rs : List Object) → has_quarantined rs ≡ false → Each LivePlain rs → painted rs ≡ rs
 none_painted [] none each = refl
 none_painted (r ∷ rs) none each =
-    let live : r.live ≡ true = first r.live (has_quarantined rs) none in
+    let both = or_parts (not r.live) (has_quarantined rs) none in
+    let live : r.live ≡ true = not-false r.live both.0 in
     ap (λ b. (let o : Object = record r { painted = b } in o) ∷ painted rs) (ap (λ b. not b) live ∙ sym (each.0 live))
-    ∙ ap (λ os. r ∷ os) (none_painted rs (later r.live (has_quarantined rs) none) each.1)
-  where
-    first : (a b : Bool) → (not a || b) ≡ false → a ≡ true
-    first true b e = refl
-    first false b e = absurd (let clash : true ≡ false = e in cc)
-
-    later : (a b : Bool) → (not a || b) ≡ false → b ≡ false
-    later true b e = e
-    later false b e = absurd (let clash : true ≡ false = e in cc)
+    ∙ ap (λ os. r ∷ os) (none_painted rs both.1 each.1)
 
 -- hidden by objects that live where others do
 alike_hides : (h n : HeapRow) (gs hs : List Granule) → n.range.ram ≡ h.range.ram → n.range.base ≡ h.range.base → n.range.length ≡ h.range.length

@@ -1,8 +1,9 @@
 -- What a change of one thread makes of all that is seen, and of what is kept.
-use Rattle.std.proofs.Common.{ℕ, zero, suc, ◌≡◌, ◌≢◌, ◌+◌, ◌*◌, ◌<◌, ◌≤◌, inl, inr, Bool, true, false, cond, List, [], ◌∷◌, length, map, Option, Some, None, unwrap_or, is_some, refl, sym, ap, ◌∙◌, arith, subst}
+use Rattle.std.proofs.Common.{ℕ, zero, suc, ◌≡◌, ◌≢◌, ◌+◌, ◌*◌, ◌<◌, ◌≤◌, inl, inr, Bool, true, false, List, [], ◌∷◌, length, map, Option, Some, None, unwrap_or, is_some, refl, sym, ap, ◌∙◌, arith, subst}
 use Rattle.std.proofs.lemmas.Bool.{le-leb, lt-ltb}
 use Rattle.std.proofs.Math.Seq.{map-set_same}
 use Rattle.std.proofs.Math.ListN.{get_or, set}
+use Rattle.std.specs.Bool.{then_some}
 use Rattle.std.specs.Vec.{with_item}
 use Rattle.std.proofs.lemmas.List.{get_or_default, get_or-set_same, get_or-set_other, set-get_or, length-set}
 use Rattle.law_lists.proofs.Tests.{bool_tells, lt_tells}
@@ -30,9 +31,9 @@ use Rattle.ct_areas.proofs.Places.{alive_is}
 use Rattle.ct_engine.specs.declared.rows.Region.{Region}
 use Rattle.ct_engine.specs.declared.rows.Rows.{Rows}
 use Rattle.ct_engine.specs.Seen.{Seen, stands, threads_of, engine_view, thread, with_thread, with_running, resumed, region_hides, hides_over, seen_by, hidden}
-use Rattle.ct_engine.specs.Kept.{StackLies, IsEngine, OnlyRunnerStands}
-use Rattle.ct_engine.proofs.Lists.{Lies, OthersStand, lies, areas_put, threads_put, how_many, the_thread}
-use Rattle.ct_engine.proofs.HeapStays.{turn_heap, turn_objects}
+use Rattle.ct_engine.specs.Kept.{AreasFrom, StackLies, IsEngine, OnlyRunnerStands}
+use Rattle.ct_engine.proofs.Lists.{Lies, OthersStand, lies, rows_put, how_many, the_thread}
+use Rattle.ct_engine.proofs.HeapStays.{HeapStays, heap_keeps, heap_holds, area_stays}
 use Rattle.law_moves.proofs.Slices.{is_itself, number_is}
 
 -- a granule of the region is hidden
@@ -47,7 +48,7 @@ none_is u e = absurd (let clash : false ≡ true = ap (λ (o : Option ℕ). is_s
 
 -- this thread runs, or none
 abbrev pub only : Bool → ℕ → Option ℕ
-only runs t = cond runs (Some t) None
+only runs t = then_some runs t
 
 only_is : (runs : Bool) (t : ℕ) → is_number (only runs t) t ≡ runs
 only_is true t = is_itself t
@@ -151,20 +152,8 @@ pub record Turn (gs hs : List Granule) (rows new : Rows) (t : ℕ) (r q : row.Th
 
 module _ {gs hs : List Granule} {rows new : Rows} {t : ℕ} {r q : row.Thread} {stood now : Bool}
     (u : Turn gs hs rows new t r q stood now) where
-  touches_at : Touches (area_begin (get_or rows.list.items t r).area) (area_end (get_or rows.list.items t r).area) gs hs
-  touches_at = subst (λ (x : row.Thread). Touches (area_begin x.area) (area_end x.area) gs hs) u.row.is u.touches
-
-  place_at : q.area ≡ (get_or rows.list.items t r).area
-  place_at = subst (λ (x : row.Thread). q.area ≡ x.area) u.row.is u.place
-
   places_stay : map (λ (x : row.Thread). x.area) (set rows.list.items t q) ≡ map (λ (x : row.Thread). x.area) rows.list.items
-  places_stay = map-set_same (λ (x : row.Thread). x.area) rows.list.items t q r place_at
-
-  others_at : OthersStand rows.standing.items new.standing.items (0 + t)
-  others_at = let start : 0 + t ≡ t = omega arith in rw start u.others
-
-  stands_at : stands new.standing.items (0 + t) ≡ now
-  stands_at = let start : 0 + t ≡ t = omega arith in rw start u.on
+  places_stay = map-set_same (λ (x : row.Thread). x.area) rows.list.items t q r (u.place ∙ ap (λ (x : row.Thread). x.area) u.row.is)
 
   running_stands : (v : ℕ) → new.running ≡ Some v → stands new.standing.items v ≡ true
   running_stands v e =
@@ -182,21 +171,29 @@ module _ {gs hs : List Granule} {rows new : Rows} {t : ℕ} {r q : row.Thread} {
     | inr no_ ↦ u.beside v no_ ∙ ap (λ o. is_number o v) (u.row.holds.alone tight v (sym (u.others v no_) ∙ stood_)) ∙ is_itself v
   ])
 
+  rows_turn : AreasFrom rows.region.ram hs new.standing.items 0 rows.region.trusted rows.region.end (set rows.list.items t q)
+      × (threads_of hs new.standing.items 0 (set rows.list.items t q) ≡ set (threads_of gs rows.standing.items 0 rows.list.items) t (thread_of hs now q))
+  rows_turn =
+      rows_put rows.region.ram gs hs rows.standing.items new.standing.items 0 t t rows.region.trusted rows.region.end rows.list.items r q now
+      u.row.holds.areas u.row.there (omega arith) u.row.is u.touches u.others u.place u.on u.kept
+
+  heap_turn : HeapStays rows.heap gs hs
+  heap_turn = area_stays gs hs rows.region rows.heap rows.front stood r u.row.holds.heap (row_lies u.row) u.touches
+
   -- what is kept
   pub turn_holds : IsEngine hs (turned rows new t q)
   turn_holds =
       let g : Region = rows.region in
       let old = u.row.holds in
       record {
-        areas = areas_put g.ram gs hs rows.standing.items new.standing.items 0 t g.trusted g.end rows.list.items r q
-            old.areas u.row.there touches_at others_at place_at (subst (λ b. IsKept hs b q) (sym stands_at) u.kept);
+        areas = rows_turn.0;
         sizes = u.size ∙ old.sizes ∙ sym (length-set rows.list.items t q);
         runs = running_stands;
         alone = standing_runs;
         stacks = subst (λ (as_ : List Area). Each (StackLies g rows.heap.range.base (8 * length hs)) as_) (sym places_stay)
             (subst (λ n. Each (StackLies g rows.heap.range.base (8 * n)) (map (λ (x : row.Thread). x.area) rows.list.items))
             (sym u.touches.size) old.stacks);
-        heap = turn_heap gs hs g rows.heap rows.front stood r old.heap (row_lies u.row) u.touches;
+        heap = heap_holds gs hs g rows.heap rows.front old.heap u.touches.size heap_turn;
         room = old.room;
       }
 
@@ -221,14 +218,12 @@ module _ {gs hs : List Granule} {rows new : Rows} {t : ℕ} {r q : row.Thread} {
       let ts : List row.Thread = rows.list.items in
       let os : List Object = objects_of rows.heap gs in
       let granules = unseen os in
-      let threads : threads_of hs new.standing.items 0 (set ts t q) ≡ set (threads_of gs rows.standing.items 0 ts) t x =
-      threads_put g.ram gs hs rows.standing.items new.standing.items 0 t g.trusted g.end ts r q x u.row.holds.areas
-      u.row.there touches_at others_at (subst (λ b. thread_of hs b q ≡ x) (sym stands_at) same) in
+      let threads = rows_turn.1 ∙ ap (λ (y : Thread). set (threads_of gs rows.standing.items 0 ts) t y) same in
       let places = places_stay in
       let rest : seen_by os rows hs (set ts t q) new.standing.items new.running ≡ with_running (with_thread (engine_view gs rows) t x) new.running =
       rw (granules, threads, places) refl in
       ap (λ (xs : List Object). seen_by xs rows hs (set ts t q) new.standing.items new.running)
-      (turn_objects gs hs g rows.heap rows.front stood r u.row.holds.heap (row_lies u.row) u.touches) ∙ rest
+      (heap_keeps gs hs g rows.heap rows.front u.row.holds.heap u.touches.size heap_turn).objects ∙ rest
 
 -- nothing, where the thread that is seen is the same
 pub turn_stays : {gs hs : List Granule} {rows new : Rows} {t : ℕ} {r q : row.Thread} {stood now : Bool} → Turn gs hs rows new t r q stood now

@@ -91,7 +91,7 @@ impl<M: Memory + Drop> Engine<M> {
     pub fn count(&self) -> usize
         ensures { result ≡ length self.now.threads }
     {
-        self.rows.count()
+        self.rows.list.len()
     }
 
     /// The thread that runs.
