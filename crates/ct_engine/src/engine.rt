@@ -1,7 +1,7 @@
 //! The engine.
 #![tactic(auto, using(crate::proofs::Whole::the_runner, crate::proofs::Whole::runner_stands))]
 
-ghost use Rattle.std.specs.Prelude.{◌≡◌, ◌*◌, ◌/◌, ◌%◌, ◌<◌, Some, None, true, false, length, nat_lt, IfOk};
+ghost use Rattle.std.specs.Prelude.{◌≡◌, ◌*◌, ◌/◌, ◌%◌, ◌<◌, Some, None, true, false, length, nat_lt};
 ghost use Rattle.def_instr.specs.Shapes.{is_access};
 ghost use Rattle.def_profile.specs.declared.answers.TheConstants.{UNWOUND};
 ghost use Rattle.def_memory.specs.Accesses.{IsAccess, loaded};
@@ -10,7 +10,6 @@ ghost use Rattle.def_step.specs.Instructions.{actor_of};
 ghost use Rattle.def_step.specs.Handlers.{handler_value};
 ghost use Rattle.def_safety.specs.HiddenSteps.{IsSeen, SeesAccess};
 ghost use Rattle.ct_threads.specs.Steps.{NextInRange, IsMoved};
-ghost use Rattle.ct_engine.specs.Starts.{MayStart, started};
 ghost use Rattle.ct_engine.specs.Seen.{hides, thread, with_granules, with_running, resumed, after_jump};
 ghost use Rattle.ct_engine.specs.Steps.{space_in, next_in, HeapLies};
 ghost use Rattle.ct_switch.specs.Exports.{AreSorted};
@@ -18,14 +17,11 @@ ghost use Rattle.ct_switch.specs.Calls.{call_outcome};
 ghost use Rattle.ct_engine.specs.Calls.{TopLies, MayCall, switch_at, after_call, returned, ended_with};
 ghost use Rattle.ct_engine.specs.Handling.{MayHandle, is_handled_at, is_marked, after_trap};
 
-use crate::rows::{Region, Rows};
-use crate::starting::start;
+use crate::rows::Rows;
 use crate::turns::take_up;
-use ct_areas::Fresh;
 use ct_bus::Bus;
 use ct_cap::{Live, Posture, Trap};
 use ct_entry::Entries;
-use ct_heap::Heap;
 use ct_loadstore::Moved;
 use ct_mem::Memory;
 use ct_switch::Called;
@@ -34,9 +30,7 @@ use ct_threads::{
 };
 use def_instr::Instr;
 use def_profile::answers::UNWOUND;
-use def_refusals::NoMemory;
 use def_step::Next;
-use std::alloc::Global;
 use std::marker::Model;
 
 /// Threads over a memory that has a quota heap: their frames and saved registers stand in that memory's trusted region.
@@ -63,23 +57,6 @@ impl<M: Memory + Drop> Model for Engine<M> {
 }
 
 impl<M: Memory + Drop> Engine<M> {
-    /// Threads that start, stopped before their first step, in the order of their numbers, over a memory whose trusted
-    /// region and whose heap read as zero; the heap, in which there is no object, is laid. The one error is `NoMemory`.
-    pub fn start(
-        alloc: Global,
-        memory: M,
-        region: Region,
-        fresh: &[Fresh],
-        heap: Heap,
-    ) -> Result<Engine<M>, NoMemory>
-        requires { MayStart (M.granules memory) region fresh.now heap }
-        ensures { IfOk result (λ e. e ≡ started (M.granules memory) region fresh.now heap) }
-    {
-        let mut mem = memory;
-        let rows = start(alloc, &mut mem, region, fresh, heap)?;
-        Ok(Engine { mem, rows })
-    }
-
     /// The bytes of RAM.
     pub fn size(&self) -> u32
         ensures { result ≡ 8 * length self.now.granules }
