@@ -1,5 +1,6 @@
 -- Changes of memory that meet nothing hidden leave the threads, and what is kept of them.
-use Rattle.std.proofs.Common.{ℕ, zero, suc, ◌≡◌, ◌*◌, ◌/◌, ◌<◌, ◌≤◌, ◌+◌, ◌⊎◌, inl, inr, Bool, true, false, List, [], ◌∷◌, length, map, refl, sym, ap, ◌∙◌, arith, subst}
+use Rattle.std.proofs.Common.{ℕ, ◌≡◌, ◌*◌, ◌/◌, ◌<◌, ◌+◌, ◌⊎◌, inl, inr, Bool, true, false, List, length, map, refl, sym, ap, ◌∙◌, arith, subst}
+use Rattle.std.proofs.lemmas.List.{get_or_past}
 use Rattle.law_lists.proofs.Tests.{lt_tells}
 use Rattle.def_memory.specs.declared.Granule.{Granule}
 use Rattle.def_memory.specs.Accesses.{IsAccess, loaded}
@@ -7,17 +8,16 @@ use Rattle.def_memory.specs.Granules.{cap_in}
 use Rattle.def_hidden.specs.Hiding.{with_hidden}
 use Rattle.law_hidden.proofs.Granules.{with_hidden_length, load_seen}
 use Rattle.def_machine.specs.Objects.{Each}
-use Rattle.def_machine.specs.State.{Thread, Object, nobody}
+use Rattle.def_machine.specs.State.{Thread, nobody}
 use Rattle.def_chunks.specs.Heaps.{objects_of}
 use Rattle.def_chunks.specs.Hides.{hides_heap, heap_hides}
 use Rattle.std.proofs.lemmas.Bool.{or_cases, or_left, or_right}
 use Rattle.ct_engine.proofs.HeapStays.{HeapStays, heap_keeps, heap_holds}
-use Rattle.std.proofs.Math.ListN.{get_or}
 use Rattle.ct_areas.specs.declared.thread.Thread as row
 use Rattle.ct_engine.specs.declared.rows.Rows.{Rows}
-use Rattle.ct_engine.specs.Seen.{Seen, hides, threads_of, engine_view, thread, with_granules, region_hides, seen_by, hidden}
-use Rattle.ct_engine.specs.Kept.{StackLies, IsEngine}
-use Rattle.ct_engine.proofs.Lists.{areas_same, threads_same, how_many}
+use Rattle.ct_engine.specs.Seen.{Seen, hides, threads_of, engine_view, thread, with_granules, region_hides, hidden}
+use Rattle.ct_engine.specs.Kept.{AreasFrom, StackLies, IsEngine}
+use Rattle.ct_engine.proofs.Lists.{rows_same, how_many}
 use Rattle.ct_engine.proofs.Whole.{hidden_is}
 
 -- what is hidden holds what it held
@@ -41,10 +41,16 @@ heap_hidden gs rows k holds is =
 heap_stays : (gs hs : List Granule) (rows : Rows) → IsEngine gs rows → HiddenStays gs hs rows → HeapStays rows.heap gs hs
 heap_stays gs hs rows holds same k is = same k (heap_hidden gs rows k holds is)
 
+away_rows : (gs hs : List Granule) (rows : Rows) → IsEngine gs rows → length hs ≡ length gs → HiddenStays gs hs rows
+    → AreasFrom rows.region.ram hs rows.standing.items 0 rows.region.trusted rows.region.end rows.list.items
+    × (threads_of hs rows.standing.items 0 rows.list.items ≡ threads_of gs rows.standing.items 0 rows.list.items)
+away_rows gs hs rows holds size same =
+    rows_same rows.region.ram gs hs rows.standing.items rows.standing.items 0 rows.region.trusted rows.region.end rows.list.items holds.areas size
+    (λ m lo hi. same m (region_hidden gs rows m (hidden_is rows.region m lo hi))) (λ u lo. refl)
+
 pub away_holds : (gs hs : List Granule) (rows : Rows) → IsEngine gs rows → length hs ≡ length gs → HiddenStays gs hs rows → IsEngine hs rows
 away_holds gs hs rows holds size same = record {
-  areas = areas_same rows.region.ram gs hs rows.standing.items rows.standing.items 0 rows.region.trusted rows.region.end rows.list.items holds.areas size
-      (λ m lo hi. same m (region_hidden gs rows m (hidden_is rows.region m lo hi))) (λ u lo. refl);
+  areas = (away_rows gs hs rows holds size same).0;
   runs = holds.runs;
   sizes = holds.sizes;
   alone = holds.alone;
@@ -53,15 +59,11 @@ away_holds gs hs rows holds size same = record {
   room = holds.room;
 }
 
-pub away_seen : (gs hs : List Granule) (rows : Rows) → IsEngine gs rows → length hs ≡ length gs → HiddenStays gs hs rows → engine_view hs rows ≡ with_granules (engine_view gs rows) (with_hidden (hidden gs rows) hs)
+pub away_seen : (gs hs : List Granule) (rows : Rows) → IsEngine gs rows → length hs ≡ length gs → HiddenStays gs hs rows
+    → engine_view hs rows ≡ with_granules (engine_view gs rows) (with_hidden (hidden gs rows) hs)
 away_seen gs hs rows holds size same =
-    let objects : objects_of rows.heap hs ≡ objects_of rows.heap gs =
-    (heap_keeps gs hs rows.region rows.heap rows.front holds.heap size (heap_stays gs hs rows holds same)).objects in
-    let threads : threads_of hs rows.standing.items 0 rows.list.items ≡ threads_of gs rows.standing.items 0 rows.list.items =
-    threads_same rows.region.ram gs hs rows.standing.items rows.standing.items 0 rows.region.trusted rows.region.end rows.list.items holds.areas
-    (λ m lo hi. same m (region_hidden gs rows m (hidden_is rows.region m lo hi))) (λ u lo. refl) in
-    ap (λ (os : List Object). seen_by os rows hs rows.list.items rows.standing.items rows.running) objects
-    ∙ ap (λ (ts : List Thread). let s : Seen = record (seen_by (objects_of rows.heap gs) rows hs rows.list.items rows.standing.items rows.running) { threads = ts } in s) threads
+    let threads = (away_rows gs hs rows holds size same).1 in
+    rw ((heap_keeps gs hs rows.region rows.heap rows.front holds.heap size (heap_stays gs hs rows holds same)).objects, threads) refl
 
 pub apart : (h : ℕ → Bool) (k m : ℕ) → h m ≡ false → h k ≡ true → k ≡ m → ⊥
 apart h k m open_ hidden e = let clash : true ≡ false = sym hidden ∙ ap (λ n. h n) e ∙ open_ in cc
@@ -86,13 +88,8 @@ load_is gs rows v at width is open_ =
 pub count_is : (gs : List Granule) (rows : Rows) (v : Seen) → engine_view gs rows ≡ v → length rows.list.items ≡ length v.threads
 count_is gs rows v is = sym (how_many gs rows.standing.items 0 rows.list.items) ∙ ap (λ (s : Seen). length s.threads) is
 
-past_end : (ts : List Thread) (t : ℕ) → length ts ≤ t → get_or ts t nobody ≡ nobody
-past_end [] t le = refl
-past_end (u ∷ us) zero le = absurd (omega (arith, le))
-past_end (u ∷ us) (suc t) le = past_end us t (omega (arith, le))
-
 pub alive_there : (gs : List Granule) (rows : Rows) (v : Seen) (t : ℕ) → engine_view gs rows ≡ v → 0 < length (thread v t).frames → t < length rows.list.items
 alive_there gs rows v t is alive = elim (lt_tells t (length v.threads)) [
   | inl a ↦ (let lt = a.1 in let size = count_is gs rows v is in omega (arith, lt, size))
-  | inr a ↦ absurd (let none : length (thread v t).frames ≡ 0 = ap (λ (u : Thread). length u.frames) (past_end v.threads t a.1) in omega (arith, alive, none))
+  | inr a ↦ absurd (let none : length (thread v t).frames ≡ 0 = ap (λ (u : Thread). length u.frames) (get_or_past v.threads t nobody a.1) in omega (arith, alive, none))
 ]

@@ -1,5 +1,6 @@
 -- Threads that start one after another.
-use Rattle.std.proofs.Common.{ℕ, zero, suc, ◌≡◌, ◌+◌, ◌*◌, ◌<◌, ◌≤◌, inl, inr, true, false, List, [], ◌∷◌, ◌++◌, length, map, take, drop, Bool, refl, sym, ap, ◌∙◌, arith, subst}
+use Rattle.std.proofs.Common.{ℕ, ◌≡◌, ◌+◌, ◌*◌, ◌<◌, ◌≤◌, inl, inr, true, false, List, [], ◌∷◌, ◌++◌, length, map, take, drop, add-one, Bool, refl, sym, ap, ◌∙◌, arith, subst}
+use Rattle.std.proofs.Math.Seq.{take-suc, drop-cons}
 use Rattle.std.proofs.Math.ListN.{get_or}
 use Rattle.std.proofs.lemmas.List.{drop_all, take_all, map_push}
 use Rattle.law_lists.proofs.Tests.{lt_tells}
@@ -21,7 +22,7 @@ use Rattle.ct_engine.specs.declared.rows.Region.{Region}
 use Rattle.ct_engine.specs.Seen.{region_hides, threads_of}
 use Rattle.ct_engine.specs.Kept.{ArePlain, AreasFrom}
 use Rattle.ct_engine.specs.Starts.{AreFresh, HaveBegun}
-use Rattle.ct_engine.proofs.Lists.{Same, ends, outside, areas_same, threads_same}
+use Rattle.ct_engine.proofs.Lists.{Same, ends, outside, rows_same}
 use Rattle.ct_engine.proofs.Whole.{hidden_is}
 
 -- ---- one more after others
@@ -121,14 +122,11 @@ begun_next g was gs hs ts t done todo f b touches kept place same =
     let end : end_of g.trusted (done ++ f ∷ []) ≡ f.area.trusted + f.area.trusted_length = end_last g.trusted done f in
     let before : Same g.ram gs hs g.trusted (end_of g.trusted done) =
     λ m lo hi. outside (8 * length was) f.area gs hs m has touches (inl (omega (arith, hi, low, base))) in
-    let threads : threads_of hs [] 0 ts ≡ threads_of gs [] 0 ts =
-    threads_same g.ram gs hs [] [] 0 g.trusted (end_of g.trusted done) ts b.areas before (λ u lo. refl) in
-    let areas : AreasFrom g.ram hs [] 0 g.trusted (end_of g.trusted done) ts =
-    areas_same g.ram gs hs [] [] 0 g.trusted (end_of g.trusted done) ts b.areas touches.size before (λ u lo. refl) in
+    let same_rows = rows_same g.ram gs hs [] [] 0 g.trusted (end_of g.trusted done) ts b.areas touches.size before (λ u lo. refl) in
     let between : ArePlain g.ram hs (end_of g.trusted done) f.area.trusted =
     λ m lo hi. plain_zero (cap_in hs m) (outside (8 * length was) f.area gs hs m has touches (inl (omega (arith, hi, base))) ∙ b.clear m lo (omega (arith, hi, high))) in
     let last : AreasFrom g.ram hs [] 0 g.trusted (t.area.trusted + t.area.trusted_length) (ts ++ t ∷ []) =
-    areas_last g.ram hs 0 g.trusted (end_of g.trusted done) ts t areas (rw place low) (rw place base) kept
+    areas_last g.ram hs 0 g.trusted (end_of g.trusted done) ts t same_rows.0 (rw place low) (rw place base) kept
     (subst (λ (a : Area). ArePlain g.ram hs (end_of g.trusted done) a.trusted) (sym place) between) in
     let to : t.area.trusted + t.area.trusted_length ≡ end_of g.trusted (done ++ f ∷ []) = ap (λ (a : Area). a.trusted + a.trusted_length) place ∙ sym end in
     record {
@@ -139,7 +137,7 @@ begun_next g was gs hs ts t done todo f b touches kept place same =
           let h = w.1 in
           hidden_is g k (omega (arith, from, low, base, l)) (omega (arith, high, base, h)))
           ∙ b.memory;
-      threads = threads_last hs 0 ts t ∙ ap (λ xs. xs ++ thread_of hs false t ∷ []) (threads ∙ b.threads)
+      threads = threads_last hs 0 ts t ∙ ap (λ xs. xs ++ thread_of hs false t ∷ []) (same_rows.1 ∙ b.threads)
           ∙ ap (λ x. map (λ u. first_of u) done ++ x ∷ []) same ∙ sym (map_push (λ u. first_of u) done f);
       places = map_push (λ (u : row.Thread). u.area) ts t ∙ ap (λ xs. xs ++ t.area ∷ []) b.places
           ∙ ap (λ a. map (λ (u : Fresh). u.area) done ++ a ∷ []) place ∙ sym (map_push (λ (u : Fresh). u.area) done f);
@@ -152,16 +150,6 @@ begun_next g was gs hs ts t done todo f b touches kept place same =
 
 -- ---- all of them
 
-take_next : {A : Type 0} (xs : List A) (i : ℕ) (d : A) → i < length xs → take (i + 1) xs ≡ take i xs ++ get_or xs i d ∷ []
-take_next [] i d lt = absurd (omega (arith, lt))
-take_next (x ∷ xs) zero d lt = refl
-take_next (x ∷ xs) (suc i) d lt = let next : suc i + 1 ≡ suc (i + 1) = omega arith in rw next (ap (λ ys. x ∷ ys) (take_next xs i d (omega (arith, lt))))
-
-drop_next : {A : Type 0} (xs : List A) (i : ℕ) (d : A) → i < length xs → drop i xs ≡ get_or xs i d ∷ drop (i + 1) xs
-drop_next [] i d lt = absurd (omega (arith, lt))
-drop_next (x ∷ xs) zero d lt = refl
-drop_next (x ∷ xs) (suc i) d lt = let next : suc i + 1 ≡ suc (i + 1) = omega arith in rw next (drop_next xs i d (omega (arith, lt)))
-
 -- so many of them started
 abbrev pub BegunTo : Region → List Granule → List Granule → List row.Thread → List Fresh → ℕ → Type 0
 BegunTo g was gs ts fs i = Begun g was gs ts (take i fs) (drop i fs)
@@ -170,7 +158,8 @@ BegunTo g was gs ts fs i = Begun g was gs ts (take i fs) (drop i fs)
 pub begun_at : (g : Region) (was gs : List Granule) (ts : List row.Thread) (fs : List Fresh) (i : ℕ) (f : Fresh) → BegunTo g was gs ts fs i → i < length fs
     → f ≡ get_or fs i f → Begun g was gs ts (take i fs) (f ∷ drop (i + 1) fs)
 begun_at g was gs ts fs i f b lt is =
-    subst (λ (xs : List Fresh). Begun g was gs ts (take i fs) xs) (drop_next fs i f lt ∙ ap (λ x. x ∷ drop (i + 1) fs) (sym is)) b
+    let next : drop i fs ≡ get_or fs i f ∷ drop (i + 1) fs = rw add-one (drop-cons fs i f lt) in
+    subst (λ (xs : List Fresh). Begun g was gs ts (take i fs) xs) (next ∙ ap (λ x. x ∷ drop (i + 1) fs) (sym is)) b
 
 pub begun_step : (g : Region) (was gs hs : List Granule) (ts us : List row.Thread) (t : row.Thread) (fs : List Fresh) (i : ℕ) (f : Fresh)
     → BegunTo g was gs ts fs i → i < length fs → f ≡ get_or fs i f → Touches (area_begin f.area) (area_end f.area) gs hs → IsKept hs false t → t.area ≡ f.area
@@ -178,7 +167,8 @@ pub begun_step : (g : Region) (was gs hs : List Granule) (ts us : List row.Threa
 begun_step g was gs hs ts us t fs i f b lt is touches kept place same added =
     let next : Begun g was hs (ts ++ t ∷ []) (take i fs ++ f ∷ []) (drop (i + 1) fs) =
     begun_next g was gs hs ts t (take i fs) (drop (i + 1) fs) f (begun_at g was gs ts fs i f b lt is) touches kept place same in
-    let done : take i fs ++ f ∷ [] ≡ take (i + 1) fs = ap (λ x. take i fs ++ x ∷ []) is ∙ sym (take_next fs i f lt) in
+    let last : take (i + 1) fs ≡ take i fs ++ get_or fs i f ∷ [] = rw add-one (take-suc fs i f lt) in
+    let done : take i fs ++ f ∷ [] ≡ take (i + 1) fs = ap (λ x. take i fs ++ x ∷ []) is ∙ sym last in
     rw added (subst (λ (xs : List Fresh). Begun g was hs (ts ++ t ∷ []) xs (drop (i + 1) fs)) done next)
 
 begun_all : (g : Region) (was gs : List Granule) (ts : List row.Thread) (fs : List Fresh) (i : ℕ) → BegunTo g was gs ts fs i → length fs ≤ i → Begun g was gs ts fs []

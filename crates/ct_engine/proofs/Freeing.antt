@@ -1,9 +1,9 @@
 -- A free, over all that is seen: the object is zeroed and marked, and the running thread's registers pass the load
 -- filter.
-use Rattle.std.proofs.Common.{ℕ, zero, suc, ◌≡◌, ◌+◌, ◌-◌, ◌*◌, ◌≤◌, ◌<◌, ◌==◌, ◌&&◌, ◌||◌, ◌⊎◌, inl, inr, Bool, true, false, not, nat_eq, nat_le, nat_lt, List, [], ◌∷◌, map, Some, None, refl, sym, ap, ◌∙◌, subst, arith}
+use Rattle.std.proofs.Common.{ℕ, zero, suc, ◌≡◌, ◌+◌, ◌-◌, ◌*◌, ◌≤◌, ◌<◌, ◌==◌, ◌&&◌, ◌||◌, ◌⊎◌, inl, inr, Bool, true, false, nat_eq, List, [], ◌∷◌, map, Some, None, refl, sym, ap, ◌∙◌, subst, arith}
 use Rattle.std.specs.Prelude.{find}
 use Rattle.std.proofs.Math.ListN.{get_or, set}
-use Rattle.std.proofs.lemmas.Bool.{and_parts, eqb-true}
+use Rattle.std.proofs.lemmas.Bool.{and_parts, eqb-true, le-leb, lt-ltb}
 use Rattle.law_lists.proofs.Tests.{bool_tells, le_tells, lt_tells, eq_tells}
 use Rattle.def_words.specs.declared.Cap.{Cap}
 use Rattle.def_memory.specs.declared.Granule.{Granule}
@@ -37,7 +37,7 @@ use Rattle.ct_engine.specs.Written.{state_with}
 use Rattle.ct_engine.proofs.Clear.{zero_clear}
 use Rattle.ct_engine.proofs.HiddenTwice.{seen_both}
 use Rattle.ct_engine.proofs.HeapTurns.{with_heap, HeapTurns, turned_holds, turned_seen}
-use Rattle.ct_engine.proofs.Granted.{seen_as, hides_by, hide_by}
+use Rattle.ct_engine.proofs.Granted.{hides_by, hide_by}
 use Rattle.ct_engine.proofs.Tables.{with_table, table_holds}
 
 -- ---- an object that is found by its quota and its bounds
@@ -128,106 +128,119 @@ live_outside p r (q ∷ os) x one e out = elim (bool_tells (p q)) [
 
 -- ---- what is seen
 
-freed_vanishes : (h n : HeapRow) (gs hs : List Granule) (quota base top number place long live : ℕ) → Laid h gs → (f : Frees h n gs hs quota base top number place long live)
-    → Vanishes h.range.ram h.range.base (h.range.base + h.range.length) (objects_of h gs) (quarantine f.object.number (objects_of h gs)) gs hs base top
-freed_vanishes h n gs hs quota base top number place long live l f =
-    let p = spans_of quota base top in
-    let os : List Object = objects_of h gs in
-    let r : Object = f.object in
-    let w = whole_says quota base top os r f.is in
-    let b = w.base_is in
-    let t = w.top_is in
-    let stands = found_each (λ q. StandsIn h.range q) (spans_of quota base top) r os (objects_inside h gs l) f.is in
-    let low = stands.low in
-    let high = stands.high in
-    record {
-      size = f.size;
-      some = omega (arith, low, b);
-      zero = f.zero;
-      marks = f.marks;
-      rest = f.rest;
-      live = λ x out. live_outside (spans_of quota base top) r os x l.distinct f.is (elim out [ inl a ↦ inl (omega (arith, a, b)) | inr a ↦ inr (omega (arith, a, t)) ]);
-      head = λ k from under.
-          let dead = head_dead (spans_of quota base top) r os (h.range.ram + 8 * k) (objects_apart h gs l) f.is (omega (arith, from, b)) (omega (arith, under, b)) in
-          let above : nat_le h.range.base (h.range.ram + 8 * k) ≡ true = elim (le_tells h.range.base (h.range.ram + 8 * k)) [ inl a ↦ a.0 | inr a ↦ absurd (let lt = a.1 in omega (arith, lt, from, low, b)) ] in
-          let below : nat_lt (h.range.ram + 8 * k) (h.range.base + h.range.length) ≡ true = elim (lt_tells (h.range.ram + 8 * k) (h.range.base + h.range.length)) [ inl a ↦ a.0 | inr a ↦ absurd (let ge = a.1 in omega (arith, ge, under, high, b)) ] in
-          hidden (nat_le h.range.base (h.range.ram + 8 * k)) (nat_lt (h.range.ram + 8 * k) (h.range.base + h.range.length)) (is_live_at os (h.range.ram + 8 * k)) above below dead;
-    }
-  where
-    hidden : (a b c : Bool) → a ≡ true → b ≡ true → c ≡ false → (a && b && not c) ≡ true
-    hidden a b c x y z = rw (x, y, z) refl
+module _ {h n : HeapRow} {gs hs : List Granule} {quota base top number place long live : ℕ}
+    (l : Laid h gs) (f : Frees h n gs hs quota base top number place long live) where
+  whole : Whole quota base top f.object
+  whole = whole_says quota base top (objects_of h gs) f.object f.is
 
--- a free keeps clear what it hides: the object reads as zero
-freed_clear : (h n : HeapRow) (gs hs : List Granule) (quota base top number place long live : ℕ) → Laid h gs → IsClear h gs → Frees h n gs hs quota base top number place long live → IsClear n hs
-freed_clear h n gs hs quota base top number place long live l clear f = λ k hid. elim (le_tells base (h.range.ram + 8 * k)) [
-  | inl low ↦ elim (lt_tells (h.range.ram + 8 * k) top) [
-    | inl high ↦ zero_clear hs k (f.zero k low.1 high.1)
-    | inr high ↦ stays k (inr high.1) hid
+  stands : StandsIn h.range f.object
+  stands = found_each (λ q. StandsIn h.range q) (spans_of quota base top) f.object (objects_of h gs) (objects_inside h gs l) f.is
+
+  -- outside of it the same is live
+  same_live : (x : ℕ) → (x < base) ⊎ (top ≤ x) → is_live_at (quarantine f.object.number (objects_of h gs)) x ≡ is_live_at (objects_of h gs) x
+  same_live x out =
+      let b = whole.base_is in
+      let t = whole.top_is in
+      live_outside (spans_of quota base top) f.object (objects_of h gs) x l.distinct f.is
+      (elim out [ inl a ↦ inl (omega (arith, a, b)) | inr a ↦ inr (omega (arith, a, t)) ])
+
+  freed_vanishes : Vanishes h.range.ram h.range.base (h.range.base + h.range.length) (objects_of h gs) (quarantine f.object.number (objects_of h gs)) gs hs base top
+  freed_vanishes =
+      let b = whole.base_is in
+      let low = stands.low in
+      let high = stands.high in
+      record {
+        size = f.size;
+        some = omega (arith, low, b);
+        zero = f.zero;
+        marks = f.marks;
+        rest = f.rest;
+        live = same_live;
+        head = λ k from under.
+            let dead = head_dead (spans_of quota base top) f.object (objects_of h gs) (h.range.ram + 8 * k) (objects_apart h gs l) f.is
+            (omega (arith, from, b)) (omega (arith, under, b)) in
+            rw (
+              le-leb h.range.base (h.range.ram + 8 * k) (omega (arith, from, low, b)),
+              lt-ltb (h.range.ram + 8 * k) (h.range.base + h.range.length) (omega (arith, under, high, b)),
+              dead,
+            ) refl;
+      }
+
+  -- it keeps clear what it hides: the object reads as zero
+  freed_clear : IsClear h gs → IsClear n hs
+  freed_clear clear k hid = elim (le_tells base (h.range.ram + 8 * k)) [
+    | inl low ↦ elim (lt_tells (h.range.ram + 8 * k) top) [
+      | inl high ↦ zero_clear hs k (f.zero k low.1 high.1)
+      | inr high ↦ stays (inr high.1)
+    ]
+    | inr low ↦ stays (inl low.1)
   ]
-  | inr low ↦ stays k (inl low.1) hid
-]
-  where
-    stays : (k : ℕ) → (h.range.ram + 8 * k < base) ⊎ (top ≤ h.range.ram + 8 * k) → heap_hides n hs k ≡ true → is_tagged hs k ≡ false
-    stays k out hid =
-        let r : Object = f.object in
-        let w = whole_says quota base top (objects_of h gs) r f.is in
-        let b = w.base_is in
-        let t = w.top_is in
-        let live : is_live_at (quarantine r.number (objects_of h gs)) (h.range.ram + 8 * k) ≡ is_live_at (objects_of h gs) (h.range.ram + 8 * k) =
-        live_outside (spans_of quota base top) r (objects_of h gs) (h.range.ram + 8 * k) l.distinct f.is (elim out [ inl a ↦ inl (omega (arith, a, b)) | inr a ↦ inr (omega (arith, a, t)) ]) in
-        let was : heap_hides h gs k ≡ true =
-        ap (λ x. nat_le h.range.base (h.range.ram + 8 * k) && nat_lt (h.range.ram + 8 * k) (h.range.base + h.range.length) && not x) (sym live) ∙ sym (hides_by h n hs (quarantine r.number (objects_of h gs)) k f.same f.objects) ∙ hid in
-        elim (bool_tells (is_tagged hs k)) [
-          | inl on ↦ absurd (let clash : true ≡ false = sym on ∙ ap (λ (c : Cap). c.tag) (f.tags k on) ∙ clear k was in cc)
-          | inr off ↦ off
-        ]
+    where
+      stays : (h.range.ram + 8 * k < base) ⊎ (top ≤ h.range.ram + 8 * k) → is_tagged hs k ≡ false
+      stays out =
+          let was : heap_hides h gs k ≡ true = rw (← same_live (h.range.ram + 8 * k) out)
+          (sym (hides_by h n hs (quarantine f.object.number (objects_of h gs)) k f.same f.objects) ∙ hid) in
+          elim (bool_tells (is_tagged hs k)) [
+            | inl on ↦ absurd (let clash : true ≡ false = sym on ∙ ap (λ (c : Cap). c.tag) (f.tags k on) ∙ clear k was in cc)
+            | inr off ↦ off
+          ]
 
--- memory, zeroed and marked by the object's bounds
-wiped_as : (base top low high ram : ℕ) (xs : List Granule) → low ≡ base → high ≡ top
-    → marked_from (base - 8) top true ram (zeroed_from base top ram xs) ≡ marked_from (low - 8) high true ram (zeroed_from low high ram xs)
-wiped_as base top low high ram xs p q = rw (p, q) refl
+module _ {gs hs : List Granule} {rows : Rows} {n : HeapRow} {quota base top number place long live : ℕ} (holds : IsEngine gs rows)
+    (f : Frees rows.heap n gs hs quota base top number place long live) where
+  -- below the heap everything stays
+  freed_turns : HeapTurns gs hs rows n
+  freed_turns =
+      let b = (whole holds.heap.laid f).base_is in
+      let low = (stands holds.heap.laid f).low in
+      record { size = f.size; below = λ k under. ap (λ (g : Granule). g.cap) (f.rest k (inl (omega (arith, under, low, b)))); same = f.same }
 
--- below the heap everything stays
-freed_turns : (gs hs : List Granule) (rows : Rows) (n : HeapRow) (quota base top number place long live : ℕ) → Laid rows.heap gs → Frees rows.heap n gs hs quota base top number place long live → HeapTurns gs hs rows n
-freed_turns gs hs rows n quota base top number place long live l f =
-    let w = whole_says quota base top (objects_of rows.heap gs) f.object f.is in
-    let b = w.base_is in
-    let stands = found_each (λ q. StandsIn rows.heap.range q) (spans_of quota base top) f.object (objects_of rows.heap gs) (objects_inside rows.heap gs l) f.is in
-    let low = stands.low in
-    record {
-      size = f.size;
-      below = λ k under. ap (λ (g : Granule). g.cap) (f.rest k (inl (omega (arith, under, low, b))));
-      same = f.same;
-    }
+  freed_seen : engine_view hs (with_heap rows n rows.front) ≡ quarantined (engine_view gs rows) f.object
+  freed_seen =
+      let h : HeapRow = rows.heap in
+      let w = whole holds.heap.laid f in
+      let ram : ℕ = h.range.ram in
+      let new : List Object = quarantine f.object.number (objects_of h gs) in
+      let region : ℕ → Bool = region_hides rows.region in
+      let was : List Granule = with_hidden (heap_hides h gs) gs in
+      let memory : with_hidden region (with_hidden (heap_hides n hs) hs) ≡ marked_from (base - 8) top true ram (zeroed_from base top ram (engine_view gs rows).granules) =
+      ap (λ xs. with_hidden region xs) (hide_by h n hs new f.same f.objects
+      ∙ object_vanishes ram h.range.base (h.range.base + h.range.length) (objects_of h gs) new gs hs base top (freed_vanishes holds.heap.laid f))
+      ∙ sym (marked_seen region (zeroed_from base top ram was) (base - 8) top true ram)
+      ∙ ap (λ xs. marked_from (base - 8) top true ram xs) (sym (zeroed_seen region was base top ram))
+      ∙ ap (λ xs. marked_from (base - 8) top true ram (zeroed_from base top ram xs)) (sym (seen_both gs rows holds)) in
+      turned_seen gs hs rows n rows.front holds freed_turns
+      ∙ rw (memory, f.objects, f.next, w.top_is, w.base_is, holds.heap.ram) refl
 
-pub freed_holds : (gs hs : List Granule) (rows : Rows) (n : HeapRow) (k : Table) (quota base top number place long live : ℕ) → IsEngine gs rows → Laid n hs
-    → Frees rows.heap n gs hs quota base top number place long live → k.room ≡ rows.tokens.room → IsEngine hs (with_table (with_heap rows n rows.front) k)
-freed_holds gs hs rows n k quota base top number place long live holds laid f same =
-    table_holds hs (with_heap rows n rows.front) k
-    (turned_holds gs hs rows n rows.front holds (freed_turns gs hs rows n quota base top number place long live holds.heap.laid f) laid
-    (freed_clear rows.heap n gs hs quota base top number place long live holds.heap.laid holds.heap.clear f) holds.heap.within) same
+  -- ---- the call: memory is freed, the object's row goes, and then the registers pass
 
-freed_seen : (gs hs : List Granule) (rows : Rows) (n : HeapRow) (quota base top number place long live : ℕ) → IsEngine gs rows → (f : Frees rows.heap n gs hs quota base top number place long live)
-    → engine_view hs (with_heap rows n rows.front) ≡ quarantined (engine_view gs rows) f.object
-freed_seen gs hs rows n quota base top number place long live holds f =
-    let h : HeapRow = rows.heap in
-    let r : Object = f.object in
-    let w = whole_says quota base top (objects_of h gs) r f.is in
-    let ram : ℕ = h.range.ram in
-    let new : List Object = quarantine r.number (objects_of h gs) in
-    let region : ℕ → Bool = region_hides rows.region in
-    let was : List Granule = with_hidden (heap_hides h gs) gs in
-    let now : List Granule = (engine_view gs rows).granules in
-    let memory : with_hidden region (with_hidden (heap_hides n hs) hs) ≡ marked_from (r.base - 8) (r.base + r.length) true rows.region.ram (zeroed_from r.base (r.base + r.length) rows.region.ram now) =
-    ap (λ xs. with_hidden region xs) (hide_by h n hs new f.same f.objects
-    ∙ object_vanishes ram h.range.base (h.range.base + h.range.length) (objects_of h gs) new gs hs base top (freed_vanishes h n gs hs quota base top number place long live holds.heap.laid f))
-    ∙ sym (marked_seen region (zeroed_from base top ram was) (base - 8) top true ram)
-    ∙ ap (λ xs. marked_from (base - 8) top true ram xs) (sym (zeroed_seen region was base top ram))
-    ∙ ap (λ xs. marked_from (base - 8) top true ram (zeroed_from base top ram xs)) (sym (seen_both gs rows holds))
-    ∙ wiped_as base top r.base (r.base + r.length) ram now w.base_is w.top_is
-    ∙ ap (λ m. marked_from (r.base - 8) (r.base + r.length) true m (zeroed_from r.base (r.base + r.length) m now)) holds.heap.ram in
-    turned_seen gs hs rows n rows.front holds (freed_turns gs hs rows n quota base top number place long live holds.heap.laid f)
-    ∙ seen_as (engine_view gs rows) _ _ _ _ _ _ memory f.objects f.next
+  module _ (k : Table) where
+    pub freed_holds : Laid n hs → k.room ≡ rows.tokens.room → IsEngine hs (with_table (with_heap rows n rows.front) k)
+    freed_holds laid same =
+        table_holds hs (with_heap rows n rows.front) k
+        (turned_holds gs hs rows n rows.front holds freed_turns laid (freed_clear holds.heap.laid f holds.heap.clear) holds.heap.within) same
+
+    pub free_is : {v z : Seen} (t : ℕ) → engine_view gs rows ≡ v → k.rows ≡ without_row number rows.tokens.rows
+        → z ≡ after_filter (engine_view hs (with_table (with_heap rows n rows.front) k)) t → z ≡ freed_by v t (whole_in v quota base top)
+    free_is {v} {z} t is gone filtered =
+        let with_rows : Seen → List Token → Seen = λ x ks. record x { tokens = ks } in
+        let without : engine_view hs (with_table (with_heap rows n rows.front) k) ≡ let_go (engine_view gs rows) f.object =
+        ap (λ x. with_rows x k.rows) freed_seen ∙ rw (gone, f.number_is) refl in
+        filtered ∙ ap (λ x. after_filter x t) without ∙ ap (freed_by (engine_view gs rows) t) (sym f.is)
+        ∙ ap (λ x. freed_by x t (whole_in x quota base top)) is
+
+    pub free_told : {v z : Seen} (t : ℕ) (o : told.Object) → o ≡ record { number = number; base = place; length = long; live = live }
+        → engine_view gs rows ≡ v → z ≡ after_filter (engine_view hs (with_table (with_heap rows n rows.front) k)) t
+        → WasWhole v z quota base top o
+    free_told t o told_is is filtered = rw (told_is, filtered, ← is) (record {
+      object = f.object;
+      is = f.is;
+      told = record {
+        number = f.number_is;
+        base = f.base_is;
+        length = f.length_is;
+        live = f.live_is ∙ ap (λ q. charges q (objects_of n hs)) (sym (whole holds.heap.laid f).quota_is);
+      };
+    })
 
 -- ---- a state of the machine where this is seen
 
@@ -251,38 +264,3 @@ freed_shown i m s statuses t r ram =
     let old : Thread = get_or (with_statuses s.threads statuses) t nobody in
     ap (λ n. put (wiped n) (set (with_statuses s.threads statuses) t (record old { registers = filters n old.registers }))) (sym ram)
     ∙ ap (put (wiped s.region.ram)) (registers_with (filters s.region.ram) s.threads statuses t)
-
--- ---- the call: memory is freed, the object's row goes, and then the registers pass
-
--- without the object, and without its row
-gone_seen : (gs hs : List Granule) (rows : Rows) (n : HeapRow) (k : Table) (quota base top number place long live : ℕ) → IsEngine gs rows
-    → (f : Frees rows.heap n gs hs quota base top number place long live) → k.rows ≡ without_row number rows.tokens.rows
-    → engine_view hs (with_table (with_heap rows n rows.front) k) ≡ let_go (engine_view gs rows) f.object
-gone_seen gs hs rows n k quota base top number place long live holds f gone =
-    let with_rows : Seen → List Token → Seen = λ x ks. record x { tokens = ks } in
-    ap (λ x. with_rows x k.rows) (freed_seen gs hs rows n quota base top number place long live holds f)
-    ∙ ap (with_rows (quarantined (engine_view gs rows) f.object)) (gone ∙ ap (λ m. without_row m rows.tokens.rows) f.number_is)
-
-pub free_is : (gs hs : List Granule) (rows : Rows) (n : HeapRow) (k : Table) (v z : Seen) (t quota base top number place long live : ℕ) → engine_view gs rows ≡ v → IsEngine gs rows
-    → Frees rows.heap n gs hs quota base top number place long live → k.rows ≡ without_row number rows.tokens.rows
-    → z ≡ after_filter (engine_view hs (with_table (with_heap rows n rows.front) k)) t → z ≡ freed_by v t (whole_in v quota base top)
-free_is gs hs rows n k v z t quota base top number place long live is holds f gone filtered =
-    filtered ∙ ap (λ x. after_filter x t) (gone_seen gs hs rows n k quota base top number place long live holds f gone)
-    ∙ ap (freed_by (engine_view gs rows) t) (sym f.is)
-    ∙ ap (λ x. freed_by x t (whole_in x quota base top)) is
-
-pub free_told : (gs hs : List Granule) (rows : Rows) (n : HeapRow) (k : Table) (v z : Seen) (t quota base top : ℕ) (o : told.Object) → engine_view gs rows ≡ v
-    → Frees rows.heap n gs hs quota base top o.number o.base o.length o.live → z ≡ after_filter (engine_view hs (with_table (with_heap rows n rows.front) k)) t → WasWhole v z quota base top o
-free_told gs hs rows n k v z t quota base top o is f filtered =
-    let w = whole_says quota base top (objects_of rows.heap gs) f.object f.is in
-    let here : WasWhole (engine_view gs rows) (after_filter (engine_view hs (with_table (with_heap rows n rows.front) k)) t) quota base top o = record {
-      object = f.object;
-      is = f.is;
-      told = record {
-        number = f.number_is;
-        base = f.base_is;
-        length = f.length_is;
-        live = f.live_is ∙ ap (λ q. charges q (objects_of n hs)) (sym w.quota_is);
-      };
-    } in
-    subst (λ x. WasWhole v x quota base top o) (sym filtered) (subst (λ x. WasWhole x (after_filter (engine_view hs (with_table (with_heap rows n rows.front) k)) t) quota base top o) is here)

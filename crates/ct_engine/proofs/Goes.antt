@@ -1,68 +1,123 @@
--- The running thread goes on.
-use Rattle.std.proofs.Common.{ℕ, suc, ◌≡◌, ◌<◌, true, List, ◌∷◌, length, Some, refl, sym, ap, ◌∙◌, subst, arith}
-use Rattle.std.proofs.Math.ListN.{get_or, set}
+-- The running thread: what is seen of it is its row, and it goes on.
+use Rattle.std.proofs.Common.{ℕ, suc, ◌≡◌, ◌<◌, true, List, ◌∷◌, length, map, Some, refl, sym, ap, ◌∙◌, arith, subst}
+use Rattle.std.proofs.Math.ListN.{get_or}
 use Rattle.def_words.specs.declared.Cap.{Cap}
 use Rattle.def_words.specs.declared.Posture.{Posture}
 use Rattle.def_memory.specs.declared.Granule.{Granule}
-use Rattle.def_machine.specs.State.{Thread}
+use Rattle.def_machine.specs.State.{Thread, Frame, register}
 use Rattle.def_machine.specs.Threads.{jumped}
+use Rattle.def_machine.specs.Memory.{filtered_in}
+use Rattle.def_machine.specs.Slices.{is_number}
 use Rattle.def_step.specs.Instructions.{actor_of}
+use Rattle.def_step.specs.Switch.{frame_top}
+use Rattle.def_areas.specs.Touches.{Touches}
+use Rattle.law_areas.proofs.Changes.{unchanged}
+use Rattle.law_moves.proofs.Slices.{is_itself}
 use Rattle.ct_areas.specs.declared.thread.Thread as row
 use Rattle.ct_areas.specs.Threads.{area_begin, area_end, living, thread_of}
-use Rattle.ct_areas.specs.Parts.{inner_frame, outer_frames}
+use Rattle.ct_areas.specs.Parts.{inner_frame, outer_frames, register_in}
 use Rattle.ct_areas.proofs.Places.{alive_is}
 use Rattle.ct_areas.proofs.Rows.{frames_are}
+use Rattle.ct_threads.specs.Kept.{IsKept}
 use Rattle.ct_threads.specs.Rows.{row_gone}
+use Rattle.ct_threads.proofs.Filtering.{row_sifted, sifted_kept}
 use Rattle.ct_threads.proofs.Going.{gone_kept}
 use Rattle.ct_engine.specs.declared.rows.Rows.{Rows}
-use Rattle.ct_engine.specs.Seen.{engine_view, thread, after_jump, seen_of}
-use Rattle.ct_engine.specs.Kept.{AreasFrom, IsEngine}
-use Rattle.ct_engine.proofs.Whole.{thread_is, seen_turn, running_kept, the_runner}
-use Rattle.ct_engine.proofs.Ends.{call_areas, stays_on}
-use Rattle.law_areas.proofs.Changes.{unchanged}
+use Rattle.ct_engine.specs.Seen.{Seen, engine_view, thread, after_jump, after_filter}
+use Rattle.ct_engine.specs.Kept.{IsEngine}
+use Rattle.ct_engine.proofs.Lists.{Lies}
+use Rattle.ct_engine.proofs.Whole.{RowAt, Turn, turned, turn_sees, row_lies, row_thread, the_runner, map_same, filter_seen}
 
--- what is seen of the running thread is its row
-pub running_is : (gs : List Granule) (rows : Rows) (t : ℕ) (r : row.Thread) → IsEngine gs rows → rows.running ≡ Some t → r ≡ get_or rows.list.items t r
-    → thread (engine_view gs rows) t ≡ living gs true r
-running_is gs rows t r holds runs is =
-    thread_is gs rows.list.items rows.standing.items t r true (the_runner holds t runs) is (holds.runs t runs)
-    ∙ alive_is gs true r ((running_kept gs rows t r holds runs is).kept.alive refl)
+-- row r is that of thread t, which runs
+pub record Runner (gs : List Granule) (rows : Rows) (t : ℕ) (r : row.Thread) : Type 0 where
+  pub holds : IsEngine gs rows
+  pub runs : rows.running ≡ Some t
+  pub is : r ≡ get_or rows.list.items t r
 
--- it has an innermost frame, of its row's compartment
-pub running_frames : (gs : List Granule) (rows : Rows) (t : ℕ) (r : row.Thread) → IsEngine gs rows → rows.running ≡ Some t → r ≡ get_or rows.list.items t r
-    → (thread (engine_view gs rows) t).frames ≡ inner_frame gs r ∷ outer_frames gs r
-running_frames gs rows t r holds runs is =
-    let alive : 0 < r.depth = (running_kept gs rows t r holds runs is).kept.alive refl in
-    let row_is : thread (engine_view gs rows) t ≡ thread_of gs true r = thread_is gs rows.list.items rows.standing.items t r true (the_runner holds t runs) is (holds.runs t runs) in
-    ap (λ (u : Thread). u.frames) row_is ∙ frames_are gs true r alive
+pub runner : {gs : List Granule} {rows : Rows} {v : Seen} {t : ℕ} {r : row.Thread} → IsEngine gs rows → engine_view gs rows ≡ v
+    → v.running ≡ Some t → r ≡ get_or rows.list.items t r → Runner gs rows t r
+runner holds view runs is = record { holds = holds; runs = ap (λ (s : Seen). s.running) view ∙ runs; is = is }
 
-pub running_actor : (gs : List Granule) (rows : Rows) (t : ℕ) (r : row.Thread) → IsEngine gs rows → rows.running ≡ Some t → r ≡ get_or rows.list.items t r
-    → actor_of (thread (engine_view gs rows) t).frames ≡ r.actor
-running_actor gs rows t r holds runs is = ap actor_of (running_frames gs rows t r holds runs is)
+-- ---- what is seen of it
 
-pub running_some : (gs : List Granule) (rows : Rows) (t : ℕ) (r : row.Thread) → IsEngine gs rows → rows.running ≡ Some t → r ≡ get_or rows.list.items t r
-    → 0 < length (thread (engine_view gs rows) t).frames
-running_some gs rows t r holds runs is =
-    let many : length (thread (engine_view gs rows) t).frames ≡ suc (length (outer_frames gs r)) = ap length (running_frames gs rows t r holds runs is) in
-    omega (arith, many)
+module _ {gs : List Granule} {rows : Rows} {t : ℕ} {r : row.Thread} (h : Runner gs rows t r) where
+  pub runner_row : RowAt gs rows t r true
+  runner_row = record { holds = h.holds; there = the_runner h.holds t h.runs; is = h.is; on = h.holds.runs t h.runs }
 
-pub jump_areas : (gs : List Granule) (rows : Rows) (t : ℕ) (r q : row.Thread) (pcc : Cap) (posture : Posture) (to : ℕ) (value : Cap) → IsEngine gs rows → rows.running ≡ Some t
-    → r ≡ get_or rows.list.items t r → q ≡ row_gone r pcc posture to value
-    → AreasFrom rows.region.ram gs rows.standing.items 0 rows.region.trusted rows.region.end (set rows.list.items t q)
-jump_areas gs rows t r q pcc posture to value holds runs is gone =
-    subst (λ (u : row.Thread). AreasFrom rows.region.ram gs rows.standing.items 0 rows.region.trusted rows.region.end (set rows.list.items t u)) (sym gone)
-    (call_areas gs gs rows t r (row_gone r pcc posture to value) holds runs is (unchanged gs (area_begin r.area) (area_end r.area)) refl
-    (gone_kept gs r pcc posture to value (running_kept gs rows t r holds runs is).kept))
+  pub running_lies : Lies rows.region.ram gs true rows.region.trusted rows.region.end r
+  running_lies = row_lies runner_row
 
-pub jump_seen : (gs : List Granule) (rows : Rows) (t : ℕ) (r q : row.Thread) (pcc : Cap) (posture : Posture) (to : ℕ) (value : Cap) → IsEngine gs rows → rows.running ≡ Some t
-    → r ≡ get_or rows.list.items t r → q ≡ row_gone r pcc posture to value
-    → seen_of gs rows (set rows.list.items t q) rows.standing.items rows.running ≡ after_jump (engine_view gs rows) t pcc posture to value
-jump_seen gs rows t r q pcc posture to value holds runs is gone =
-    let alive : 0 < r.depth = (running_kept gs rows t r holds runs is).kept.alive refl in
-    let new : thread_of gs true (row_gone r pcc posture to value) ≡ jumped (thread (engine_view gs rows) t) pcc posture to value =
-    alive_is gs true (row_gone r pcc posture to value) alive
-    ∙ ap (λ (u : Thread). jumped u pcc posture to value) (sym (running_is gs rows t r holds runs is)) in
-    subst (λ (u : row.Thread). seen_of gs rows (set rows.list.items t u) rows.standing.items rows.running ≡ after_jump (engine_view gs rows) t pcc posture to value) (sym gone)
-    (seen_turn rows gs gs rows.list.items rows.standing.items rows.standing.items rows.running t r (row_gone r pcc posture to value) (jumped (thread (engine_view gs rows) t) pcc posture to value)
-    holds.areas holds.heap (the_runner holds t runs) is (unchanged gs (area_begin r.area) (area_end r.area)) (stays_on rows.standing.items t) refl
-    (subst (λ b. thread_of gs b (row_gone r pcc posture to value) ≡ jumped (thread (engine_view gs rows) t) pcc posture to value) (sym (holds.runs t runs)) new))
+  pub running_alive : 0 < r.depth
+  running_alive = running_lies.kept.alive refl
+
+  pub running_thread : thread (engine_view gs rows) t ≡ thread_of gs true r
+  running_thread = row_thread runner_row
+
+  pub running_is : thread (engine_view gs rows) t ≡ living gs true r
+  running_is = running_thread ∙ alive_is gs true r running_alive
+
+  pub register_is : (n : ℕ) → register (thread (engine_view gs rows) t) n ≡ register_in r n
+  register_is n = ap (λ (u : Thread). register u n) running_is
+
+  -- it has an innermost frame, of its row's compartment
+  pub running_frames : (thread (engine_view gs rows) t).frames ≡ inner_frame gs r ∷ outer_frames gs r
+  running_frames = ap (λ (u : Thread). u.frames) running_thread ∙ frames_are gs true r running_alive
+
+  pub running_actor : actor_of (thread (engine_view gs rows) t).frames ≡ r.actor
+  running_actor = ap actor_of running_frames
+
+  pub running_top : frame_top (thread (engine_view gs rows) t).frames ≡ r.top
+  running_top = ap (λ (fs : List Frame). frame_top fs) running_frames
+
+  pub running_some : 0 < length (thread (engine_view gs rows) t).frames
+  running_some =
+      let many : length (thread (engine_view gs rows) t).frames ≡ suc (length (outer_frames gs r)) = ap length running_frames in
+      omega (arith, many)
+
+  -- ---- its row changes
+
+  pub running_turn : {hs : List Granule} {q : row.Thread} → Touches (area_begin r.area) (area_end r.area) gs hs → q.area ≡ r.area
+      → IsKept hs true q → Turn gs hs rows rows t r q true true
+  running_turn touches place kept = record {
+    row = runner_row;
+    touches = touches;
+    place = place;
+    kept = kept;
+    on = h.holds.runs t h.runs;
+    runs = ap (λ o. is_number o t) h.runs ∙ is_itself t;
+    size = refl;
+    others = λ u no_. refl;
+    beside = λ u no_. refl;
+  }
+
+  -- beside its area's memory, so that its program counter and registers alone are others
+  own_turn : (q s : row.Thread) → q ≡ s → s.area ≡ r.area → IsKept gs true s → Turn gs gs rows rows t r q true true
+  own_turn q s is place kept =
+      subst (λ (x : row.Thread). Turn gs gs rows rows t r x true true) (sym is)
+      (running_turn (unchanged gs (area_begin r.area) (area_end r.area)) place kept)
+
+  module _ (q : row.Thread) (pcc : Cap) (posture : Posture) (to : ℕ) (value : Cap) (gone : q ≡ row_gone r pcc posture to value) where
+    pub jump_turn : Turn gs gs rows rows t r q true true
+    jump_turn = own_turn q (row_gone r pcc posture to value) gone refl (gone_kept gs r pcc posture to value running_lies.kept)
+
+    pub jump_sees : engine_view gs (turned rows rows t q) ≡ after_jump (engine_view gs rows) t pcc posture to value
+    jump_sees =
+        turn_sees jump_turn (jumped (thread (engine_view gs rows) t) pcc posture to value)
+        (ap (λ (x : row.Thread). thread_of gs true x) gone
+        ∙ alive_is gs true (row_gone r pcc posture to value) running_alive
+        ∙ ap (λ (u : Thread). jumped u pcc posture to value) (sym running_is))
+
+  -- its registers pass the load filter
+  module _ (q : row.Thread) (passed : q ≡ row_sifted gs r) where
+    pub filter_turn : Turn gs gs rows rows t r q true true
+    filter_turn = own_turn q (row_sifted gs r) passed refl (sifted_kept gs r running_lies.kept)
+
+    pub filter_sees : engine_view gs (turned rows rows t q) ≡ after_filter (engine_view gs rows) t
+    filter_sees =
+        let keep : Cap → Cap = filtered_in rows.region.ram (engine_view gs rows).granules in
+        let with_all : Thread → List Cap → Thread = λ u cs. record u { registers = cs } in
+        turn_sees filter_turn _
+        (ap (λ (x : row.Thread). thread_of gs true x) passed
+        ∙ alive_is gs true (row_sifted gs r) running_alive
+        ∙ ap (λ cs. with_all (living gs true r) cs) (map_same (filtered_in r.area.ram gs) keep (filter_seen runner_row) r.regs)
+        ∙ ap (λ (u : Thread). with_all u (map keep u.registers)) (sym running_is))

@@ -1,17 +1,16 @@
 -- An allocation, over all that is seen: objects and memory, and the answer, which is the written one.
 use Rattle.std.proofs.Common.{ℕ, ◌⊎◌, Result, Ok, Err, MatchResult, OnErr, Option, ◌/◌, ◌≡◌, ◌+◌, ◌-◌, ◌*◌, ◌≤◌, ◌<◌, ◌==◌, ◌||◌, inl, inr, Bool, true, false, cond, nat_lt, List, Some, None, refl, sym, ap, ◌∙◌, subst, arith}
+use Rattle.std.proofs.lemmas.Bool.{lt-ltb, le-ltb}
 use Rattle.law_lists.proofs.Tests.{bool_tells, lt_tells, eq_tells}
 use Rattle.def_memory.specs.declared.Granule.{Granule}
 use Rattle.def_machine.specs.Image.{Image, root}
 use Rattle.def_machine.specs.State as state
 use Rattle.def_machine.specs.State.{State}
-use Rattle.def_machine.specs.Objects.{live_object, charges, placed_among, has_quarantined}
-use Rattle.def_machine.specs.Heap as heap
+use Rattle.def_machine.specs.Objects.{charges, placed_among, has_quarantined}
 use Rattle.def_machine.specs.Heap.{length_for, charge_for, Fits, IsPlaceFor, place_of}
 use Rattle.def_hidden.specs.Hidden.{is_live_at}
 use Rattle.def_step.specs.Quotas.{Allocation, Refused, Made, at_place, allocation}
 use Rattle.def_hidden.specs.Hiding.{with_hidden}
-use Rattle.def_chunks.specs.declared.rows.Range.{Range}
 use Rattle.def_chunks.specs.Heaps.{HeapRow, objects_of, account, Laid, IsHeapOf}
 use Rattle.law_routines.proofs.Places.{place_found, place_none}
 use Rattle.law_routines.proofs.Leaving.{option_tells}
@@ -38,9 +37,7 @@ use Rattle.ct_engine.proofs.HeapTurns.{with_heap, limit_of, HeapTurns, turned_ho
 -- a heap that lies where it lay hides by its objects
 pub hides_by : (h n : HeapRow) (hs : List Granule) (new : List state.Object) (k : ℕ) → Same h n → objects_of n hs ≡ new
     → heap_hides n hs k ≡ hides_heap h.range.ram h.range.base (h.range.base + h.range.length) new k
-hides_by h n hs new k same is =
-    ap (λ (q : Range). hides_heap q.ram q.base (q.base + q.length) (objects_of n hs) k) same.range
-    ∙ ap (λ os. hides_heap h.range.ram h.range.base (h.range.base + h.range.length) os k) is
+hides_by h n hs new k same is = rw (is, same.range) refl
 
 -- where more is live, less is hidden
 less_hidden : (ram base end : ℕ) (old new : List state.Object) (k : ℕ) → (is_live_at old (ram + 8 * k) ≡ true → is_live_at new (ram + 8 * k) ≡ true) → hides_heap ram base end new k ≡ true → hides_heap ram base end old k ≡ true
@@ -56,56 +53,51 @@ less_hidden ram base end old new k stays hid = elim (bool_tells (hides_heap ram 
 
 -- ---- what is seen
 
-pub seen_as : (s : Seen) (gs gs' : List Granule) (os os' : List state.Object) (n n' : ℕ) → gs ≡ gs' → os ≡ os' → n ≡ n'
-    → (let x : Seen = record s { granules = gs; objects = os; next = n } in x) ≡ record s { granules = gs'; objects = os'; next = n' }
-seen_as s gs gs' os os' n n' p q r = rw (p, q, r) refl
-
 pub hide_by : (h n : HeapRow) (hs : List Granule) (new : List state.Object) → Same h n → objects_of n hs ≡ new
     → with_hidden (heap_hides n hs) hs ≡ with_hidden (λ k. hides_heap h.range.ram h.range.base (h.range.base + h.range.length) new k) hs
-hide_by h n hs new same is =
-    ap (λ (q : Range). with_hidden (λ k. hides_heap q.ram q.base (q.base + q.length) (objects_of n hs) k) hs) same.range
-    ∙ ap (λ os. with_hidden (λ k. hides_heap h.range.ram h.range.base (h.range.base + h.range.length) os k) hs) is
+hide_by h n hs new same is = rw (is, same.range) refl
 
--- an allocation's object appears
-allocated_appears : (h n : HeapRow) (gs hs : List Granule) (quota size number base long live : ℕ) → Allocates h n gs hs quota size number base long live
-    → Appears h.range.ram h.range.base (h.range.base + h.range.length) (objects_of h gs) (placed_among (made h quota size base) (objects_of h gs)) gs hs base (base + length_for size)
-allocated_appears h n gs hs quota size number base long live a = record {
-  size = a.stays.size;
-  marks = a.stays.marks;
-  rest = a.stays.rest;
-  stays = λ x is. among_live (made h quota size base) (objects_of h gs) x is;
-  comes = λ x is. elim (placed_live (made h quota size base) (objects_of h gs) x is) [ inl new ↦ inl (covers_tells (made h quota size base) x new) | inr old ↦ inr old ];
-  zero = a.zero;
-}
+module _ {h n : HeapRow} {gs hs : List Granule} {quota size number base long live : ℕ} (a : Allocates h n gs hs quota size number base long live) where
+  abbrev more : List state.Object
+  more = placed_among (made h quota size base) (objects_of h gs)
 
--- outside the heap everything stays
-allocated_turns : (gs hs : List Granule) (rows : Rows) (n : HeapRow) (quota size number base long live : ℕ) → Allocates rows.heap n gs hs quota size number base long live → HeapTurns gs hs rows n
-allocated_turns gs hs rows n quota size number base long live a = record {
-  size = a.stays.size;
-  below = λ k under. ap (λ (g : Granule). g.cap) (a.stays.rest k (inl under));
-  same = a.same;
-}
+  -- an allocation's object appears
+  allocated_appears : Appears h.range.ram h.range.base (h.range.base + h.range.length) (objects_of h gs) more gs hs base (base + length_for size)
+  allocated_appears = record {
+    size = a.stays.size;
+    marks = a.stays.marks;
+    rest = a.stays.rest;
+    stays = λ x is. among_live (made h quota size base) (objects_of h gs) x is;
+    comes = λ x is. elim (placed_live (made h quota size base) (objects_of h gs) x is) [
+      | inl new ↦ inl (covers_tells (made h quota size base) x new)
+      | inr old ↦ inr old
+    ];
+    zero = a.zero;
+  }
 
-pub allocated_seen : (gs hs : List Granule) (rows : Rows) (n : HeapRow) (quota size number base long live : ℕ) → IsEngine gs rows → Allocates rows.heap n gs hs quota size number base long live
-    → engine_view hs (with_heap rows n rows.front) ≡ with_object (engine_view gs rows) (new_object (engine_view gs rows) quota size base)
-allocated_seen gs hs rows n quota size number base long live holds a =
-    let h : HeapRow = rows.heap in
-    let region : ℕ → Bool = region_hides rows.region in
-    let new : List state.Object = placed_among (made h quota size base) (objects_of h gs) in
-    let memory : with_hidden region (with_hidden (heap_hides n hs) hs) ≡ (engine_view gs rows).granules =
-    ap (λ xs. with_hidden region xs) (hide_by h n hs new a.same a.objects
-    ∙ object_appears h.range.ram h.range.base (h.range.base + h.range.length) (objects_of h gs) new gs hs base (base + length_for size) (allocated_appears h n gs hs quota size number base long live a))
-    ∙ sym (seen_both gs rows holds) in
-    turned_seen gs hs rows n rows.front holds (allocated_turns gs hs rows n quota size number base long live a)
-    ∙ seen_as (engine_view gs rows) _ _ _ _ _ _ memory a.objects a.next
+  -- it keeps clear what it hides
+  allocated_clear : IsClear h gs → IsClear n hs
+  allocated_clear clear =
+      clear_tags h n gs hs clear a.stays.tags
+      (λ k hid. less_hidden h.range.ram h.range.base (h.range.base + h.range.length) (objects_of h gs) more k
+      (λ is. among_live (made h quota size base) (objects_of h gs) (h.range.ram + 8 * k) is) (sym (hides_by h n hs more k a.same a.objects) ∙ hid))
 
--- an allocation keeps clear what it hides
-allocated_clear : (h n : HeapRow) (gs hs : List Granule) (quota size number base long live : ℕ) → Allocates h n gs hs quota size number base long live → IsClear h gs → IsClear n hs
-allocated_clear h n gs hs quota size number base long live a clear =
-    clear_tags h n gs hs clear a.stays.tags
-    (λ k hid. less_hidden h.range.ram h.range.base (h.range.base + h.range.length) (objects_of h gs) (placed_among (made h quota size base) (objects_of h gs)) k
-    (λ is. among_live (made h quota size base) (objects_of h gs) (h.range.ram + 8 * k) is)
-    (sym (hides_by h n hs (placed_among (made h quota size base) (objects_of h gs)) k a.same a.objects) ∙ hid))
+module _ {gs hs : List Granule} {rows : Rows} {n : HeapRow} {quota size number base long live : ℕ} (holds : IsEngine gs rows)
+    (a : Allocates rows.heap n gs hs quota size number base long live) where
+  -- outside the heap everything stays
+  pub allocated_turns : HeapTurns gs hs rows n
+  allocated_turns = record { size = a.stays.size; below = λ k under. ap (λ (g : Granule). g.cap) (a.stays.rest k (inl under)); same = a.same }
+
+  pub allocated_seen : engine_view hs (with_heap rows n rows.front) ≡ with_object (engine_view gs rows) (new_object (engine_view gs rows) quota size base)
+  allocated_seen =
+      let h : HeapRow = rows.heap in
+      let region : ℕ → Bool = region_hides rows.region in
+      let new : List state.Object = placed_among (made h quota size base) (objects_of h gs) in
+      let memory : with_hidden region (with_hidden (heap_hides n hs) hs) ≡ (engine_view gs rows).granules =
+      ap (λ xs. with_hidden region xs) (hide_by h n hs new a.same a.objects
+      ∙ object_appears h.range.ram h.range.base (h.range.base + h.range.length) (objects_of h gs) new gs hs base (base + length_for size)
+      (allocated_appears a)) ∙ sym (seen_both gs rows holds) in
+      turned_seen gs hs rows n rows.front holds allocated_turns ∙ rw (memory, a.objects, a.next) refl
 
 -- ---- the place
 
@@ -152,26 +144,21 @@ no_place_is i os long some none = elim (option_tells (place_of i os long)) [
 -- the size is neither zero nor above the heap's length
 sized : (base long size : ℕ) → 0 < size → size ≤ long → ((size == 0) || nat_lt (base + long - base) size) ≡ false
 sized base long size some most =
-    let nonzero : (size == 0) ≡ false = elim (eq_tells size 0) [ inl a ↦ absurd (let z = a.1 in omega (arith, z, some)) | inr a ↦ a.0 ] in
-    let inside : nat_lt (base + long - base) size ≡ false = elim (lt_tells (base + long - base) size) [ inl a ↦ absurd (let over = a.1 in omega (arith, over, most)) | inr a ↦ a.0 ] in
-    ap (λ b. b || nat_lt (base + long - base) size) nonzero ∙ inside
+    let inside : nat_lt (base + long - base) size ≡ false = le-ltb (base + long - base) size (omega (arith, most)) in
+    elim (eq_tells size 0) [ inl a ↦ absurd (let z = a.1 in omega (arith, z, some)) | inr a ↦ rw (a.0, inside) refl ]
 
 unsized : (base long size : ℕ) → (size ≡ 0) ⊎ (long < size) → ((size == 0) || nat_lt (base + long - base) size) ≡ true
-unsized base long size (inl zero_) = ap (λ b. b || nat_lt (base + long - base) size) (elim (eq_tells size 0) [ inl a ↦ a.0 | inr a ↦ absurd (a.1 zero_) ])
+unsized base long size (inl zero_) = elim (eq_tells size 0) [ inl a ↦ rw a.0 refl | inr a ↦ absurd (a.1 zero_) ]
 unsized base long size (inr over) =
-    let past : nat_lt (base + long - base) size ≡ true = elim (lt_tells (base + long - base) size) [ inl a ↦ a.0 | inr a ↦ absurd (let le = a.1 in omega (arith, over, le)) ] in
-    or_last (size == 0) (nat_lt (base + long - base) size) past
-  where
-    or_last : (a b : Bool) → b ≡ true → (a || b) ≡ true
-    or_last true b k = refl
-    or_last false b k = k
+    let past : nat_lt (base + long - base) size ≡ true = lt-ltb (base + long - base) size (omega (arith, over)) in
+    elim (eq_tells size 0) [ inl a ↦ rw a.0 refl | inr a ↦ rw (a.0, past) refl ]
 
 -- the quota's limit is passed, or not
 within_limit : (limit own taken : ℕ) → limit ≡ own → taken ≤ own → nat_lt limit taken ≡ false
-within_limit limit own taken same le = elim (lt_tells limit taken) [ inl a ↦ absurd (let lt = a.1 in omega (arith, lt, le, same)) | inr a ↦ a.0 ]
+within_limit limit own taken same le = le-ltb limit taken (omega (arith, le, same))
 
 over_limit : (limit own taken : ℕ) → limit ≡ own → own < taken → nat_lt limit taken ≡ true
-over_limit limit own taken same over = elim (lt_tells limit taken) [ inl a ↦ a.0 | inr a ↦ absurd (let le = a.1 in omega (arith, over, le, same)) ]
+over_limit limit own taken same over = lt-ltb limit taken (omega (arith, over, same))
 
 -- the tests, one after another
 after_tests : (size_ limit_ : Bool) (last : Allocation) → size_ ≡ false → limit_ ≡ false → cond size_ (Refused 4) (cond limit_ (Refused 2) last) ≡ last
@@ -179,9 +166,6 @@ after_tests size_ limit_ last a b = rw (a, b) refl
 
 second_test : (size_ limit_ : Bool) (last : Allocation) → size_ ≡ false → limit_ ≡ true → cond size_ (Refused 4) (cond limit_ (Refused 2) last) ≡ Refused 2
 second_test size_ limit_ last a b = rw (a, b) refl
-
-first_test : (size_ limit_ : Bool) (last : Allocation) → size_ ≡ true → cond size_ (Refused 4) (cond limit_ (Refused 2) last) ≡ Refused 4
-first_test size_ limit_ last a = rw a refl
 
 module _ (gs : List Granule) (rows : Rows) (quota size : ℕ) where
   abbrev shown : Seen
@@ -210,7 +194,7 @@ module _ (gs : List Granule) (rows : Rows) (quota size : ℕ) where
       ∙ ap (at_place_in shown quota size) (place_is (heap_alone shown) shown.objects (length_for size) base (long_enough size a.some) at)
 
   answer_refused : (why : HeapRefusal) → RefusesSize rows.heap gs quota size why → allocation_in shown quota size ≡ refused_as shown why
-  answer_refused Size r = first_test over_size past_limit at_last (unsized rows.heap.range.base rows.heap.range.length size r)
+  answer_refused Size r = rw (unsized rows.heap.range.base rows.heap.range.length size r) refl
   answer_refused Quota r =
       second_test over_size past_limit at_last (sized rows.heap.range.base rows.heap.range.length size r.0 r.1)
       (over_limit (limit_at shown quota) (account rows.heap quota).limit (charges quota shown.objects + charge_for size) (limit_of rows.heap.accounts quota) r.2)
@@ -224,30 +208,20 @@ module _ (gs : List Granule) (rows : Rows) (quota size : ℕ) where
 
 -- ---- the written allocation
 
-made_as : (m : State) (s : Seen) (quota size base : ℕ) → SharesObjects m s → new_object s quota size base ≡ heap.new_object m quota size base
-made_as m s quota size base shares = ap (λ n. live_object n quota base (length_for size)) (sym shares.next)
-
 placed_as : (m : State) (s : Seen) (quota size : ℕ) (place : Option ℕ) → SharesObjects m s → at_place_in s quota size place ≡ at_place m quota size place
-placed_as m s quota size None shares = ap (λ rs. Refused (cond (has_quarantined rs) 5 3)) (sym shares.objects)
-placed_as m s quota size (Some base) shares = ap (λ r. Made r) (made_as m s quota size base shares)
+placed_as m s quota size None shares = rw shares.objects refl
+placed_as m s quota size (Some base) shares = rw shares.next refl
 
 pub allocation_same : (i : Image) (m : State) (s : Seen) (quota size : ℕ) → HasHeap i s → SharesObjects m s → allocation_in s quota size ≡ allocation i m quota size
 allocation_same i m s quota size has shares =
-    let long : ℕ = length_for size in
-    let whole : ℕ → ℕ → ℕ → List state.Object → Allocation → Allocation =
-    λ base end limit os last. cond ((size == 0) || nat_lt (end - base) size) (Refused 4) (cond (nat_lt limit (charges quota os + charge_for size)) (Refused 2) last) in
     let at : ℕ → ℕ → Image = λ base end. record (heap_alone s) { heap_base = base; heap_end = end } in
-    let place : place_of (heap_alone s) s.objects long ≡ place_of i m.objects long =
-    ap (λ base. place_of (at base s.heap_end) s.objects long) (sym has.base)
-    ∙ ap (λ end. place_of (at i.heap_base end) s.objects long) (sym has.end)
-    ∙ ap (λ os. place_of i os long) (sym shares.objects) in
-    let last : at_place_in s quota size (place_of (heap_alone s) s.objects long) ≡ at_place m quota size (place_of i m.objects long) =
-    ap (at_place_in s quota size) place ∙ placed_as m s quota size (place_of i m.objects long) shares in
-    ap (λ base. whole base s.heap_end (limit_at s quota) s.objects (at_place_in s quota size (place_of (heap_alone s) s.objects long))) (sym has.base)
-    ∙ ap (λ end. whole i.heap_base end (limit_at s quota) s.objects (at_place_in s quota size (place_of (heap_alone s) s.objects long))) (sym has.end)
-    ∙ ap (λ limit. whole i.heap_base i.heap_end limit s.objects (at_place_in s quota size (place_of (heap_alone s) s.objects long))) (sym (has.limits quota))
-    ∙ ap (λ os. whole i.heap_base i.heap_end (root i quota).limit os (at_place_in s quota size (place_of (heap_alone s) s.objects long))) (sym shares.objects)
-    ∙ ap (λ a. whole i.heap_base i.heap_end (root i quota).limit m.objects a) last
+    let place : place_of (heap_alone s) s.objects (length_for size) ≡ place_of i m.objects (length_for size) =
+    ap (λ base. place_of (at base s.heap_end) s.objects (length_for size)) (sym has.base)
+    ∙ ap (λ end. place_of (at i.heap_base end) s.objects (length_for size)) (sym has.end)
+    ∙ ap (λ os. place_of i os (length_for size)) (sym shares.objects) in
+    let last : at_place_in s quota size (place_of (heap_alone s) s.objects (length_for size)) ≡ at_place m quota size (place_of i m.objects (length_for size)) =
+    ap (at_place_in s quota size) place ∙ placed_as m s quota size (place_of i m.objects (length_for size)) shares in
+    rw (last, has.base, has.end, has.limits quota, shares.objects) refl
 
 -- ---- the call
 
@@ -262,16 +236,14 @@ NothingNew h n gs hs result = OnErr result ((n ≡ h) × (hs ≡ gs))
 pub holds_after : (gs hs : List Granule) (rows : Rows) (n : HeapRow) (quota size : ℕ) (result : Result told.Object HeapRefusal) → IsEngine gs rows → Laid n hs
     → Answers rows.heap n gs hs quota size result → NothingNew rows.heap n gs hs result → IsEngine hs (with_heap rows n rows.front)
 holds_after gs hs rows n quota size (Ok o) holds laid a same =
-    turned_holds gs hs rows n rows.front holds (allocated_turns gs hs rows n quota size o.number o.base o.length o.live a) laid
-    (allocated_clear rows.heap n gs hs quota size o.number o.base o.length o.live a holds.heap.clear) holds.heap.within
+    turned_holds gs hs rows n rows.front holds (allocated_turns holds a) laid (allocated_clear a holds.heap.clear) holds.heap.within
 holds_after gs hs rows n quota size (Err why) holds laid a same =
     subst (λ x. IsEngine hs (with_heap rows x rows.front)) (sym same.0) (subst (λ x. IsEngine x rows) (sym same.1) holds)
 
 pub seen_after : (gs hs : List Granule) (rows : Rows) (n : HeapRow) (s : Seen) (quota size : ℕ) (result : Result told.Object HeapRefusal) → engine_view gs rows ≡ s → IsEngine gs rows
     → Answers rows.heap n gs hs quota size result → NothingNew rows.heap n gs hs result → engine_view hs (with_heap rows n rows.front) ≡ after_allocation s quota size result
 seen_after gs hs rows n s quota size (Ok o) is holds a same =
-    allocated_seen gs hs rows n quota size o.number o.base o.length o.live holds a
-    ∙ ap (λ x. with_object x (new_object x quota size o.base)) is
+    allocated_seen holds a ∙ ap (λ x. with_object x (new_object x quota size o.base)) is
 seen_after gs hs rows n s quota size (Err why) is holds a same = ap (λ x. engine_view hs (with_heap rows x rows.front)) same.0 ∙ ap (λ x. engine_view x rows) same.1 ∙ is
 
 pub answer_after : (gs hs : List Granule) (rows : Rows) (n : HeapRow) (s : Seen) (quota size : ℕ) (result : Result told.Object HeapRefusal) → engine_view gs rows ≡ s → Answers rows.heap n gs hs quota size result
@@ -294,5 +266,4 @@ quarantined_seen gs rows s result is holds told = told gs holds.heap.laid ∙ ap
 
 -- of a state that holds what is seen
 pub remains_shown : (i : Image) (m : State) (s : Seen) (quota : ℕ) → HasHeap i s → SharesObjects m s → (root i quota).limit - charges quota m.objects ≡ limit_at s quota - charges quota s.objects
-remains_shown i m s quota has shares =
-    ap (λ n. n - charges quota m.objects) (has.limits quota) ∙ ap (λ rs. limit_at s quota - charges quota rs) shares.objects
+remains_shown i m s quota has shares = rw (has.limits quota, shares.objects) refl

@@ -1,9 +1,9 @@
 -- A change of the heap, and of memory from the heap's base on: what is kept, and what is seen.
-use Rattle.std.proofs.Common.{ℕ, zero, suc, ◌≡◌, ◌+◌, ◌*◌, ◌/◌, ◌<◌, ◌≤◌, List, [], ◌∷◌, length, map, Option, unwrap_or, refl, sym, ap, ◌∙◌, subst, arith}
-use Rattle.std.proofs.Math.ListN.{get_or}
+use Rattle.std.proofs.Common.{ℕ, ◌≡◌, ◌+◌, ◌*◌, ◌/◌, ◌<◌, ◌≤◌, List, length, map, Option, unwrap_or, refl, sym, ap, ◌∙◌, subst, arith}
+use Rattle.std.proofs.lemmas.List.{ext_get_or, length-map}
+use Rattle.std.proofs.Math.ListN.{get_or, get_or-map}
 use Rattle.def_memory.specs.declared.Granule.{Granule}
 use Rattle.def_memory.specs.Granules.{cap_in}
-use Rattle.def_machine.specs.State.{Thread}
 use Rattle.def_machine.specs.Objects.{Each}
 use Rattle.def_hidden.specs.Hiding.{with_hidden}
 use Rattle.def_chunks.specs.declared.rows.Range.{Range}
@@ -13,9 +13,9 @@ use Rattle.def_chunks.specs.Hides.{hides_heap, heap_hides}
 use Rattle.ct_heap.specs.Effects.{Same}
 use Rattle.ct_areas.specs.declared.thread.Thread as row
 use Rattle.ct_engine.specs.declared.rows.Rows.{Rows}
-use Rattle.ct_engine.specs.Seen.{Seen, region_hides, hides_over, limits_in, engine_view}
-use Rattle.ct_engine.specs.Kept.{IsClear, StackLies, IsEngine}
-use Rattle.ct_engine.proofs.Lists.{areas_same, threads_same}
+use Rattle.ct_engine.specs.Seen.{Seen, region_hides, hides_over, limits_in, threads_of, engine_view}
+use Rattle.ct_engine.specs.Kept.{AreasFrom, IsClear, StackLies, IsEngine}
+use Rattle.ct_engine.proofs.Lists.{rows_same}
 use Rattle.ct_engine.proofs.HiddenTwice.{with_hidden_both}
 
 -- these rows, with this heap and this front
@@ -25,25 +25,17 @@ with_heap rows n front = record rows { heap = n; front = front }
 -- ---- limits
 
 pub limit_of : (accounts : List Account) (q : ℕ) → get_or (limits_in accounts) q 0 ≡ (get_or accounts q no_account).limit
-limit_of [] q = refl
-limit_of (a ∷ rest) zero = refl
-limit_of (a ∷ rest) (suc q) = limit_of rest q
+limit_of accounts q = get_or-map (λ (a : Account). a.limit) accounts q no_account
+
+limits_length : (accounts : List Account) → length (limits_in accounts) ≡ length accounts
+limits_length accounts = length-map accounts (λ (a : Account). a.limit)
 
 limits_same : (a b : List Account) → length b ≡ length a → ((q : ℕ) → (get_or b q no_account).limit ≡ (get_or a q no_account).limit) → limits_in b ≡ limits_in a
-limits_same [] [] size same = refl
-limits_same [] (y ∷ ys) size same = absurd (omega (arith, size))
-limits_same (x ∷ xs) [] size same = absurd (omega (arith, size))
-limits_same (x ∷ xs) (y ∷ ys) size same =
-    let first : y.limit ≡ x.limit = same zero in
-    let rest = limits_same xs ys (omega (arith, size)) (λ q. same (suc q)) in
-    ap (λ n. n ∷ limits_in ys) first ∙ ap (λ ls. x.limit ∷ ls) rest
+limits_same a b size same =
+    ext_get_or 0 (limits_in b) (limits_in a) (limits_length b ∙ size ∙ sym (limits_length a)) (λ q lt. limit_of b q ∙ same q ∙ sym (limit_of a q))
 
 pub limits_stay : (h n : HeapRow) → Same h n → limits_in n.accounts ≡ limits_in h.accounts
 limits_stay h n same = limits_same h.accounts n.accounts same.quotas same.limits
-
-limits_length : (accounts : List Account) → length (limits_in accounts) ≡ length accounts
-limits_length [] = refl
-limits_length (a ∷ rest) = ap (λ n. suc n) (limits_length rest)
 
 -- a quota is one of the accounts
 pub quota_there : (gs : List Granule) (rows : Rows) (s : Seen) (quota : ℕ) → engine_view gs rows ≡ s → quota < length s.limits → quota < length rows.heap.accounts
@@ -59,12 +51,14 @@ pub record HeapTurns (gs hs : List Granule) (rows : Rows) (n : HeapRow) : Type 0
   pub below : (k : ℕ) → rows.heap.range.ram + 8 * k < rows.heap.range.base → cap_in hs k ≡ cap_in gs k
   pub same : Same rows.heap n
 
-region_same : (gs hs : List Granule) (rows : Rows) (n : HeapRow) → IsEngine gs rows → HeapTurns gs hs rows n
-    → (m : ℕ) → rows.region.trusted ≤ rows.region.ram + 8 * m → rows.region.ram + 8 * m < rows.region.end → cap_in hs m ≡ cap_in gs m
-region_same gs hs rows n holds t m lo hi =
+rows_stay : (gs hs : List Granule) (rows : Rows) (n : HeapRow) → IsEngine gs rows → HeapTurns gs hs rows n
+    → AreasFrom rows.region.ram hs rows.standing.items 0 rows.region.trusted rows.region.end rows.list.items
+    × (threads_of hs rows.standing.items 0 rows.list.items ≡ threads_of gs rows.standing.items 0 rows.list.items)
+rows_stay gs hs rows n holds t =
     let ram = holds.heap.ram in
     let past = holds.heap.past in
-    t.below m (omega (arith, hi, ram, past))
+    rows_same rows.region.ram gs hs rows.standing.items rows.standing.items 0 rows.region.trusted rows.region.end rows.list.items
+    holds.areas t.size (λ m lo hi. t.below m (omega (arith, hi, ram, past))) (λ u lo. refl)
 
 pub turned_holds : (gs hs : List Granule) (rows : Rows) (n : HeapRow) (front : Option ℕ) → IsEngine gs rows → HeapTurns gs hs rows n → Laid n hs → IsClear n hs
     → unwrap_or front 0 ≤ 8 * length gs → IsEngine hs (with_heap rows n front)
@@ -73,8 +67,7 @@ turned_holds gs hs rows n front holds t laid clear within =
     let ram : n.range.ram ≡ rows.heap.range.ram = ap (λ (r : Range). r.ram) t.same.range in
     let past = holds.heap.past in
     record {
-      areas = areas_same rows.region.ram gs hs rows.standing.items rows.standing.items 0 rows.region.trusted rows.region.end rows.list.items holds.areas t.size
-          (region_same gs hs rows n holds t) (λ u lo. refl);
+      areas = (rows_stay gs hs rows n holds t).0;
       runs = holds.runs;
       sizes = holds.sizes;
       alone = holds.alone;
@@ -90,12 +83,6 @@ turned_holds gs hs rows n front holds t laid clear within =
       room = holds.room ∙ ap (λ (r : Range). r.length / 16) (sym t.same.range);
     }
 
-seen_as : (s : Seen) (gs gs' : List Granule) (ts ts' : List Thread) (b b' l l' : ℕ) (limits limits' : List ℕ)
-    → gs ≡ gs' → ts ≡ ts' → b ≡ b' → l ≡ l' → limits ≡ limits'
-    → (let x : Seen = record s { granules = gs; threads = ts; heap_base = b; heap_end = l; limits = limits } in x)
-    ≡ record s { granules = gs'; threads = ts'; heap_base = b'; heap_end = l'; limits = limits' }
-seen_as s gs gs' ts ts' b b' l l' limits limits' p q t u v = rw (p, q, t, u, v) refl
-
 hide_over : (rows : Rows) (n : HeapRow) (hs : List Granule) → n.range.ram ≡ rows.region.ram
     → with_hidden (hides_over rows.region n.range (objects_of n hs)) hs ≡ with_hidden (region_hides rows.region) (with_hidden (heap_hides n hs) hs)
 hide_over rows n hs ram =
@@ -106,11 +93,11 @@ pub turned_seen : (gs hs : List Granule) (rows : Rows) (n : HeapRow) (front : Op
     → engine_view hs (with_heap rows n front)
     ≡ record (engine_view gs rows) { granules = with_hidden (region_hides rows.region) (with_hidden (heap_hides n hs) hs); objects = objects_of n hs; next = n.next; front = front }
 turned_seen gs hs rows n front holds t =
-    let put : Seen = record (engine_view gs rows) { objects = objects_of n hs; next = n.next; front = front } in
-    seen_as put _ _ _ _ _ _ _ _ _ _
-    (hide_over rows n hs (ap (λ (r : Range). r.ram) t.same.range ∙ holds.heap.ram))
-    (threads_same rows.region.ram gs hs rows.standing.items rows.standing.items 0 rows.region.trusted rows.region.end rows.list.items holds.areas
-    (region_same gs hs rows n holds t) (λ u lo. refl))
-    (ap (λ (r : Range). r.base) t.same.range)
-    (ap (λ (r : Range). r.base + r.length) t.same.range)
-    (limits_stay rows.heap n t.same)
+    let threads = (rows_stay gs hs rows n holds t).1 in
+    rw (
+      hide_over rows n hs (ap (λ (r : Range). r.ram) t.same.range ∙ holds.heap.ram),
+      threads,
+      limits_stay rows.heap n t.same,
+      ap (λ (r : Range). r.base) t.same.range,
+      ap (λ (r : Range). r.length) t.same.range,
+    ) refl

@@ -117,36 +117,32 @@ pub record Moving (gs hs : List Granule) (rows : Rows) (v : Seen) (i : Instr) (x
   pub moved : IsMoved i x y (space_of rows.region.ram gs k time) hs after r
   pub size : length hs ≡ length gs
 
-meets_here : (gs hs : List Granule) (rows : Rows) (v : Seen) (i : Instr) (x y : Cap) (k after : DeviceStates) (time : ℕ) (r : Result MovedRow Trap) → Moving gs hs rows v i x y k after time r
-    → SeesAccess (hidden gs rows) rows.region.ram i x y
-meets_here gs hs rows v i x y k after time r m = subst (λ (s : Seen). SeesAccess (hides s) s.region.ram i x y) (sym m.is) m.meets
+module _ {gs hs : List Granule} {rows : Rows} {v : Seen} {i : Instr} {x y : Cap} {k after : DeviceStates} {time : ℕ} {r : Result MovedRow Trap}
+    (m : Moving gs hs rows v i x y k after time r) where
+  meets_here : SeesAccess (hidden gs rows) rows.region.ram i x y
+  meets_here = subst (λ (s : Seen). SeesAccess (hides s) s.region.ram i x y) (sym m.is) m.meets
 
-move_stays : (gs hs : List Granule) (rows : Rows) (v : Seen) (i : Instr) (x y : Cap) (k after : DeviceStates) (time : ℕ) (r : Result MovedRow Trap) → Moving gs hs rows v i x y k after time r
-    → HiddenStays gs hs rows
-move_stays gs hs rows v i x y k after time r m =
-    moved_stays (hidden gs rows) i x y (space_of rows.region.ram gs k time) hs after r (meets_here gs hs rows v i x y k after time r m) m.moved
+  move_stays : HiddenStays gs hs rows
+  move_stays = moved_stays (hidden gs rows) i x y (space_of rows.region.ram gs k time) hs after r meets_here m.moved
 
-pub move_holds : (gs hs : List Granule) (rows : Rows) (v : Seen) (i : Instr) (x y : Cap) (k after : DeviceStates) (time : ℕ) (r : Result MovedRow Trap) → Moving gs hs rows v i x y k after time r
-    → IsEngine hs rows
-move_holds gs hs rows v i x y k after time r m = away_holds gs hs rows m.holds m.size (move_stays gs hs rows v i x y k after time r m)
+  whole_is : engine_view hs rows ≡ with_granules (engine_view gs rows) (with_hidden (hidden gs rows) hs)
+  whole_is = away_seen gs hs rows m.holds m.size move_stays
 
--- nothing but granules changes
-pub move_kept : (gs hs : List Granule) (rows : Rows) (v : Seen) (i : Instr) (x y : Cap) (k after : DeviceStates) (time : ℕ) (r : Result MovedRow Trap) → Moving gs hs rows v i x y k after time r
-    → engine_view hs rows ≡ with_granules v (engine_view hs rows).granules
-move_kept gs hs rows v i x y k after time r m =
-    let whole = away_seen gs hs rows m.holds m.size (move_stays gs hs rows v i x y k after time r m) in
-    whole
-    ∙ ap (λ (xs : List Granule). with_granules (engine_view gs rows) xs) (sym (ap (λ (s : Seen). s.granules) whole))
-    ∙ ap (λ (s : Seen). with_granules s (engine_view hs rows).granules) m.is
+  pub move_holds : IsEngine hs rows
+  move_holds = away_holds gs hs rows m.holds m.size move_stays
 
-pub move_size : (gs hs : List Granule) (rows : Rows) (v : Seen) → engine_view gs rows ≡ v → length hs ≡ length gs → length (engine_view hs rows).granules ≡ length v.granules
-move_size gs hs rows v is size = with_hidden_length (hidden hs rows) hs ∙ size ∙ sym (size_is gs rows v is)
+  -- nothing but granules changes
+  pub move_kept : engine_view hs rows ≡ with_granules v (engine_view hs rows).granules
+  move_kept =
+      whole_is ∙ ap (λ (xs : List Granule). with_granules (engine_view gs rows) xs) (sym (ap (λ (s : Seen). s.granules) whole_is))
+      ∙ ap (λ (s : Seen). with_granules s (engine_view hs rows).granules) m.is
 
--- it comes to what the written access comes to over the seen granules
-pub move_is : (gs hs : List Granule) (rows : Rows) (v : Seen) (i : Instr) (x y : Cap) (k after : DeviceStates) (time : ℕ) (r : Result MovedRow Trap) → Moving gs hs rows v i x y k after time r
-    → IsMoved i x y (space_in v k time) (engine_view hs rows).granules after r
-move_is gs hs rows v i x y k after time r m =
-    let whole = away_seen gs hs rows m.holds m.size (move_stays gs hs rows v i x y k after time r m) in
-    subst (λ (s : Seen). IsMoved i x y (space_in s k time) (engine_view hs rows).granules after r) m.is
-    (subst (λ (xs : List Granule). IsMoved i x y (space_in (engine_view gs rows) k time) xs after r) (sym (ap (λ (s : Seen). s.granules) whole))
-    (moved_seen (hidden gs rows) i x y (space_of rows.region.ram gs k time) hs after r (meets_here gs hs rows v i x y k after time r m) m.moved))
+  pub move_size : length (engine_view hs rows).granules ≡ length v.granules
+  move_size = with_hidden_length (hidden hs rows) hs ∙ m.size ∙ sym (size_is gs rows v m.is)
+
+  -- it comes to what the written access comes to over the seen granules
+  pub move_is : IsMoved i x y (space_in v k time) (engine_view hs rows).granules after r
+  move_is =
+      subst (λ (s : Seen). IsMoved i x y (space_in s k time) (engine_view hs rows).granules after r) m.is
+      (subst (λ (xs : List Granule). IsMoved i x y (space_in (engine_view gs rows) k time) xs after r) (sym (ap (λ (s : Seen). s.granules) whole_is))
+      (moved_seen (hidden gs rows) i x y (space_of rows.region.ram gs k time) hs after r meets_here m.moved))

@@ -1,13 +1,13 @@
 -- Threads have started, and the heap is laid: what is seen of them, and what they keep.
-use Rattle.std.proofs.Common.{ℕ, ◌≡◌, ◌+◌, ◌*◌, ◌/◌, ◌≤◌, ◌<◌, inl, inr, Bool, true, false, List, [], length, replicate, map, Option, None, unwrap_or, refl, sym, ap, ◌∙◌, arith, subst}
+use Rattle.std.proofs.Common.{ℕ, ◌≡◌, ◌+◌, ◌*◌, ◌/◌, ◌≤◌, ◌<◌, inl, inr, Bool, true, false, List, [], length, replicate, map, None, unwrap_or, refl, sym, ap, ◌∙◌, arith, subst}
 use Rattle.std.proofs.lemmas.List.{get_or-replicate, get_or_past, length-replicate}
-use Rattle.law_lists.proofs.Tests.{bool_tells, le_tells, lt_tells}
+use Rattle.law_lists.proofs.Tests.{bool_tells, lt_tells}
 use Rattle.def_words.specs.declared.Cap.{Cap}
 use Rattle.def_memory.specs.declared.Granule.{Granule}
 use Rattle.def_memory.specs.Granules.{plain, granule_at, blank, cap_in}
 use Rattle.def_memory.specs.Ranges.{is_tagged}
 use Rattle.def_machine.specs.Objects.{Each}
-use Rattle.def_machine.specs.State.{Thread, Object, Token}
+use Rattle.def_machine.specs.State.{Object}
 use Rattle.def_hidden.specs.Hiding.{with_hidden}
 use Rattle.law_hidden.proofs.Granules.{with_hidden_is, seen_at}
 use Rattle.def_chunks.specs.declared.rows.Range.{Range}
@@ -15,17 +15,18 @@ use Rattle.def_chunks.specs.Heaps.{HeapRow, objects_of, Laid}
 use Rattle.ct_heap.specs.Effects.{Stays, Same}
 use Rattle.def_chunks.specs.Hides.{hides_heap}
 use Rattle.def_chunks.specs.LiveObjects.{Appears}
-use Rattle.law_hidden.proofs.Objects.{place_seen, object_appears}
+use Rattle.law_hidden.proofs.Objects.{object_appears}
 use Rattle.ct_areas.specs.declared.thread.Area.{Area}
 use Rattle.ct_areas.specs.declared.thread.Fresh.{Fresh}
 use Rattle.ct_engine.specs.declared.rows.Region.{Region}
 use Rattle.ct_engine.specs.declared.rows.Rows.{Rows}
-use Rattle.ct_engine.specs.Seen.{Seen, stands, region_hides, hides_over, engine_view}
-use Rattle.ct_engine.specs.Kept.{StackLies, IsClear, IsEngine}
+use Rattle.ct_engine.specs.Seen.{stands, region_hides, hides_over, engine_view, threads_of}
+use Rattle.ct_engine.specs.Kept.{AreasFrom, StackLies, IsClear, IsEngine}
 use Rattle.ct_engine.specs.Starts.{HaveBegun, MayStart, started}
-use Rattle.ct_engine.proofs.Lists.{areas_same, threads_same}
+use Rattle.ct_engine.proofs.Lists.{rows_same}
 use Rattle.ct_engine.proofs.Whole.{none_is}
 use Rattle.ct_engine.proofs.Stacks.{hidden_place}
+use Rattle.ct_engine.proofs.HeapStays.{hidden_lies}
 use Rattle.ct_engine.proofs.HiddenTwice.{with_hidden_both}
 use Rattle.ct_engine.proofs.HeapTurns.{limits_stay}
 
@@ -64,21 +65,6 @@ clear_seen hidden gs clear =
       | inl e ↦ rw e (zero_is (granule_at gs k) (clear k e))
       | inr e ↦ rw e refl
     ]))
-
-hidden_lies : (ram base end : ℕ) (os : List Object) (k : ℕ) → hides_heap ram base end os k ≡ true → (base ≤ ram + 8 * k) × (ram + 8 * k < end)
-hidden_lies ram base end os k hidden = (low, high)
-  where
-    low : base ≤ ram + 8 * k
-    low = elim (le_tells base (ram + 8 * k)) [
-      | inl a ↦ a.1
-      | inr a ↦ absurd (let clash : true ≡ false = sym hidden ∙ place_seen ram base end os k (inl a.1) in cc)
-    ]
-
-    high : ram + 8 * k < end
-    high = elim (lt_tells (ram + 8 * k) end) [
-      | inl a ↦ a.1
-      | inr a ↦ absurd (let clash : true ≡ false = sym hidden ∙ place_seen ram base end os k (inr (inl a.1)) in cc)
-    ]
 
 -- past the region nothing is hidden by it
 past_region : (g : Region) (k : ℕ) → g.end ≤ g.ram + 8 * k → region_hides g k ≡ false
@@ -126,37 +112,34 @@ memory_is was gs hs rows fs h l =
 
 -- ---- threads
 
-region_same : (was gs hs : List Granule) (rows : Rows) (fs : List Fresh) (h : HeapRow) → Lays was gs hs rows fs h
-    → (m : ℕ) → rows.region.trusted ≤ rows.region.ram + 8 * m → rows.region.ram + 8 * m < rows.region.end → cap_in hs m ≡ cap_in gs m
-region_same was gs hs rows fs h l m lo hi =
+rows_stay : (was gs hs : List Granule) (rows : Rows) (fs : List Fresh) (h : HeapRow) → Lays was gs hs rows fs h
+    → AreasFrom rows.region.ram hs rows.standing.items 0 rows.region.trusted rows.region.end rows.list.items
+    × (threads_of hs rows.standing.items 0 rows.list.items ≡ threads_of gs [] 0 rows.list.items)
+rows_stay was gs hs rows fs h l =
     let ram = l.may.heap.ram in
     let past = l.may.heap.past in
-    ap (λ (x : Granule). x.cap) (l.stays.rest m (inl (omega (arith, hi, past, ram))))
+    rows_same rows.region.ram gs hs [] rows.standing.items 0 rows.region.trusted rows.region.end rows.list.items l.begun.areas l.stays.size
+    (λ m lo hi. ap (λ (x : Granule). x.cap) (l.stays.rest m (inl (omega (arith, hi, past, ram))))) (λ u lo. l.empty u)
 
 -- ---- all that is seen
-
-seen_as : (s : Seen) (gs gs' : List Granule) (ts ts' : List Thread) (ps ps' : List Area) (os os' : List Object) (ks ks' : List Token) (n n' b b' l l' : ℕ) (limits limits' : List ℕ) (run run' front front' : Option ℕ)
-    → gs ≡ gs' → ts ≡ ts' → ps ≡ ps' → os ≡ os' → ks ≡ ks' → n ≡ n' → b ≡ b' → l ≡ l' → limits ≡ limits' → run ≡ run' → front ≡ front'
-    → (let x : Seen = record s { granules = gs; threads = ts; running = run; front = front; areas = ps; objects = os; tokens = ks; next = n; heap_base = b; heap_end = l; limits = limits } in x)
-    ≡ record s { granules = gs'; threads = ts'; running = run'; front = front'; areas = ps'; objects = os'; tokens = ks'; next = n'; heap_base = b'; heap_end = l'; limits = limits' }
-seen_as s gs gs' ts ts' ps ps' os os' ks ks' n n' b b' l l' limits limits' run run' front front' p q r t o u v w x y z = rw (p, q, r, t, o, u, v, w, x, y, z) refl
 
 pub laid_seen : (was gs hs : List Granule) (rows : Rows) (fs : List Fresh) (h : HeapRow) → Lays was gs hs rows fs h
     → engine_view hs rows ≡ started was rows.region fs h
 laid_seen was gs hs rows fs h l =
-    seen_as (started was rows.region fs h) _ _ _ _ _ _ _ _ _ _ _ _ _ _ _ _ _ _ _ _ _ _
-    (memory_is was gs hs rows fs h l)
-    (threads_same rows.region.ram gs hs [] rows.standing.items 0 rows.region.trusted rows.region.end rows.list.items l.begun.areas (region_same was gs hs rows fs h l) (λ u lo. l.empty u)
-    ∙ l.begun.threads)
-    l.begun.places
-    l.objects
-    l.no_row
-    l.next
-    (ap (λ (r : Range). r.base) l.same.range)
-    (ap (λ (r : Range). r.base + r.length) l.same.range)
-    (limits_stay h rows.heap l.same)
-    l.none
-    l.idle
+    let threads = (rows_stay was gs hs rows fs h l).1 ∙ l.begun.threads in
+    rw (
+      memory_is was gs hs rows fs h l,
+      threads,
+      l.begun.places,
+      l.objects,
+      l.no_row,
+      l.next,
+      limits_stay h rows.heap l.same,
+      l.none,
+      l.idle,
+      ap (λ (r : Range). r.base) l.same.range,
+      ap (λ (r : Range). r.length) l.same.range,
+    ) refl
 
 -- ---- what is kept
 
@@ -182,7 +165,7 @@ laid_holds was gs hs rows fs h l =
     let past = l.may.heap.past in
     let size : length hs ≡ length was = l.stays.size ∙ l.begun.size in
     record {
-      areas = areas_same rows.region.ram gs hs [] rows.standing.items 0 rows.region.trusted rows.region.end rows.list.items l.begun.areas l.stays.size (region_same was gs hs rows fs h l) (λ u lo. l.empty u);
+      areas = (rows_stay was gs hs rows fs h l).0;
       sizes = l.sizes;
       runs = λ u e. none_is u (sym l.none ∙ e);
       alone = λ tight u stood. absurd (let clash : true ≡ false = sym stood ∙ l.empty u in cc);

@@ -1,7 +1,6 @@
 pub mod Lists
 pub mod HeapStays
 pub mod Whole
-pub mod Ends
 pub mod Away
 pub mod HiddenTwice
 pub mod HeapTurns
@@ -16,7 +15,6 @@ pub mod Entering
 pub mod Leaving
 pub mod Handlers
 pub mod AsWritten
-pub mod Sifting
 pub mod Clear
 pub mod Granted
 pub mod Tables

@@ -1,7 +1,7 @@
 -- The revoker: what is kept and what is seen as a sweep begins, passes granules and ends.
 use Rattle.std.proofs.Common.{ℕ, zero, suc, ◌≡◌, ◌+◌, ◌-◌, ◌*◌, ◌<◌, ◌≤◌, inl, inr, ◌&&◌, ◌||◌, Bool, true, false, not, cond, nat_eq, nat_le, nat_lt, List, [], ◌∷◌, length, Option, Some, None, is_some, min, unwrap_or, refl, sym, ap, ◌∙◌, arith, subst}
-use Rattle.std.proofs.lemmas.Bool.{or_parts}
-use Rattle.law_lists.proofs.Tests.{bool_tells, chosen, eq_tells, le_tells, lt_tells}
+use Rattle.std.proofs.lemmas.Bool.{or_parts, not-false, le-leb, lt-leb}
+use Rattle.law_lists.proofs.Tests.{bool_tells, chosen, eq_tells, lt_tells}
 use Rattle.def_words.specs.declared.Cap.{Cap}
 use Rattle.def_memory.specs.declared.Granule.{Granule}
 use Rattle.def_memory.specs.Granules.{plain, granule_at}
@@ -54,26 +54,15 @@ live_plain h gs = live_plain_in h.names h.range.base h.range.base (chunks h.rang
 none_painted : (rs : List Object) → has_quarantined rs ≡ false → Each LivePlain rs → painted rs ≡ rs
 none_painted [] none each = refl
 none_painted (r ∷ rs) none each =
-    let live : r.live ≡ true = first r.live (has_quarantined rs) none in
+    let both = or_parts (not r.live) (has_quarantined rs) none in
+    let live : r.live ≡ true = not-false r.live both.0 in
     ap (λ b. (let o : Object = record r { painted = b } in o) ∷ painted rs) (ap (λ b. not b) live ∙ sym (each.0 live))
-    ∙ ap (λ os. r ∷ os) (none_painted rs (later r.live (has_quarantined rs) none) each.1)
-  where
-    first : (a b : Bool) → (not a || b) ≡ false → a ≡ true
-    first true b e = refl
-    first false b e = absurd (let clash : true ≡ false = e in cc)
-
-    later : (a b : Bool) → (not a || b) ≡ false → b ≡ false
-    later true b e = e
-    later false b e = absurd (let clash : true ≡ false = e in cc)
+    ∙ ap (λ os. r ∷ os) (none_painted rs both.1 each.1)
 
 -- hidden by objects that live where others do
 alike_hides : (h n : HeapRow) (gs hs : List Granule) → n.range.ram ≡ h.range.ram → n.range.base ≡ h.range.base → n.range.length ≡ h.range.length
     → ((x : ℕ) → is_live_at (objects_of n hs) x ≡ is_live_at (objects_of h gs) x) → (k : ℕ) → heap_hides n hs k ≡ heap_hides h gs k
-alike_hides h n gs hs ram base long live k =
-    ap (λ a. hides_heap a n.range.base (n.range.base + n.range.length) (objects_of n hs) k) ram
-    ∙ ap (λ a. hides_heap h.range.ram a (a + n.range.length) (objects_of n hs) k) base
-    ∙ ap (λ a. hides_heap h.range.ram h.range.base (h.range.base + a) (objects_of n hs) k) long
-    ∙ ap (λ l. nat_le h.range.base (h.range.ram + 8 * k) && nat_lt (h.range.ram + 8 * k) (h.range.base + h.range.length) && not l) (live (h.range.ram + 8 * k))
+alike_hides h n gs hs ram base long live k = rw (live (n.range.ram + 8 * k), ram, base, long) refl
 
 -- what is seen where what is hidden changes alone
 same_seen : (a b : ℕ → Bool) (gs hs : List Granule) → length hs ≡ length gs → ((k : ℕ) → b k ≡ a k) → ((k : ℕ) → (granule_at hs k).mark ≡ (granule_at gs k).mark)
@@ -119,36 +108,22 @@ begun_holds gs hs rows n front holds p within =
 begun_seen : (gs hs : List Granule) (rows : Rows) (n : HeapRow) (front : Option ℕ) → IsEngine gs rows → Painted gs hs rows n
     → engine_view hs (with_heap rows n front) ≡ record (engine_view gs rows) { objects = painted (objects_of rows.heap gs); front = front }
 begun_seen gs hs rows n front holds p =
-    let put : List Granule → List Object → Seen = λ xs os. record (engine_view gs rows) { granules = xs; objects = os; front = front } in
     let memory : with_hidden (region_hides rows.region) (with_hidden (heap_hides rows.heap hs) hs) ≡ (engine_view gs rows).granules =
     ap (λ xs. with_hidden (region_hides rows.region) xs) (paint_with_hidden rows.heap gs hs p.paints) ∙ sym (seen_both gs rows holds) in
     ap (λ h. engine_view hs (with_heap rows h front)) p.heap
-    ∙ turned_seen gs hs rows rows.heap front holds (paint_turns gs hs rows p.paints)
-    ∙ ap (λ xs. put xs (objects_of rows.heap hs)) memory
-    ∙ ap (λ os. put (engine_view gs rows).granules os) p.paints.objects
+    ∙ turned_seen gs hs rows rows.heap front holds (paint_turns gs hs rows p.paints) ∙ rw (memory, p.paints.objects) refl
 
 -- a sweep began, or nothing is quarantined
 pub begun_then : (gs hs : List Granule) (rows : Rows) (v : Seen) (n : HeapRow) (front : Option ℕ) → engine_view gs rows ≡ v → IsEngine gs rows → rows.front ≡ None → Painted gs hs rows n
     → front ≡ Some 0 → has_quarantined (objects_of rows.heap gs) ≡ true → engine_view hs (with_heap rows n front) ≡ began v v.front
 begun_then gs hs rows v n front is holds none p first some =
-    let os : List Object = objects_of rows.heap gs in
-    let s : Seen = engine_view gs rows in
-    begun_seen gs hs rows n front holds p
-    ∙ ap (λ f. let x : Seen = record s { objects = painted os; front = f } in x) first
-    ∙ ap (λ b. cond b (let x : Seen = record s { objects = painted os; front = Some 0 } in x) s) (sym some)
-    ∙ ap (λ f. began s f) (sym none)
-    ∙ ap (λ x. began x x.front) is
+    begun_seen gs hs rows n front holds p ∙ rw (← is, none, some, first) refl
 
 pub begun_else : (gs hs : List Granule) (rows : Rows) (v : Seen) (n : HeapRow) → engine_view gs rows ≡ v → IsEngine gs rows → rows.front ≡ None → Painted gs hs rows n
     → has_quarantined (objects_of rows.heap gs) ≡ false → engine_view hs (with_heap rows n rows.front) ≡ began v v.front
 begun_else gs hs rows v n is holds none p nothing_ =
-    let os : List Object = objects_of rows.heap gs in
-    let s : Seen = engine_view gs rows in
     begun_seen gs hs rows n rows.front holds p
-    ∙ ap (λ xs. let x : Seen = record s { objects = xs } in x) (none_painted os nothing_ (live_plain rows.heap gs))
-    ∙ ap (λ b. cond b (let x : Seen = record s { objects = painted os; front = Some 0 } in x) s) (sym nothing_)
-    ∙ ap (λ f. began s f) (sym none)
-    ∙ ap (λ x. began x x.front) is
+    ∙ rw (← is, none, nothing_, none_painted (objects_of rows.heap gs) nothing_ (live_plain rows.heap gs)) refl
 
 -- ---- a sweep ends
 
@@ -247,15 +222,8 @@ finish_holds gs hs rows n front holds w none =
 pub finish_seen : (gs hs : List Granule) (rows : Rows) (v : Seen) (n : HeapRow) (front : Option ℕ) → engine_view gs rows ≡ v → IsEngine gs rows → Flushed gs hs rows n → front ≡ None
     → engine_view hs (with_heap rows n front) ≡ over v
 finish_seen gs hs rows v n front is holds w none =
-    let os : List Object = objects_of rows.heap gs in
-    let put : List Granule → List Object → ℕ → Option ℕ → Seen = λ xs rs next f. record (engine_view gs rows) { granules = xs; objects = rs; next = next; front = f } in
-    let left : List Granule = marks_cleared os rows.region.ram (engine_view gs rows).granules in
     turned_seen gs hs rows n front holds (flush_turns gs hs rows n w.flushes)
-    ∙ ap (λ xs. put xs (objects_of n hs) n.next front) (flush_memory gs hs rows n holds w.flushes)
-    ∙ ap (λ rs. put left rs n.next front) w.flushes.objects
-    ∙ ap (λ m. put left (unpainted os) m front) w.flushes.next
-    ∙ ap (λ f. put left (unpainted os) rows.heap.next f) none
-    ∙ ap over is
+    ∙ rw (← is, flush_memory gs hs rows n holds w.flushes, w.flushes.objects, w.flushes.next, none) refl
 
 -- ---- a slice, where a sweep runs
 
@@ -296,17 +264,15 @@ size_slice v low high = ap (λ n. 8 * n) (kept_length (passes v low high) 0 v.gr
 
 pub pass_ends : (v : Seen) (rate low : ℕ) → v.front ≡ Some low → size_of v ≤ slice_end v rate low → over (with_slice v low (slice_end v rate low)) ≡ passed_on v rate v.front
 pass_ends v rate low front le =
-    let high : ℕ = slice_end v rate low in
-    let size = size_slice v low high in
-    let test : nat_le (size_of (with_slice v low high)) high ≡ true = elim (le_tells (size_of (with_slice v low high)) high) [ inl a ↦ a.0 | inr a ↦ absurd (let lt = a.1 in omega (arith, le, lt, size)) ] in
-    ap (λ b. cond b (over (with_slice v low high)) (with_slice v low high)) (sym test) ∙ ap (λ f. passed_on v rate f) (sym front)
+    let size = size_slice v low (slice_end v rate low) in
+    let test = le-leb (size_of (with_slice v low (slice_end v rate low))) (slice_end v rate low) (omega (arith, le, size)) in
+    rw (front, test) refl
 
 pub pass_goes : (v : Seen) (rate low : ℕ) → v.front ≡ Some low → slice_end v rate low < size_of v → with_slice v low (slice_end v rate low) ≡ passed_on v rate v.front
 pass_goes v rate low front lt =
-    let high : ℕ = slice_end v rate low in
-    let size = size_slice v low high in
-    let test : nat_le (size_of (with_slice v low high)) high ≡ false = elim (le_tells (size_of (with_slice v low high)) high) [ inl a ↦ absurd (let le = a.1 in omega (arith, le, lt, size)) | inr a ↦ a.0 ] in
-    ap (λ b. cond b (over (with_slice v low high)) (with_slice v low high)) (sym test) ∙ ap (λ f. passed_on v rate f) (sym front)
+    let size = size_slice v low (slice_end v rate low) in
+    let test = lt-leb (size_of (with_slice v low (slice_end v rate low))) (slice_end v rate low) (omega (arith, lt, size)) in
+    rw (front, test) refl
 
 mid_size : (hs : List Granule) (rows : Rows) (v : Seen) (low high : ℕ) → Mid hs rows v low high → 8 * length hs ≡ size_of v
 mid_size hs rows v low high m =

@@ -83,7 +83,7 @@ pub sealed_seen : (gs hs : List Granule) (rows : Rows) (n : HeapRow) (k : Table)
 sealed_seen gs hs rows n k s quota size key o is holds a row =
     let with_rows : Seen → List Token → Seen = λ x ks. record x { tokens = ks } in
     let object : Object = new_object (engine_view gs rows) quota size o.base in
-    ap (λ x. with_rows x k.rows) (allocated_seen gs hs rows n quota size o.number o.base o.length o.live holds a)
+    ap (λ x. with_rows x k.rows) (allocated_seen holds a)
     ∙ ap (with_rows (with_object (engine_view gs rows) object)) (row ∙ ap (λ m. row_among (row_for m key) rows.tokens.rows) a.number_is)
     ∙ ap (λ x. after_sealing x quota size key (Ok o)) is
 

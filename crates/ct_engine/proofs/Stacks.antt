@@ -1,76 +1,40 @@
--- Stacks that lie apart from the region: they stay where they are, and zeroing one meets nothing hidden.
-use Rattle.std.proofs.Common.{ℕ, zero, suc, ◌≡◌, ◌+◌, ◌*◌, ◌%◌, ◌<◌, ◌≤◌, inl, inr, Bool, true, false, nat_le, nat_lt, List, [], ◌∷◌, length, map, Some, refl, sym, ap, ◌∙◌, arith, subst}
-use Rattle.std.proofs.Math.ListN.{get_or, set}
-use Rattle.std.proofs.lemmas.Bool.{leb-true}
-use Rattle.law_lists.proofs.Tests.{bool_tells, both_left, both_right, lt_tells}
+-- Stacks that lie apart from the region: zeroing one, and writing to one, meets nothing hidden.
+use Rattle.std.proofs.Common.{ℕ, zero, suc, ◌≡◌, ◌+◌, ◌*◌, ◌%◌, ◌<◌, ◌≤◌, inl, inr, Bool, true, false, nat_le, nat_lt, List, [], ◌∷◌, length, map, refl, sym, ap, ◌∙◌, arith, subst}
+use Rattle.std.proofs.lemmas.List.{get_or-map}
+use Rattle.std.proofs.Math.ListN.{get_or}
+use Rattle.std.proofs.lemmas.Bool.{leb-true, ltb-true, and_parts}
+use Rattle.law_lists.proofs.Tests.{bool_tells, lt_tells}
 use Rattle.law_granules.proofs.Lists.{zeroed_length, zeroed_at}
 use Rattle.def_memory.specs.declared.Granule.{Granule}
 use Rattle.def_words.specs.declared.Cap.{Cap}
 use Rattle.def_memory.specs.Granules.{cap_in, holding_all}
 use Rattle.def_memory.specs.Ranges.{zeroed_from}
-use Rattle.def_machine.specs.State.{Thread, Frame}
 use Rattle.def_machine.specs.Objects.{Each}
-use Rattle.def_step.specs.Switch.{frame_top}
 use Rattle.law_areas.proofs.Changes.{all_touches}
 use Rattle.law_areas.proofs.Writes.{all_length}
 use Rattle.law_hidden.proofs.Granules.{zeroed_seen}
 use Rattle.law_hidden.proofs.Seen.{held_seen}
 use Rattle.ct_areas.specs.declared.thread.Area.{Area}
 use Rattle.ct_areas.specs.declared.thread.Thread as row
-use Rattle.ct_areas.specs.Threads.{thread_of}
-use Rattle.ct_areas.proofs.Rows.{frames_are}
 use Rattle.ct_switch.specs.Ready.{HasStack, IsReady}
 use Rattle.ct_engine.specs.declared.rows.Region.{Region}
 use Rattle.ct_engine.specs.declared.rows.Rows.{Rows}
-use Rattle.ct_engine.specs.Seen.{engine_view, thread, with_granules, no_area, area_at, region_hides, hidden}
+use Rattle.ct_engine.specs.Seen.{Seen, engine_view, with_granules, no_area, area_at, region_hides, hidden}
 use Rattle.ct_engine.specs.Kept.{StackLies, IsEngine}
 use Rattle.ct_engine.specs.Calls.{TopLies}
-use Rattle.ct_engine.proofs.Lists.{Lies, places_put}
-use Rattle.ct_engine.proofs.Whole.{thread_is, running_kept, the_runner}
-use Rattle.ct_engine.proofs.Ends.{area_of_row}
+use Rattle.ct_engine.proofs.Lists.{Lies}
+use Rattle.ct_engine.proofs.Whole.{the_runner}
+use Rattle.ct_engine.proofs.Goes.{Runner, running_lies, running_alive, running_top}
 use Rattle.ct_engine.proofs.Away.{HiddenStays, away_holds, away_seen, hidden_cases}
 use Rattle.ct_engine.proofs.HeapStays.{heap_low}
 
 -- ---- where they lie
 
--- a row that changes, and keeps its area, leaves the stacks where they are
-pub stacks_put : (g : Region) (base : ℕ) (gs hs : List Granule) (ts : List row.Thread) (t : ℕ) (d q : row.Thread)
-    → Each (StackLies g base (8 * length gs)) (map (λ (u : row.Thread). u.area) ts) → length hs ≡ length gs → q.area ≡ (get_or ts t d).area → t < length ts
-    → Each (StackLies g base (8 * length hs)) (map (λ (u : row.Thread). u.area) (set ts t q))
-stacks_put g base gs hs ts t d q stacks size is lt =
-    subst (λ (as_ : List Area). Each (StackLies g base (8 * length hs)) as_) (sym (places_put ts t d q is lt))
-    (subst (λ n. Each (StackLies g base (8 * n)) (map (λ (u : row.Thread). u.area) ts)) (sym size) stacks)
-
-pub stacks_turn : (gs hs : List Granule) (rows : Rows) (t : ℕ) (r q : row.Thread) → IsEngine gs rows → t < length rows.list.items → r ≡ get_or rows.list.items t r
-    → length hs ≡ length gs → q.area ≡ r.area → Each (StackLies rows.region rows.heap.range.base (8 * length hs)) (map (λ (u : row.Thread). u.area) (set rows.list.items t q))
-stacks_turn gs hs rows t r q holds lt is size place =
-    stacks_put rows.region rows.heap.range.base gs hs rows.list.items t r q holds.stacks size (place ∙ ap (λ (u : row.Thread). u.area) is) lt
-
-pub stack_at : (g : Region) (base size : ℕ) (ts : List row.Thread) (t : ℕ) (d : row.Thread) → Each (StackLies g base size) (map (λ (u : row.Thread). u.area) ts)
-    → t < length ts → StackLies g base size (get_or ts t d).area
+stack_at : (g : Region) (base size : ℕ) (ts : List row.Thread) (t : ℕ) (d : row.Thread)
+    → Each (StackLies g base size) (map (λ (u : row.Thread). u.area) ts) → t < length ts → StackLies g base size (get_or ts t d).area
 stack_at g base size [] t d stacks lt = absurd (omega (arith, lt))
 stack_at g base size (u ∷ us) zero d stacks lt = stacks.0
 stack_at g base size (u ∷ us) (suc t) d stacks lt = stack_at g base size us t d stacks.1 (omega (arith, lt))
-
--- of the running thread
-pub running_stack : (gs : List Granule) (rows : Rows) (t : ℕ) (r : row.Thread) → IsEngine gs rows → rows.running ≡ Some t → r ≡ get_or rows.list.items t r
-    → StackLies rows.region rows.heap.range.base (8 * length gs) r.area
-running_stack gs rows t r holds runs is =
-    subst (λ (u : row.Thread). StackLies rows.region rows.heap.range.base (8 * length gs) u.area) (sym is) (stack_at rows.region rows.heap.range.base (8 * length gs) rows.list.items t r holds.stacks (the_runner holds t runs))
-
-pub running_area : (gs : List Granule) (rows : Rows) (t : ℕ) (r : row.Thread) → IsEngine gs rows → rows.running ≡ Some t → r ≡ get_or rows.list.items t r
-    → area_at (engine_view gs rows) t ≡ r.area
-running_area gs rows t r holds runs is = area_of_row rows.list.items t no_area r (the_runner holds t runs) ∙ ap (λ (u : row.Thread). u.area) (sym is)
-
-pub running_thread : (gs : List Granule) (rows : Rows) (t : ℕ) (r : row.Thread) → IsEngine gs rows → rows.running ≡ Some t → r ≡ get_or rows.list.items t r
-    → thread (engine_view gs rows) t ≡ thread_of gs true r
-running_thread gs rows t r holds runs is = thread_is gs rows.list.items rows.standing.items t r true (the_runner holds t runs) is (holds.runs t runs)
-
-pub running_top : (gs : List Granule) (rows : Rows) (t : ℕ) (r : row.Thread) → IsEngine gs rows → rows.running ≡ Some t → r ≡ get_or rows.list.items t r
-    → frame_top (thread (engine_view gs rows) t).frames ≡ r.top
-running_top gs rows t r holds runs is =
-    ap (λ (u : Thread). frame_top u.frames) (running_thread gs rows t r holds runs is)
-    ∙ ap (λ (fs : List Frame). frame_top fs) (frames_are gs true r ((running_kept gs rows t r holds runs is).kept.alive refl))
 
 has_stack : (g : Region) (base : ℕ) (gs : List Granule) (runs : Bool) (t : row.Thread) → Lies g.ram gs runs g.trusted g.end t → StackLies g base (8 * length gs) t.area
     → HasStack (8 * length gs) t.area
@@ -88,36 +52,43 @@ has_stack g base gs runs t l s =
       apart = elim s.apart [ inl a ↦ inl (omega (arith, a, from)) | inr b ↦ inr (omega (arith, b, to)) ];
     }
 
--- what a call and a frame's end ask of the row
-pub ready_is : (gs : List Granule) (rows : Rows) (t : ℕ) (r : row.Thread) → IsEngine gs rows → rows.running ≡ Some t → r ≡ get_or rows.list.items t r
-    → TopLies (engine_view gs rows) t → IsReady gs r
-ready_is gs rows t r holds runs is top =
-    let l = running_kept gs rows t r holds runs is in
-    let area = running_area gs rows t r holds runs is in
-    let here = running_top gs rows t r holds runs is in
-    let low : (area_at (engine_view gs rows) t).stack ≤ r.top = subst (λ n. (area_at (engine_view gs rows) t).stack ≤ n) here top.low in
-    let high : r.top ≤ (area_at (engine_view gs rows) t).stack + (area_at (engine_view gs rows) t).stack_length =
-    subst (λ n. n ≤ (area_at (engine_view gs rows) t).stack + (area_at (engine_view gs rows) t).stack_length) here top.high in
-    record {
-      area = l.kept.area;
-      stack = has_stack rows.region rows.heap.range.base gs true r l (running_stack gs rows t r holds runs is);
-      alive = l.kept.alive refl;
-      room = l.kept.room;
-      low = subst (λ (a : Area). a.stack ≤ r.top) area low;
-      high = subst (λ (a : Area). r.top ≤ a.stack + a.stack_length) area high;
-      even = subst (λ n. n % 16 ≡ 0) here top.even;
-    }
+-- of the running thread
+module _ {gs : List Granule} {rows : Rows} {t : ℕ} {r : row.Thread} (h : Runner gs rows t r) where
+  pub running_stack : StackLies rows.region rows.heap.range.base (8 * length gs) r.area
+  running_stack =
+      let base : ℕ = rows.heap.range.base in
+      subst (λ (u : row.Thread). StackLies rows.region base (8 * length gs) u.area) (sym h.is)
+      (stack_at rows.region base (8 * length gs) rows.list.items t r h.holds.stacks (the_runner h.holds t h.runs))
+
+  pub running_area : area_at (engine_view gs rows) t ≡ r.area
+  running_area =
+      get_or-map (λ (u : row.Thread). u.area) rows.list.items t r no_area (the_runner h.holds t h.runs)
+      ∙ ap (λ (u : row.Thread). u.area) (sym h.is)
+
+  -- what a call and a frame's end ask of the row
+  pub ready_is : TopLies (engine_view gs rows) t → IsReady gs r
+  ready_is top =
+      let k = (running_lies h).kept in
+      let s : Seen = engine_view gs rows in
+      let low : (area_at s t).stack ≤ r.top = subst (λ n. (area_at s t).stack ≤ n) (running_top h) top.low in
+      let high : r.top ≤ (area_at s t).stack + (area_at s t).stack_length =
+      subst (λ n. n ≤ (area_at s t).stack + (area_at s t).stack_length) (running_top h) top.high in
+      record {
+        area = k.area;
+        stack = has_stack rows.region rows.heap.range.base gs true r (running_lies h) running_stack;
+        alive = running_alive h;
+        room = k.room;
+        low = subst (λ (a : Area). a.stack ≤ r.top) running_area low;
+        high = subst (λ (a : Area). r.top ≤ a.stack + a.stack_length) running_area high;
+        even = subst (λ n. n % 16 ≡ 0) (running_top h) top.even;
+      }
 
 -- ---- what isn't hidden
 
 pub hidden_place : (g : Region) (k : ℕ) → region_hides g k ≡ true → (g.trusted ≤ g.ram + 8 * k) × (g.ram + 8 * k < g.end)
-hidden_place g k hidden = (
-  leb-true g.trusted (g.ram + 8 * k) (both_left (nat_le g.trusted (g.ram + 8 * k)) (nat_lt (g.ram + 8 * k) g.end) hidden),
-  below (g.ram + 8 * k) g.end (both_right (nat_le g.trusted (g.ram + 8 * k)) (nat_lt (g.ram + 8 * k) g.end) hidden),
-)
-  where
-    below : (a b : ℕ) → nat_lt a b ≡ true → a < b
-    below a b e = elim (lt_tells a b) [ inl x ↦ x.1 | inr x ↦ absurd (let clash : true ≡ false = sym e ∙ x.0 in cc) ]
+hidden_place g k hidden =
+    let both = and_parts (nat_le g.trusted (g.ram + 8 * k)) (nat_lt (g.ram + 8 * k) g.end) hidden in
+    (leb-true g.trusted (g.ram + 8 * k) both.0, ltb-true (g.ram + 8 * k) g.end both.1)
 
 -- what stands in a stack
 stack_seen : (gs : List Granule) (rows : Rows) (a : Area) (j : ℕ) → IsEngine gs rows → StackLies rows.region rows.heap.range.base (8 * length gs) a

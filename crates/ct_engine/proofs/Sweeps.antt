@@ -1,14 +1,15 @@
 -- A slice of a sweep over memory, as what is seen of it: with hidden granules, and in the threads' areas; and what it
 -- leaves of the heap.
-use Rattle.std.proofs.Common.{ℕ, zero, suc, ◌≡◌, ◌+◌, ◌-◌, ◌*◌, ◌==◌, ◌<◌, ◌≤◌, ◌⊎◌, inl, inr, ◌&&◌, Bool, true, false, nat_le, nat_lt, List, [], ◌∷◌, length, map, Option, Some, refl, sym, ap, ◌∙◌, arith, subst}
+use Rattle.std.proofs.Common.{ℕ, zero, suc, ◌≡◌, ◌+◌, ◌-◌, ◌*◌, ◌==◌, ◌<◌, ◌≤◌, inl, inr, ◌&&◌, Bool, true, false, nat_le, nat_lt, List, [], ◌∷◌, length, map, Option, Some, refl, sym, ap, ◌∙◌, arith, subst}
+use Rattle.law_lists.proofs.Tests.{chosen_in}
 use Rattle.std.proofs.lemmas.List.{ext_get_or}
 use Rattle.std.proofs.Math.ListN.{get_or}
-use Rattle.law_lists.proofs.Tests.{bool_tells, le_tells, lt_tells}
+use Rattle.law_lists.proofs.Tests.{bool_tells}
 use Rattle.def_words.specs.declared.Cap.{Cap}
 use Rattle.def_memory.specs.declared.Granule.{Granule}
 use Rattle.def_memory.specs.Granules.{plain, nothing, granule_at, cap_in, caps_from}
 use Rattle.def_memory.specs.Ranges.{is_tagged}
-use Rattle.def_machine.specs.State.{Thread, Frame, nobody}
+use Rattle.def_machine.specs.State.{Thread, nobody}
 use Rattle.def_machine.specs.Objects.{Each}
 use Rattle.def_machine.specs.Slices.{is_number, filtered_between, kept_granules, kept_frames, kept_registers, kept_thread, kept_threads, KeepsWords}
 use Rattle.def_machine.specs.Memory.{filtered_in}
@@ -42,16 +43,6 @@ granule_kept f n (g ∷ gs) (suc k) lt =
     let next : n + 8 + 8 * k ≡ n + 8 * suc k = omega arith in
     granule_kept f (n + 8) gs k (omega (arith, lt)) ∙ ap (λ m. let x : Granule = record (granule_at gs k) { cap = f m (granule_at gs k).cap } in x) next
 
--- inside the slice it has filtered_between, outside it stays
-passed_by : (ram : ℕ) (gs : List Granule) (low high n : ℕ) (c : Cap) (P : Cap → Type 0) → (low ≤ n → n < high → P (filtered_in ram gs c)) → ((n < low) ⊎ (high ≤ n) → P c) → P (filtered_between ram gs low high n c)
-passed_by ram gs low high n c P yes_case no_case = elim (le_tells low n) [
-  | inl a ↦ elim (lt_tells n high) [
-    | inl b ↦ (let test : (nat_le low n && nat_lt n high) ≡ true = rw (a.0, b.0) refl in rw test (yes_case a.1 b.1))
-    | inr b ↦ (let test : (nat_le low n && nat_lt n high) ≡ false = rw (a.0, b.0) refl in rw test (no_case (inr b.1)))
-  ]
-  | inr a ↦ (let test : (nat_le low n && nat_lt n high) ≡ false = rw a.0 refl in rw test (no_case (inl a.1)))
-]
-
 slice_kept : (ram low high : ℕ) (gs hs : List Granule) → IsSliced ram low high gs hs → hs ≡ kept_granules (λ n c. filtered_between ram gs low high n c) 0 gs
 slice_kept ram low high gs hs is =
     ext_get_or nothing hs (kept_granules (λ n c. filtered_between ram gs low high n c) 0 gs) (is.size ∙ sym (kept_length (λ n c. filtered_between ram gs low high n c) 0 gs))
@@ -59,7 +50,7 @@ slice_kept ram low high gs hs is =
     let size = is.size in
     let inside : k < length gs = omega (arith, lt, size) in
     let put : Cap → Granule = λ c. let x : Granule = record (granule_at gs k) { cap = c } in x in
-    passed_by ram gs low high (0 + 8 * k) (granule_at gs k).cap (λ c. granule_at hs k ≡ put c)
+    chosen_in (λ c. granule_at hs k ≡ put c) low high (0 + 8 * k) (filtered_in ram gs (granule_at gs k).cap) (granule_at gs k).cap
     (λ a b. is.passed k (omega (arith, a), omega (arith, b)))
     (λ out. is.rest k (elim out [ inl a ↦ inl (omega (arith, a)) | inr b ↦ inr (omega (arith, b)) ]))
     ∙ sym (granule_kept (λ n c. filtered_between ram gs low high n c) 0 gs k inside))
@@ -90,13 +81,11 @@ registers_area f z gs begin area is =
 
 living_kept : (f : ℕ → Cap → Cap) → KeepsWords f → (gs : List Granule) (t : row.Thread) (area : ℕ) → area ≡ 8 * area_begin t.area → (runs : Bool)
     → living (kept_granules f 0 gs) runs t ≡ kept_thread f area runs (living gs runs t)
-living_kept f z gs t area is true = ap (λ fs. let x : Thread = record (living gs true t) { frames = fs } in x) (frames_area f z gs t area is)
+living_kept f z gs t area is true = rw (frames_area f z gs t area is) refl
 living_kept f z gs t area is false =
-    let put : Cap → List Cap → List Frame → Thread = λ p rs fs. record (living gs false t) { pcc = p; registers = rs; frames = fs } in
-    let head : cap_in (kept_granules f 0 gs) (area_begin t.area) ≡ f area (cap_in gs (area_begin t.area)) = held_kept f z gs (area_begin t.area) ∙ ap (λ m. f m (cap_in gs (area_begin t.area))) (sym is) in
-    ap (λ p. put p (plain 0 ∷ caps_from (kept_granules f 0 gs) (area_begin t.area + 1) 15) (frames_in (kept_granules f 0 gs) (area_begin t.area) t.actor t.top t.handling t.depth)) head
-    ∙ ap (λ rs. put (f area (cap_in gs (area_begin t.area))) rs (frames_in (kept_granules f 0 gs) (area_begin t.area) t.actor t.top t.handling t.depth)) (registers_area f z gs (area_begin t.area) area is)
-    ∙ ap (λ fs. put (f area (cap_in gs (area_begin t.area))) (kept_registers f area (plain 0 ∷ caps_from gs (area_begin t.area + 1) 15)) fs) (frames_area f z gs t area is)
+    let head : cap_in (kept_granules f 0 gs) (area_begin t.area) ≡ f area (cap_in gs (area_begin t.area)) =
+    held_kept f z gs (area_begin t.area) ∙ ap (λ m. f m (cap_in gs (area_begin t.area))) (sym is) in
+    rw (head, registers_area f z gs (area_begin t.area) area is, frames_area f z gs t area is) refl
 
 thread_kept : (f : ℕ → Cap → Cap) → KeepsWords f → (gs : List Granule) (size : ℕ) (runs : Bool) (t : row.Thread) → HasArea size t.area
     → thread_of (kept_granules f 0 gs) runs t ≡ kept_thread f (t.area.trusted - t.area.ram) runs (thread_of gs runs t)

@@ -1,13 +1,18 @@
 -- What a change of one thread makes of all that is seen, and of what is kept.
 use Rattle.std.proofs.Common.{ℕ, zero, suc, ◌≡◌, ◌≢◌, ◌+◌, ◌*◌, ◌<◌, ◌≤◌, inl, inr, Bool, true, false, List, [], ◌∷◌, length, map, Option, Some, None, unwrap_or, is_some, refl, sym, ap, ◌∙◌, arith, subst}
+use Rattle.std.proofs.lemmas.Bool.{le-leb, lt-ltb}
+use Rattle.std.proofs.Math.Seq.{map-set_same}
 use Rattle.std.proofs.Math.ListN.{get_or, set}
-use Rattle.std.proofs.lemmas.List.{get_or_default, get_or-set_same, get_or-set_other, length-set}
-use Rattle.law_lists.proofs.Tests.{bool_tells, le_tells, lt_tells}
+use Rattle.std.specs.Bool.{then_some}
+use Rattle.std.specs.Vec.{with_item}
+use Rattle.std.proofs.lemmas.List.{get_or_default, get_or-set_same, get_or-set_other, set-get_or, length-set}
+use Rattle.law_lists.proofs.Tests.{bool_tells, lt_tells}
 use Rattle.def_words.specs.declared.Cap.{Cap}
 use Rattle.def_memory.specs.declared.Granule.{Granule}
 use Rattle.def_machine.specs.State.{Thread, Object, nobody}
 use Rattle.def_chunks.specs.Heaps.{objects_of}
 use Rattle.std.proofs.lemmas.Bool.{or_left, cases_eq}
+use Rattle.def_machine.specs.Objects.{Each}
 use Rattle.def_machine.specs.Slices.{is_number}
 use Rattle.def_machine.specs.Threads.{picked_with}
 use Rattle.def_machine.specs.Memory.{filtered_in}
@@ -15,6 +20,7 @@ use Rattle.def_areas.specs.Touches.{Touches}
 use Rattle.def_hidden.specs.Hiding.{with_hidden}
 use Rattle.law_hidden.proofs.Granules.{hidden_changes}
 use Rattle.law_hidden.proofs.Steps.{filtered_same}
+use Rattle.ct_areas.specs.declared.thread.Area.{Area}
 use Rattle.ct_areas.specs.declared.thread.Thread as row
 use Rattle.ct_areas.specs.Threads.{area_begin, area_end, thread_of}
 use Rattle.ct_threads.specs.Kept.{IsKept}
@@ -22,112 +28,38 @@ use Rattle.ct_threads.proofs.Beside.{within}
 use Rattle.ct_threads.proofs.Entering.{thread_depth}
 use Rattle.ct_threads.proofs.Filtering.{sifted_kept}
 use Rattle.ct_areas.proofs.Places.{alive_is}
-use Rattle.law_areas.proofs.Changes.{unchanged}
 use Rattle.ct_engine.specs.declared.rows.Region.{Region}
 use Rattle.ct_engine.specs.declared.rows.Rows.{Rows}
-use Rattle.ct_engine.specs.Seen.{Seen, stands, threads_of, engine_view, thread, with_thread, resumed, region_hides, hides_over, seen_by, seen_of, hidden}
-use Rattle.ct_engine.specs.Kept.{AreasFrom, HeapHolds, IsEngine, OnlyRunnerStands}
-use Rattle.ct_engine.proofs.Lists.{Lies, OthersStand, lies, areas_put, threads_put, places_put, how_many, the_thread}
-use Rattle.ct_engine.proofs.HeapStays.{turn_objects}
+use Rattle.ct_engine.specs.Seen.{Seen, stands, threads_of, engine_view, thread, with_thread, with_running, resumed, region_hides, hides_over, seen_by, hidden}
+use Rattle.ct_engine.specs.Kept.{AreasFrom, StackLies, IsEngine, OnlyRunnerStands}
+use Rattle.ct_engine.proofs.Lists.{Lies, OthersStand, lies, rows_put, how_many, the_thread}
+use Rattle.ct_engine.proofs.HeapStays.{HeapStays, heap_keeps, heap_holds, area_stays}
 use Rattle.law_moves.proofs.Slices.{is_itself, number_is}
 
 -- a granule of the region is hidden
 pub hidden_is : (g : Region) (k : ℕ) → g.trusted ≤ g.ram + 8 * k → g.ram + 8 * k < g.end → region_hides g k ≡ true
-hidden_is g k low high = elim (le_tells g.trusted (g.ram + 8 * k)) [
-  | inl a ↦ elim (lt_tells (g.ram + 8 * k) g.end) [ inl b ↦ rw (a.0, b.0) refl | inr b ↦ absurd (let h = b.1 in omega (arith, h, high)) ]
-  | inr a ↦ absurd (let l = a.1 in omega (arith, l, low))
-]
-
--- a change of one area isn't seen
-pub unseen : (os : List Object) (rows : Rows) (gs hs : List Granule) (runs : Bool) (t : row.Thread) → Lies rows.region.ram gs runs rows.region.trusted rows.region.end t
-    → Touches (area_begin t.area) (area_end t.area) gs hs → with_hidden (hides_over rows.region rows.heap.range os) hs ≡ with_hidden (hides_over rows.region rows.heap.range os) gs
-unseen os rows gs hs runs t l touches =
-    hidden_changes (hides_over rows.region rows.heap.range os) gs hs (area_begin t.area) (area_end t.area) touches (λ k lo hi.
-    let w = within (8 * length gs) t.area k l.kept.area lo hi in
-    let a = w.0 in
-    let b = w.1 in
-    let low = l.low in
-    let high = l.high in
-    let base = l.base in
-    or_left (region_hides rows.region k) _ (hidden_is rows.region k (omega (arith, a, low, base)) (omega (arith, b, high, base))))
-
--- the row that an index gives, whichever default it is read by
-pub turned : (os : List Object) (rows : Rows) (gs hs : List Granule) (ts : List row.Thread) (standing now : List Bool) (new : Option ℕ) (t : ℕ) (d q : row.Thread) (x : Thread)
-    → AreasFrom rows.region.ram gs standing 0 rows.region.trusted rows.region.end ts → t < length ts → Touches (area_begin (get_or ts t d).area) (area_end (get_or ts t d).area) gs hs
-    → OthersStand standing now t → q.area ≡ (get_or ts t d).area → thread_of hs (stands now t) q ≡ x
-    → seen_by os rows hs (set ts t q) now new ≡ record (seen_by os rows gs ts standing new) { threads = set (threads_of gs standing 0 ts) t x }
-turned os rows gs hs ts standing now new t d q x areas lt touches runs is same =
-    let g : Region = rows.region in
-    let start : 0 + t ≡ t = omega arith in
-    let l : Lies g.ram gs (stands standing (0 + t)) g.trusted g.end (get_or ts t d) = lies g.ram gs standing 0 g.trusted g.end ts t d areas lt in
-    let granules = unseen os rows gs hs (stands standing (0 + t)) (get_or ts t d) l touches in
-    let others : OthersStand standing now (0 + t) = rw start runs in
-    let here : thread_of hs (stands now (0 + t)) q ≡ x = rw start same in
-    let threads : threads_of hs now 0 (set ts t q) ≡ set (threads_of gs standing 0 ts) t x =
-    threads_put g.ram gs hs standing now 0 t g.trusted g.end ts d q x areas lt touches others here in
-    let places : map (λ (r : row.Thread). r.area) (set ts t q) ≡ map (λ (r : row.Thread). r.area) ts = places_put ts t d q is lt in
-    rw (granules, threads, places) refl
-
-pub areas_turned : (g : Region) (gs hs : List Granule) (ts : List row.Thread) (standing now : List Bool) (t : ℕ) (d q : row.Thread)
-    → AreasFrom g.ram gs standing 0 g.trusted g.end ts → t < length ts → Touches (area_begin (get_or ts t d).area) (area_end (get_or ts t d).area) gs hs
-    → OthersStand standing now t → q.area ≡ (get_or ts t d).area → IsKept hs (stands now t) q
-    → AreasFrom g.ram hs now 0 g.trusted g.end (set ts t q)
-areas_turned g gs hs ts standing now t d q areas lt touches runs is kept =
-    let start : 0 + t ≡ t = omega arith in
-    let others : OthersStand standing now (0 + t) = rw start runs in
-    let mine : IsKept hs (stands now (0 + t)) q = rw start kept in
-    areas_put g.ram gs hs standing now 0 t g.trusted g.end ts d q areas lt touches others is mine
-
--- what a row keeps
-pub kept_of : (g : Region) (gs : List Granule) (ts : List row.Thread) (standing : List Bool) (t : ℕ) (r : row.Thread) (runs : Bool)
-    → AreasFrom g.ram gs standing 0 g.trusted g.end ts → t < length ts → r ≡ get_or ts t r → stands standing t ≡ runs → Lies g.ram gs runs g.trusted g.end r
-kept_of g gs ts standing t r runs areas lt is who =
-    let start : 0 + t ≡ t = omega arith in
-    let l : Lies g.ram gs (stands standing (0 + t)) g.trusted g.end (get_or ts t r) = lies g.ram gs standing 0 g.trusted g.end ts t r areas lt in
-    let here : stands standing (0 + t) ≡ runs = rw start who in
-    let mine : Lies g.ram gs runs g.trusted g.end (get_or ts t r) = rw here at l in
-    rw (← is) at mine
-
--- and the thread that is seen of it
-pub thread_is : (gs : List Granule) (ts : List row.Thread) (standing : List Bool) (t : ℕ) (r : row.Thread) (runs : Bool)
-    → t < length ts → r ≡ get_or ts t r → stands standing t ≡ runs → get_or (threads_of gs standing 0 ts) t nobody ≡ thread_of gs runs r
-thread_is gs ts standing t r runs lt is who =
-    let start : 0 + t ≡ t = omega arith in
-    let here : stands standing (0 + t) ≡ runs = rw start who in
-    the_thread gs standing 0 ts t r lt ∙ rw here (ap (λ (u : row.Thread). thread_of gs runs u) (sym is))
-
--- ---- one thread's turn
-
-pub set_self : {A : Type 0} (xs : List A) (t : ℕ) (d : A) → set xs t (get_or xs t d) ≡ xs
-set_self [] t d = refl
-set_self (x ∷ xs) zero d = refl
-set_self (x ∷ xs) (suc t) d = ap (λ r. x ∷ r) (set_self xs t d)
-
-pub seen_turn : (rows : Rows) (gs hs : List Granule) (ts : List row.Thread) (standing now : List Bool) (new : Option ℕ) (t : ℕ) (r q : row.Thread) (x : Thread)
-    → AreasFrom rows.region.ram gs standing 0 rows.region.trusted rows.region.end ts → HeapHolds gs rows.region rows.heap rows.front → t < length ts → r ≡ get_or ts t r
-    → Touches (area_begin r.area) (area_end r.area) gs hs → OthersStand standing now t → q.area ≡ r.area → thread_of hs (stands now t) q ≡ x
-    → seen_of hs rows (set ts t q) now new ≡ with_thread (seen_of gs rows ts standing new) t x
-seen_turn rows gs hs ts standing now new t r q x areas heap lt is touches runs place same =
-    let start : 0 + t ≡ t = omega arith in
-    let l : Lies rows.region.ram gs (stands standing t) rows.region.trusted rows.region.end r =
-    kept_of rows.region gs ts standing t r (stands standing t) areas lt is refl in
-    ap (λ (os : List Object). seen_by os rows hs (set ts t q) now new) (turn_objects gs hs rows.region rows.heap rows.front (stands standing t) r heap l touches)
-    ∙ turned (objects_of rows.heap gs) rows gs hs ts standing now new t r q x areas lt (subst (λ (u : row.Thread). Touches (area_begin u.area) (area_end u.area) gs hs) is touches)
-    runs (subst (λ (u : row.Thread). q.area ≡ u.area) is place) same
-
-pub areas_turn : (g : Region) (gs hs : List Granule) (ts : List row.Thread) (standing now : List Bool) (t : ℕ) (r q : row.Thread)
-    → AreasFrom g.ram gs standing 0 g.trusted g.end ts → t < length ts → r ≡ get_or ts t r → Touches (area_begin r.area) (area_end r.area) gs hs
-    → OthersStand standing now t → q.area ≡ r.area → IsKept hs (stands now t) q
-    → AreasFrom g.ram hs now 0 g.trusted g.end (set ts t q)
-areas_turn g gs hs ts standing now t r q areas lt is touches runs place kept =
-    areas_turned g gs hs ts standing now t r q areas lt (subst (λ (u : row.Thread). Touches (area_begin u.area) (area_end u.area) gs hs) is touches)
-    runs (subst (λ (u : row.Thread). q.area ≡ u.area) is place) kept
+hidden_is g k low high = rw (le-leb g.trusted (g.ram + 8 * k) low, lt-ltb (g.ram + 8 * k) g.end high) refl
 
 pub some_is : (t u : ℕ) → (let o : Option ℕ = Some t in o) ≡ Some u → t ≡ u
 some_is t u e = ap (λ (o : Option ℕ). unwrap_or o 0) e
 
 pub none_is : {A : Type 0} (u : ℕ) → (let o : Option ℕ = None in o) ≡ Some u → A
 none_is u e = absurd (let clash : false ≡ true = ap (λ (o : Option ℕ). is_some o) e in cc)
+
+-- this thread runs, or none
+abbrev pub only : Bool → ℕ → Option ℕ
+only runs t = then_some runs t
+
+only_is : (runs : Bool) (t : ℕ) → is_number (only runs t) t ≡ runs
+only_is true t = is_itself t
+only_is false t = refl
+
+only_beside : (runs : Bool) (t u : ℕ) → u ≢ t → is_number (only runs t) u ≡ false
+only_beside true t u no_ = elim (bool_tells (is_number (Some t) u)) [
+  | inl e ↦ absurd (no_ (sym (some_is t u (number_is (Some t) u e))))
+  | inr e ↦ e
+]
+only_beside false t u no_ = refl
 
 -- ---- whose registers stand in their rows
 
@@ -146,6 +78,9 @@ in_rows {gs} {rows} holds t e =
 pub the_runner : {gs : List Granule} {rows : Rows} → IsEngine gs rows → (t : ℕ) → rows.running ≡ Some t → t < length rows.list.items
 the_runner holds t runs = in_rows holds t (holds.runs t runs)
 
+pub runner_stands : {gs : List Granule} {rows : Rows} → IsEngine gs rows → (t : ℕ) → rows.running ≡ Some t → t < length rows.standing.items
+runner_stands {gs} {rows} holds t runs = stood_lies rows.standing.items t (holds.runs t runs)
+
 pub set_stands : (standing : List Bool) (t : ℕ) (b : Bool) → t < length standing → stands (set standing t b) t ≡ b
 set_stands standing t b lt = get_or-set_same standing t b false lt
 
@@ -153,69 +88,178 @@ pub others_stand : (standing : List Bool) (t : ℕ) (b : Bool) → OthersStand s
 others_stand standing t b = λ u no_. get_or-set_other standing t u b false no_
 
 -- read by an index, and so by any default
-pub stood_there : (standing : List Bool) (t : ℕ) (b : Bool) → b ≡ get_or standing t b → t < length standing → b ≡ true → stands standing t ≡ true
-stood_there standing t b is lt on = get_or_default standing t false b lt ∙ sym is ∙ on
-
--- there is one of them for each row
-pub each_set : {gs : List Granule} {rows : Rows} → IsEngine gs rows → (t : ℕ) (b : Bool) (q : row.Thread) → length (set rows.standing.items t b) ≡ length (set rows.list.items t q)
-each_set {gs} {rows} holds t b q = length-set rows.standing.items t b ∙ holds.sizes ∙ sym (length-set rows.list.items t q)
-
-pub each_same : {gs : List Granule} {rows : Rows} → IsEngine gs rows → (t : ℕ) (q : row.Thread) → length rows.standing.items ≡ length (set rows.list.items t q)
-each_same {gs} {rows} holds t q = holds.sizes ∙ sym (length-set rows.list.items t q)
+pub stood_is : (standing : List Bool) (t : ℕ) (b : Bool) → b ≡ get_or standing t b → t < length standing → stands standing t ≡ b
+stood_is standing t b is lt = get_or_default standing t false b lt ∙ sym is
 
 pub there_in : {gs : List Granule} {rows : Rows} → IsEngine gs rows → (t : ℕ) → t < length rows.list.items → t < length rows.standing.items
 there_in {gs} {rows} holds t lt = (let each = holds.sizes in omega (arith, lt, each))
 
--- what the row keeps of a thread that stands in it, as the one that runs does, and of one that doesn't
-pub standing_kept : (gs : List Granule) (rows : Rows) (t : ℕ) (r : row.Thread) → IsEngine gs rows → stands rows.standing.items t ≡ true → r ≡ get_or rows.list.items t r
-    → Lies rows.region.ram gs true rows.region.trusted rows.region.end r
-standing_kept gs rows t r holds stood is =
-    kept_of rows.region gs rows.list.items rows.standing.items t r true holds.areas (in_rows holds t stood) is stood
+-- ---- a thread's row
 
-pub running_kept : (gs : List Granule) (rows : Rows) (t : ℕ) (r : row.Thread) → IsEngine gs rows → rows.running ≡ Some t → r ≡ get_or rows.list.items t r
-    → Lies rows.region.ram gs true rows.region.trusted rows.region.end r
-running_kept gs rows t r holds runs is = standing_kept gs rows t r holds (holds.runs t runs) is
+-- Row r is that of thread t, and `stood` tells whether its program counter capability and its registers stand in it.
+pub record RowAt (gs : List Granule) (rows : Rows) (t : ℕ) (r : row.Thread) (stood : Bool) : Type 0 where
+  pub holds : IsEngine gs rows
+  pub there : t < length rows.list.items
+  pub is : r ≡ get_or rows.list.items t r
+  pub on : stands rows.standing.items t ≡ stood
 
-pub away_lies : (gs : List Granule) (rows : Rows) (t : ℕ) (r : row.Thread) → IsEngine gs rows → stands rows.standing.items t ≡ false → t < length rows.list.items
-    → r ≡ get_or rows.list.items t r → Lies rows.region.ram gs false rows.region.trusted rows.region.end r
-away_lies gs rows t r holds none lt is = kept_of rows.region gs rows.list.items rows.standing.items t r false holds.areas lt is none
+pub row_at : {gs : List Granule} {rows : Rows} {t : ℕ} {r : row.Thread} {b stood : Bool} → IsEngine gs rows → t < length rows.list.items
+    → r ≡ get_or rows.list.items t r → b ≡ get_or rows.standing.items t b → b ≡ stood → RowAt gs rows t r stood
+row_at {gs} {rows} {t} {r} {b} holds lt is on which =
+    record { holds = holds; there = lt; is = is; on = stood_is rows.standing.items t b on (there_in holds t lt) ∙ which }
 
--- ---- its registers go to its area
+module _ {gs : List Granule} {rows : Rows} {t : ℕ} {r : row.Thread} {stood : Bool} (w : RowAt gs rows t r stood) where
+  -- what it keeps
+  pub row_lies : Lies rows.region.ram gs stood rows.region.trusted rows.region.end r
+  row_lies =
+      let g : Region = rows.region in
+      let l = lies g.ram gs rows.standing.items 0 g.trusted g.end rows.list.items t r w.holds.areas w.there in
+      let start : 0 + t ≡ t = omega arith in
+      let here : stands rows.standing.items (0 + t) ≡ stood = rw start w.on in
+      let mine : Lies g.ram gs stood g.trusted g.end (get_or rows.list.items t r) = rw here at l in
+      rw (← w.is) at mine
 
-pub settled_areas : (gs hs : List Granule) (rows : Rows) (t : ℕ) (r q : row.Thread) → IsEngine gs rows → stands rows.standing.items t ≡ true → r ≡ get_or rows.list.items t r
-    → Touches (area_begin r.area) (area_end r.area) gs hs → q.area ≡ r.area → IsKept hs false q
-    → AreasFrom rows.region.ram hs (set rows.standing.items t false) 0 rows.region.trusted rows.region.end (set rows.list.items t q)
-settled_areas gs hs rows t r q holds stood is touches place kept =
-    let lt : t < length rows.list.items = in_rows holds t stood in
-    areas_turn rows.region gs hs rows.list.items rows.standing.items (set rows.standing.items t false) t r q holds.areas lt is touches (others_stand rows.standing.items t false) place
-    (subst (λ b. IsKept hs b q) (sym (set_stands rows.standing.items t false (there_in holds t lt))) kept)
+  -- the thread that is seen of it, and how many frames that has
+  pub row_thread : thread (engine_view gs rows) t ≡ thread_of gs stood r
+  row_thread =
+      let start : 0 + t ≡ t = omega arith in
+      let here : stands rows.standing.items (0 + t) ≡ stood = rw start w.on in
+      the_thread gs rows.standing.items 0 rows.list.items t r w.there
+      ∙ rw here (ap (λ (u : row.Thread). thread_of gs stood u) (sym w.is))
 
-pub settled_seen : (gs hs : List Granule) (rows : Rows) (t : ℕ) (r q : row.Thread) → IsEngine gs rows → stands rows.standing.items t ≡ true → r ≡ get_or rows.list.items t r
-    → Touches (area_begin r.area) (area_end r.area) gs hs → q.area ≡ r.area → thread_of hs false q ≡ thread_of gs true r
-    → seen_of hs rows (set rows.list.items t q) (set rows.standing.items t false) rows.running ≡ engine_view gs rows
-settled_seen gs hs rows t r q holds stood is touches place same =
-    let lt : t < length rows.list.items = in_rows holds t stood in
-    let here : get_or (threads_of gs rows.standing.items 0 rows.list.items) t nobody ≡ thread_of gs true r = thread_is gs rows.list.items rows.standing.items t r true lt is stood in
-    let now : thread_of hs (stands (set rows.standing.items t false) t) q ≡ get_or (threads_of gs rows.standing.items 0 rows.list.items) t nobody =
-    ap (λ b. thread_of hs b q) (set_stands rows.standing.items t false (there_in holds t lt)) ∙ same ∙ sym here in
-    let turn = seen_turn rows gs hs rows.list.items rows.standing.items (set rows.standing.items t false) rows.running t r q (get_or (threads_of gs rows.standing.items 0 rows.list.items) t nobody) holds.areas holds.heap lt is touches
-    (others_stand rows.standing.items t false) place now in
-    turn ∙ ap (λ (xs : List Thread). let s : Seen = record (engine_view gs rows) { threads = xs } in s) (set_self (threads_of gs rows.standing.items 0 rows.list.items) t nobody)
+  pub row_depth : length (thread (engine_view gs rows) t).frames ≡ r.depth
+  row_depth = ap (λ (u : Thread). length u.frames) row_thread ∙ thread_depth gs stood r
 
--- beside it who stands in a row stays, and so the thread that runs
-pub away_runs : {gs : List Granule} {rows : Rows} → IsEngine gs rows → (t : ℕ) → is_number rows.running t ≡ false
-    → (u : ℕ) → rows.running ≡ Some u → stands (set rows.standing.items t false) u ≡ true
-away_runs {gs} {rows} holds t off u runs = elim (cases_eq u t) [
-  | inl e ↦ absurd (let clash : false ≡ true = sym off ∙ ap (λ o. is_number o t) runs ∙ ap (λ n. is_number (Some n) t) e ∙ is_itself t in cc)
-  | inr no_ ↦ others_stand rows.standing.items t false u no_ ∙ holds.runs u runs
-]
+-- ---- its turn
 
-pub away_settled : {gs : List Granule} {rows : Rows} → IsEngine gs rows → (t : ℕ) → t < length rows.list.items → rows.loose ≡ false
-    → (u : ℕ) → stands (set rows.standing.items t false) u ≡ true → rows.running ≡ Some u
-away_settled {gs} {rows} holds t lt tight u stood = elim (cases_eq u t) [
-  | inl e ↦ absurd (let clash : false ≡ true = sym (set_stands rows.standing.items t false (there_in holds t lt)) ∙ ap (λ n. stands (set rows.standing.items t false) n) (sym e) ∙ stood in cc)
-  | inr no_ ↦ holds.alone tight u (sym (others_stand rows.standing.items t false u no_) ∙ stood)
-]
+-- these rows, of which thread t's is another; who stands in a row and who runs are as in others
+abbrev pub turned : Rows → Rows → ℕ → row.Thread → Rows
+turned rows new t q =
+    record rows { list = with_item rows.list t q; standing = new.standing; running = new.running }
+
+-- Row r of thread t becomes q, in which it stands or not, and memory another where its area lies. Beside it nobody
+-- comes to stand in a row or to run, or stops to.
+pub record Turn (gs hs : List Granule) (rows new : Rows) (t : ℕ) (r q : row.Thread) (stood now : Bool) : Type 0 where
+  pub row : RowAt gs rows t r stood
+  pub touches : Touches (area_begin r.area) (area_end r.area) gs hs
+  pub place : q.area ≡ r.area
+  pub kept : IsKept hs now q
+  pub on : stands new.standing.items t ≡ now
+  pub runs : is_number new.running t ≡ now
+  pub size : length new.standing.items ≡ length rows.standing.items
+  pub others : OthersStand rows.standing.items new.standing.items t
+  pub beside : (u : ℕ) → u ≢ t → is_number new.running u ≡ is_number rows.running u
+
+module _ {gs hs : List Granule} {rows new : Rows} {t : ℕ} {r q : row.Thread} {stood now : Bool}
+    (u : Turn gs hs rows new t r q stood now) where
+  places_stay : map (λ (x : row.Thread). x.area) (set rows.list.items t q) ≡ map (λ (x : row.Thread). x.area) rows.list.items
+  places_stay = map-set_same (λ (x : row.Thread). x.area) rows.list.items t q r (u.place ∙ ap (λ (x : row.Thread). x.area) u.row.is)
+
+  running_stands : (v : ℕ) → new.running ≡ Some v → stands new.standing.items v ≡ true
+  running_stands v e =
+      let number : is_number new.running v ≡ true = ap (λ o. is_number o v) e ∙ is_itself v in
+      elim (cases_eq v t) [
+        | inl same ↦ subst (λ n. stands new.standing.items n ≡ true) (sym same)
+            (u.on ∙ sym u.runs ∙ subst (λ n. is_number new.running n ≡ true) same number)
+        | inr no_ ↦ u.others v no_ ∙ u.row.holds.runs v (number_is rows.running v (sym (u.beside v no_) ∙ number))
+      ]
+
+  standing_runs : rows.loose ≡ false → (v : ℕ) → stands new.standing.items v ≡ true → new.running ≡ Some v
+  standing_runs tight v stood_ = number_is new.running v (elim (cases_eq v t) [
+    | inl same ↦ subst (λ n. is_number new.running n ≡ true) (sym same)
+        (u.runs ∙ sym u.on ∙ subst (λ n. stands new.standing.items n ≡ true) same stood_)
+    | inr no_ ↦ u.beside v no_ ∙ ap (λ o. is_number o v) (u.row.holds.alone tight v (sym (u.others v no_) ∙ stood_)) ∙ is_itself v
+  ])
+
+  rows_turn : AreasFrom rows.region.ram hs new.standing.items 0 rows.region.trusted rows.region.end (set rows.list.items t q)
+      × (threads_of hs new.standing.items 0 (set rows.list.items t q) ≡ set (threads_of gs rows.standing.items 0 rows.list.items) t (thread_of hs now q))
+  rows_turn =
+      rows_put rows.region.ram gs hs rows.standing.items new.standing.items 0 t t rows.region.trusted rows.region.end rows.list.items r q now
+      u.row.holds.areas u.row.there (omega arith) u.row.is u.touches u.others u.place u.on u.kept
+
+  heap_turn : HeapStays rows.heap gs hs
+  heap_turn = area_stays gs hs rows.region rows.heap rows.front stood r u.row.holds.heap (row_lies u.row) u.touches
+
+  -- what is kept
+  pub turn_holds : IsEngine hs (turned rows new t q)
+  turn_holds =
+      let g : Region = rows.region in
+      let old = u.row.holds in
+      record {
+        areas = rows_turn.0;
+        sizes = u.size ∙ old.sizes ∙ sym (length-set rows.list.items t q);
+        runs = running_stands;
+        alone = standing_runs;
+        stacks = subst (λ (as_ : List Area). Each (StackLies g rows.heap.range.base (8 * length hs)) as_) (sym places_stay)
+            (subst (λ n. Each (StackLies g rows.heap.range.base (8 * n)) (map (λ (x : row.Thread). x.area) rows.list.items))
+            (sym u.touches.size) old.stacks);
+        heap = heap_holds gs hs g rows.heap rows.front old.heap u.touches.size heap_turn;
+        room = old.room;
+      }
+
+  -- a change of one area isn't seen
+  unseen : (os : List Object) → with_hidden (hides_over rows.region rows.heap.range os) hs ≡ with_hidden (hides_over rows.region rows.heap.range os) gs
+  unseen os =
+      hidden_changes (hides_over rows.region rows.heap.range os) gs hs (area_begin r.area) (area_end r.area) u.touches (λ k lo hi.
+      let l = row_lies u.row in
+      let w = within (8 * length gs) r.area k l.kept.area lo hi in
+      let a = w.0 in
+      let b = w.1 in
+      let low = l.low in
+      let high = l.high in
+      let base = l.base in
+      or_left (region_hides rows.region k) _ (hidden_is rows.region k (omega (arith, a, low, base)) (omega (arith, b, high, base))))
+
+  -- what is seen
+  pub turn_sees : (x : Thread) → thread_of hs now q ≡ x
+      → engine_view hs (turned rows new t q) ≡ with_running (with_thread (engine_view gs rows) t x) new.running
+  turn_sees x same =
+      let g : Region = rows.region in
+      let ts : List row.Thread = rows.list.items in
+      let os : List Object = objects_of rows.heap gs in
+      let granules = unseen os in
+      let threads = rows_turn.1 ∙ ap (λ (y : Thread). set (threads_of gs rows.standing.items 0 ts) t y) same in
+      let places = places_stay in
+      let rest : seen_by os rows hs (set ts t q) new.standing.items new.running ≡ with_running (with_thread (engine_view gs rows) t x) new.running =
+      rw (granules, threads, places) refl in
+      ap (λ (xs : List Object). seen_by xs rows hs (set ts t q) new.standing.items new.running)
+      (heap_keeps gs hs g rows.heap rows.front u.row.holds.heap u.touches.size heap_turn).objects ∙ rest
+
+-- nothing, where the thread that is seen is the same
+pub turn_stays : {gs hs : List Granule} {rows new : Rows} {t : ℕ} {r q : row.Thread} {stood now : Bool} → Turn gs hs rows new t r q stood now
+    → thread_of hs now q ≡ thread_of gs stood r → engine_view hs (turned rows new t q) ≡ with_running (engine_view gs rows) new.running
+turn_stays {gs} {hs} {rows} {new} {t} u same =
+    turn_sees u (thread (engine_view gs rows) t) (same ∙ sym (row_thread u.row))
+    ∙ ap (λ (xs : List Thread). let s : Seen = record (engine_view gs rows) { threads = xs; running = new.running } in s)
+    (set-get_or (engine_view gs rows).threads t nobody)
+
+-- ---- whether it stands in its row is noted anew
+
+-- these rows, of which thread t's is now stood in or not, and this one runs
+abbrev pub noted : Rows → ℕ → Bool → Option ℕ → Rows
+noted rows t now run = record rows { standing = with_item rows.standing t now; running = run }
+
+module _ {gs hs : List Granule} {rows : Rows} {t : ℕ} {r q : row.Thread} {stood now : Bool} (w : RowAt gs rows t r stood)
+    (touches : Touches (area_begin r.area) (area_end r.area) gs hs) (place : q.area ≡ r.area) (kept : IsKept hs now q) where
+  pub noted_turn : (run : Option ℕ) → is_number run t ≡ now → ((u : ℕ) → u ≢ t → is_number run u ≡ is_number rows.running u)
+      → Turn gs hs rows (noted rows t now run) t r q stood now
+  noted_turn run runs beside = record {
+    row = w;
+    touches = touches;
+    place = place;
+    kept = kept;
+    on = set_stands rows.standing.items t now (there_in w.holds t w.there);
+    runs = runs;
+    size = length-set rows.standing.items t now;
+    others = others_stand rows.standing.items t now;
+    beside = beside;
+  }
+
+  -- none ran, or it; it runs now, or none
+  pub only_turn : (ran : Bool) → rows.running ≡ only ran t → Turn gs hs rows (noted rows t now (only now t)) t r q stood now
+  only_turn ran is =
+      noted_turn (only now t) (only_is now t)
+      (λ u no_. only_beside now t u no_ ∙ sym (ap (λ o. is_number o u) is ∙ only_beside ran t u no_))
 
 -- where nobody else stands in a row
 pub one_stands : {gs : List Granule} {rows : Rows} → IsEngine gs rows → ((u : ℕ) → stands rows.standing.items u ≡ true → rows.running ≡ Some u)
@@ -262,15 +306,10 @@ settles_all was old gs rows count s le u stood = s.away u (let lt = in_rows s.ho
 
 pub tight_holds : (was : List Granule) (old : Rows) (gs : List Granule) (rows : Rows) (count : ℕ) → Settles was old gs rows count → length rows.list.items ≤ count
     → IsEngine gs (record rows { loose = false })
-tight_holds was old gs rows count s le = record {
-  areas = s.holds.areas;
-  sizes = s.holds.sizes;
-  runs = s.holds.runs;
-  alone = λ tight. settles_all was old gs rows count s le;
-  stacks = s.holds.stacks;
-  heap = s.holds.heap;
-  room = s.holds.room;
-}
+tight_holds was old gs rows count s le =
+    let h = s.holds in
+    let alone = settles_all was old gs rows count s le in
+    record { areas = h.areas; sizes = h.sizes; runs = h.runs; alone = λ tight. alone; stacks = h.stacks; heap = h.heap; room = h.room }
 
 -- ---- a pick
 
@@ -281,80 +320,35 @@ map_same f k same (c ∷ cs) = rw (same c, map_same f k same cs) refl
 picked_same : (f k : Cap → Cap) (t : Thread) → ((c : Cap) → f c ≡ k c) → picked_with f t ≡ picked_with k t
 picked_same f k t same = rw (same t.pcc, map_same f k same t.registers) refl
 
--- the thread stood in its row before, or not, and stands in it now
-picked_on : (gs hs : List Granule) (rows : Rows) (now : List Bool) (t : ℕ) (r q : row.Thread) (stood : Bool) → IsEngine gs rows → stands rows.standing.items t ≡ stood
-    → stands now t ≡ true → OthersStand rows.standing.items now t
-    → t < length rows.list.items → r ≡ get_or rows.list.items t r → Touches (area_begin r.area) (area_end r.area) gs hs → q.area ≡ r.area
-    → thread_of hs true q ≡ picked_with (filtered_in r.area.ram gs) (thread_of gs stood r)
-    → seen_of hs rows (set rows.list.items t q) now (Some t) ≡ resumed (engine_view gs rows) t
-picked_on gs hs rows now t r q stood holds who on others lt is touches place same =
-    let l = kept_of rows.region gs rows.list.items rows.standing.items t r stood holds.areas lt is who in
-    let seen_filter : Cap → Cap = filtered_in rows.region.ram (with_hidden (hidden gs rows) gs) in
-    let here : get_or (threads_of gs rows.standing.items 0 rows.list.items) t nobody ≡ thread_of gs stood r = thread_is gs rows.list.items rows.standing.items t r stood lt is who in
-    let keep : (c : Cap) → seen_filter c ≡ filtered_in r.area.ram gs c =
-    λ c. filtered_same (hidden gs rows) rows.region.ram gs c ∙ ap (λ n. filtered_in n gs c) (sym l.base) in
-    let new : picked_with seen_filter (get_or (threads_of gs rows.standing.items 0 rows.list.items) t nobody) ≡ picked_with (filtered_in r.area.ram gs) (thread_of gs stood r) =
-    ap (λ (u : Thread). picked_with seen_filter u) here ∙ picked_same seen_filter (filtered_in r.area.ram gs) (thread_of gs stood r) keep in
-    let there : thread_of hs (stands now t) q ≡ picked_with seen_filter (get_or (threads_of gs rows.standing.items 0 rows.list.items) t nobody) =
-    ap (λ b. thread_of hs b q) on ∙ same ∙ sym new in
-    seen_turn rows gs hs rows.list.items rows.standing.items now (Some t) t r q _ holds.areas holds.heap lt is touches others place there
+-- the load filter of a row's thread, over what is seen
+pub filter_seen : {gs : List Granule} {rows : Rows} {t : ℕ} {r : row.Thread} {stood : Bool} → RowAt gs rows t r stood
+    → (c : Cap) → filtered_in r.area.ram gs c ≡ filtered_in rows.region.ram (engine_view gs rows).granules c
+filter_seen {gs} {rows} w c =
+    ap (λ n. filtered_in n gs c) (row_lies w).base ∙ sym (filtered_same (hidden gs rows) rows.region.ram gs c)
 
-pub pick_areas : (gs hs : List Granule) (rows : Rows) (t : ℕ) (r q : row.Thread) → IsEngine gs rows → t < length rows.list.items
-    → r ≡ get_or rows.list.items t r → Touches (area_begin r.area) (area_end r.area) gs hs → q.area ≡ r.area → IsKept hs true q
-    → AreasFrom rows.region.ram hs (set rows.standing.items t true) 0 rows.region.trusted rows.region.end (set rows.list.items t q)
-pick_areas gs hs rows t r q holds lt is touches place kept =
-    areas_turn rows.region gs hs rows.list.items rows.standing.items (set rows.standing.items t true) t r q holds.areas lt is touches (others_stand rows.standing.items t true) place
-    (subst (λ b. IsKept hs b q) (sym (set_stands rows.standing.items t true (there_in holds t lt))) kept)
+-- what stood in a row, or not, stands in it and has passed the filter
+pub pick_sees : {gs hs : List Granule} {rows new : Rows} {t : ℕ} {r q : row.Thread} {stood : Bool} → Turn gs hs rows new t r q stood true
+    → thread_of hs true q ≡ picked_with (filtered_in r.area.ram gs) (thread_of gs stood r) → new.running ≡ Some t
+    → engine_view hs (turned rows new t q) ≡ resumed (engine_view gs rows) t
+pick_sees {gs} {hs} {rows} {new} {t} {r} {q} {stood} u picked runs =
+    let v : Seen = engine_view gs rows in
+    let seen_filter : Cap → Cap = filtered_in rows.region.ram v.granules in
+    turn_sees u (picked_with seen_filter (thread v t))
+    (picked ∙ picked_same (filtered_in r.area.ram gs) seen_filter (thread_of gs stood r) (filter_seen u.row)
+    ∙ ap (λ (x : Thread). picked_with seen_filter x) (sym (row_thread u.row)))
+    ∙ ap (λ o. with_running (with_thread v t (picked_with seen_filter (thread v t))) o) runs
 
-pub pick_seen : (gs hs : List Granule) (rows : Rows) (t : ℕ) (r q : row.Thread) → IsEngine gs rows → stands rows.standing.items t ≡ false → t < length rows.list.items
-    → r ≡ get_or rows.list.items t r → Touches (area_begin r.area) (area_end r.area) gs hs → q.area ≡ r.area
-    → thread_of hs true q ≡ picked_with (filtered_in r.area.ram gs) (thread_of gs false r)
-    → seen_of hs rows (set rows.list.items t q) (set rows.standing.items t true) (Some t) ≡ resumed (engine_view gs rows) t
-pick_seen gs hs rows t r q holds none lt is touches place same =
-    picked_on gs hs rows (set rows.standing.items t true) t r q false holds none (set_stands rows.standing.items t true (there_in holds t lt)) (others_stand rows.standing.items t true) lt is touches place same
-
--- the thread that is picked stands in its row, and where nobody else did, nobody else does
-pub pick_runs : {gs : List Granule} {rows : Rows} → IsEngine gs rows → (t : ℕ) → t < length rows.list.items
-    → (u : ℕ) → (let o : Option ℕ = Some t in o) ≡ Some u → stands (set rows.standing.items t true) u ≡ true
-pick_runs {gs} {rows} holds t lt u e =
-    subst (λ n. stands (set rows.standing.items t true) n ≡ true) (some_is t u e) (set_stands rows.standing.items t true (there_in holds t lt))
-
-pub pick_settled : {gs : List Granule} {rows : Rows} → IsEngine gs rows → (t : ℕ) → rows.running ≡ None → rows.loose ≡ false
-    → (u : ℕ) → stands (set rows.standing.items t true) u ≡ true → (let o : Option ℕ = Some t in o) ≡ Some u
-pick_settled {gs} {rows} holds t none tight u stood = elim (cases_eq u t) [
-  | inl e ↦ ap (λ n. let o : Option ℕ = Some n in o) (sym e)
-  | inr no_ ↦ none_is u (sym none ∙ holds.alone tight u (sym (others_stand rows.standing.items t true u no_) ∙ stood))
-]
-
--- a thread that stands in its row: all that it keeps there passes the load filter
+-- a row in which its thread stands: all that it keeps there passes the load filter
 abbrev pub row_refreshed : List Granule → row.Thread → row.Thread
 row_refreshed gs r = record r { pcc = filtered_in r.area.ram gs r.pcc; regs = map (filtered_in r.area.ram gs) r.regs }
 
-refreshed_kept : (gs : List Granule) (r : row.Thread) → IsKept gs true r → IsKept gs true (row_refreshed gs r)
+pub refreshed_kept : (gs : List Granule) (r : row.Thread) → IsKept gs true r → IsKept gs true (row_refreshed gs r)
 refreshed_kept gs r k =
     let s = sifted_kept gs r k in
     record { area = s.area; room = s.room; zero = s.zero; alive = s.alive; clean = s.clean }
 
-pub refreshed_areas : (gs : List Granule) (rows : Rows) (t : ℕ) (r q : row.Thread) → IsEngine gs rows → stands rows.standing.items t ≡ true → r ≡ get_or rows.list.items t r
-    → q ≡ row_refreshed gs r → AreasFrom rows.region.ram gs rows.standing.items 0 rows.region.trusted rows.region.end (set rows.list.items t q)
-refreshed_areas gs rows t r q holds stood is passed =
-    subst (λ (u : row.Thread). AreasFrom rows.region.ram gs rows.standing.items 0 rows.region.trusted rows.region.end (set rows.list.items t u)) (sym passed)
-    (areas_turn rows.region gs gs rows.list.items rows.standing.items rows.standing.items t r (row_refreshed gs r) holds.areas (in_rows holds t stood) is
-    (unchanged gs (area_begin r.area) (area_end r.area)) (λ u no_. refl) refl
-    (subst (λ b. IsKept gs b (row_refreshed gs r)) (sym stood) (refreshed_kept gs r (standing_kept gs rows t r holds stood is).kept)))
-
-pub refreshed_seen : (gs : List Granule) (rows : Rows) (t : ℕ) (r q : row.Thread) → IsEngine gs rows → stands rows.standing.items t ≡ true → r ≡ get_or rows.list.items t r
-    → q ≡ row_refreshed gs r → seen_of gs rows (set rows.list.items t q) rows.standing.items (Some t) ≡ resumed (engine_view gs rows) t
-refreshed_seen gs rows t r q holds stood is passed =
-    let alive = (standing_kept gs rows t r holds stood is).kept.alive refl in
-    subst (λ (u : row.Thread). seen_of gs rows (set rows.list.items t u) rows.standing.items (Some t) ≡ resumed (engine_view gs rows) t) (sym passed)
-    (picked_on gs gs rows rows.standing.items t r (row_refreshed gs r) true holds stood stood (λ u no_. refl) (in_rows holds t stood) is
-    (unchanged gs (area_begin r.area) (area_end r.area)) refl
-    (alive_is gs true (row_refreshed gs r) alive ∙ ap (λ (u : Thread). picked_with (filtered_in r.area.ram gs) u) (sym (alive_is gs true r alive))))
-
--- ---- how many frames
-
-pub depth_is : (gs : List Granule) (rows : Rows) (t : ℕ) (r : row.Thread) (runs : Bool) → t < length rows.list.items → r ≡ get_or rows.list.items t r
-    → stands rows.standing.items t ≡ runs → length (thread (engine_view gs rows) t).frames ≡ r.depth
-depth_is gs rows t r runs lt is who =
-    ap (λ (u : Thread). length u.frames) (thread_is gs rows.list.items rows.standing.items t r runs lt is who) ∙ thread_depth gs runs r
+pub refreshed_thread : (gs : List Granule) (r : row.Thread) → 0 < r.depth
+    → thread_of gs true (row_refreshed gs r) ≡ picked_with (filtered_in r.area.ram gs) (thread_of gs true r)
+refreshed_thread gs r alive =
+    alive_is gs true (row_refreshed gs r) alive
+    ∙ ap (λ (u : Thread). picked_with (filtered_in r.area.ram gs) u) (sym (alive_is gs true r alive))

@@ -8,11 +8,10 @@ ghost use Rattle.ct_engine.specs.Seen.{thread};
 ghost use Rattle.ct_engine.specs.Steps.{HasWindow};
 
 use crate::engine::Engine;
-use crate::steps;
 use ct_burst::{burst, once};
 use ct_decode::Decoded;
 use ct_mem::Memory;
-use ct_threads::Window;
+use ct_threads::{Window, window_of};
 
 impl<M: Memory + Drop> Engine<M> {
     /// The addresses at which a fetch by the running thread need only ask for the tag and for a multiple of 4.
@@ -22,8 +21,8 @@ impl<M: Memory + Drop> Engine<M> {
         ensures whole { HoldsEach result (thread self.now t).pcc self.now.region.ram
             (8 * length self.now.granules) }
     {
-        let pcc = steps::pcc_ref(&self.rows, t);
-        ct_threads::window_of(pcc, &self.mem, self.rows.region.ram)
+        let pcc = &self.rows.list[t as usize].pcc;
+        window_of(pcc, &self.mem, self.rows.region.ram)
     }
 
     /// The running thread goes on by instructions that tell nothing, up to one that is left or the last that is asked

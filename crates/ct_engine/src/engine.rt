@@ -1,7 +1,7 @@
 //! The engine.
-#![tactic(auto, using(crate::proofs::Whole::the_runner))]
+#![tactic(auto, using(crate::proofs::Whole::the_runner, crate::proofs::Whole::runner_stands))]
 
-ghost use Rattle.std.specs.Prelude.{◌≡◌, ◌*◌, ◌/◌, ◌%◌, ◌<◌, Some, None, true, false, length, nat_lt, IfOk};
+ghost use Rattle.std.specs.Prelude.{◌≡◌, ◌*◌, ◌/◌, ◌%◌, ◌<◌, Some, None, true, false, length, nat_lt};
 ghost use Rattle.def_instr.specs.Shapes.{is_access};
 ghost use Rattle.def_profile.specs.declared.answers.TheConstants.{UNWOUND};
 ghost use Rattle.def_memory.specs.Accesses.{IsAccess, loaded};
@@ -10,7 +10,6 @@ ghost use Rattle.def_step.specs.Instructions.{actor_of};
 ghost use Rattle.def_step.specs.Handlers.{handler_value};
 ghost use Rattle.def_safety.specs.HiddenSteps.{IsSeen, SeesAccess};
 ghost use Rattle.ct_threads.specs.Steps.{NextInRange, IsMoved};
-ghost use Rattle.ct_engine.specs.Starts.{MayStart, started};
 ghost use Rattle.ct_engine.specs.Seen.{hides, thread, with_granules, with_running, resumed, after_jump};
 ghost use Rattle.ct_engine.specs.Steps.{space_in, next_in, HeapLies};
 ghost use Rattle.ct_switch.specs.Exports.{AreSorted};
@@ -18,26 +17,20 @@ ghost use Rattle.ct_switch.specs.Calls.{call_outcome};
 ghost use Rattle.ct_engine.specs.Calls.{TopLies, MayCall, switch_at, after_call, returned, ended_with};
 ghost use Rattle.ct_engine.specs.Handling.{MayHandle, is_handled_at, is_marked, after_trap};
 
-use crate::calls;
-use crate::handling::{handle, is_handling, value_in};
-use crate::rows::{Region, Rows};
-use crate::starting::start;
-use crate::steps::{actor, jump_to, pcc, posture, register};
-use crate::turns::pick;
-use ct_areas::Fresh;
+use crate::rows::Rows;
+use crate::turns::take_up;
 use ct_bus::Bus;
 use ct_cap::{Live, Posture, Trap};
 use ct_entry::Entries;
-use ct_heap::Heap;
 use ct_loadstore::Moved;
 use ct_mem::Memory;
 use ct_switch::Called;
-use ct_threads::{access, call_row, next};
+use ct_threads::{
+    access, call_row, end_row, handle_row, jump_row, next, read, return_row, value_of,
+};
 use def_instr::Instr;
 use def_profile::answers::UNWOUND;
-use def_refusals::NoMemory;
 use def_step::Next;
-use std::alloc::Global;
 use std::marker::Model;
 
 /// Threads over a memory that has a quota heap: their frames and saved registers stand in that memory's trusted region.
@@ -64,23 +57,6 @@ impl<M: Memory + Drop> Model for Engine<M> {
 }
 
 impl<M: Memory + Drop> Engine<M> {
-    /// Threads that start, stopped before their first step, in the order of their numbers, over a memory whose trusted
-    /// region and whose heap read as zero; the heap, in which there is no object, is laid. The one error is `NoMemory`.
-    pub fn start(
-        alloc: Global,
-        memory: M,
-        region: Region,
-        fresh: &[Fresh],
-        heap: Heap,
-    ) -> Result<Engine<M>, NoMemory>
-        requires { MayStart (M.granules memory) region fresh.now heap }
-        ensures { IfOk result (λ e. e ≡ started (M.granules memory) region fresh.now heap) }
-    {
-        let mut mem = memory;
-        let rows = start(alloc, &mut mem, region, fresh, heap)?;
-        Ok(Engine { mem, rows })
-    }
-
     /// The bytes of RAM.
     pub fn size(&self) -> u32
         ensures { result ≡ 8 * length self.now.granules }
@@ -92,7 +68,7 @@ impl<M: Memory + Drop> Engine<M> {
     pub fn count(&self) -> usize
         ensures { result ≡ length self.now.threads }
     {
-        self.rows.count()
+        self.rows.list.len()
     }
 
     /// The thread that runs.
@@ -118,7 +94,7 @@ impl<M: Memory + Drop> Engine<M> {
         requires number { number < 16 }
         ensures { result ≡ register (thread self.now t) number }
     {
-        register(&self.rows, t, number)
+        read(&self.rows.list[t as usize].regs, number)
     }
 
     /// The program counter capability of the running thread.
@@ -127,7 +103,7 @@ impl<M: Memory + Drop> Engine<M> {
         requires { self.now.running ≡ Some t }
         ensures { result ≡ (thread self.now t).pcc }
     {
-        pcc(&self.rows, t)
+        self.rows.list[t as usize].pcc
     }
 
     /// The posture of the running thread.
@@ -135,7 +111,7 @@ impl<M: Memory + Drop> Engine<M> {
         requires { self.now.running ≡ Some t }
         ensures { result ≡ (thread self.now t).posture }
     {
-        posture(&self.rows, t)
+        self.rows.list[t as usize].posture
     }
 
     /// The compartment of the running thread's innermost frame, of which it has one.
@@ -144,7 +120,7 @@ impl<M: Memory + Drop> Engine<M> {
         ensures is { result ≡ actor_of (thread self.now t).frames }
         ensures some { 0 < length (thread self.now t).frames }
     {
-        actor(&self.rows, t)
+        self.rows.list[t as usize].actor
     }
 
     /// The running thread goes on elsewhere, with this posture, and a register gets a value, which register 0 drops.
@@ -153,7 +129,7 @@ impl<M: Memory + Drop> Engine<M> {
         requires to { to < 16 }
         ensures { self.new ≡ after_jump self.old t pcc posture to value }
     {
-        jump_to(&mut self.rows, t, pcc, posture, to, value);
+        jump_row(&mut self.rows.list[t as usize], pcc, posture, to, value);
     }
 
     /// The running thread stops. Nothing else changes.
@@ -172,7 +148,10 @@ impl<M: Memory + Drop> Engine<M> {
         requires alive { 0 < length (thread self.old t).frames }
         ensures { self.new ≡ resumed self.old t }
     {
-        pick(&mut self.rows, &mut self.mem, t);
+        let stood = self.rows.standing[t as usize];
+        take_up(&mut self.rows.list[t as usize], &mut self.mem, stood);
+        self.rows.standing[t as usize] = true;
+        self.rows.running = Some(t);
     }
 
     /// The running thread calls the export whose capability stands in c6, as the switcher does.
@@ -199,7 +178,19 @@ impl<M: Memory + Drop> Engine<M> {
         ensures result { result ≡ nat_lt 1 (length (thread self.old t).frames) }
         ensures is { self.new ≡ returned self.old e.now t }
     {
-        calls::return_to_caller(&mut self.rows, &mut self.mem, t, e)
+        let back = return_row(&mut self.rows.list[t as usize], &mut self.mem, e);
+        self.rows.stay(t, back)
+    }
+
+    /// The innermost frame of the running thread ends with a value. `false` exactly where it was the thread's last.
+    fn end_with(&mut self, t: u32, value: u32) -> bool
+        requires runs { self.old.running ≡ Some t }
+        requires top { TopLies self.old t }
+        ensures result { result ≡ nat_lt 1 (length (thread self.old t).frames) }
+        ensures is { self.new ≡ ended_with self.old t value }
+    {
+        let more = end_row(&mut self.rows.list[t as usize], &mut self.mem, value);
+        self.rows.stay(t, more)
     }
 
     /// The innermost frame of the running thread is unwound after a trap: the return with c10 = -1 and c11 = 0. `false`
@@ -210,7 +201,7 @@ impl<M: Memory + Drop> Engine<M> {
         ensures result { result ≡ nat_lt 1 (length (thread self.old t).frames) }
         ensures is { self.new ≡ ended_with self.old t UNWOUND }
     {
-        calls::end_with(&mut self.rows, &mut self.mem, t, UNWOUND)
+        self.end_with(t, UNWOUND)
     }
 
     /// The running thread trapped: its compartment's error handler, the export with this number, is entered where
@@ -224,7 +215,13 @@ impl<M: Memory + Drop> Engine<M> {
         ensures result { result ≡ is_handled_at self.old t handler }
         ensures is { self.new ≡ after_trap self.old e.now t handler trap }
     {
-        handle(&mut self.rows, &mut self.mem, t, e, handler, trap)
+        handle_row(
+            &mut self.rows.list[t as usize],
+            &mut self.mem,
+            e,
+            handler,
+            trap,
+        )
     }
 
     /// Whether the error handler of the running thread's innermost frame was entered.
@@ -232,7 +229,7 @@ impl<M: Memory + Drop> Engine<M> {
         requires { self.now.running ≡ Some t }
         ensures { result ≡ is_marked (thread self.now t).frames }
     {
-        is_handling(&self.rows, t)
+        self.rows.list[t as usize].handling
     }
 
     /// The innermost frame of the running thread, whose error handler was entered, ends: where the address of c10 is 1
@@ -244,8 +241,8 @@ impl<M: Memory + Drop> Engine<M> {
         ensures result { result ≡ nat_lt 1 (length (thread self.old t).frames) }
         ensures is { self.new ≡ ended_with self.old t (handler_value (thread self.old t)) }
     {
-        let value = value_in(&self.rows, t);
-        calls::end_with(&mut self.rows, &mut self.mem, t, value)
+        let value = value_of(self.register(t, 10), self.register(t, 11));
+        self.end_with(t, value)
     }
 
     /// What stands at an address, where nothing is hidden: an instruction, the return, another native routine by its

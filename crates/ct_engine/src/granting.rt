@@ -1,4 +1,5 @@
 //! Objects are allocated and freed.
+#![tactic(auto, using(crate::proofs::Whole::the_runner))]
 
 ghost use Rattle.std.specs.Prelude.{◌≡◌, ◌-◌, ◌≤◌, ◌<◌, Some, None, length, IfOk, MatchResult};
 ghost use Rattle.def_profile.specs.declared.limits.TheConstants.{MOST_STEPS};
@@ -7,9 +8,9 @@ ghost use Rattle.ct_engine.specs.Grants.{new_object, after_allocation, allocatio
 ghost use Rattle.ct_engine.specs.Seen.{limit_at};
 
 use crate::engine::Engine;
-use crate::steps::filter_registers;
 use ct_heap::{HeapRefusal, NotWhole, Object};
 use ct_mem::Memory;
+use ct_threads::filter_row;
 
 impl<M: Memory + Drop> Engine<M> {
     /// An object of so many bytes, charged to a quota, at the least lawful place. Memory is seen as before: the
@@ -42,7 +43,7 @@ impl<M: Memory + Drop> Engine<M> {
     {
         let object = self.rows.heap.free(&mut self.mem, quota, base, top)?;
         self.rows.tokens.drop_row(object.number);
-        filter_registers(&mut self.rows, &self.mem, t);
+        filter_row(&mut self.rows.list[t as usize], &self.mem);
         Ok(object)
     }
 

@@ -2,10 +2,10 @@
 
 ghost use Rattle.std.specs.Prelude.{ℕ, ◌≡◌, ◌*◌, ◌<◌, true, false, length, replicate, IfOk};
 ghost use Rattle.def_memory.specs.Granules.{plain, cap_in};
-ghost use Rattle.ct_engine.specs.Kept.{IsEngine};
-ghost use Rattle.ct_engine.specs.Seen.{engine_view, region_hides};
+ghost use Rattle.ct_engine.specs.Seen.{region_hides};
 ghost use Rattle.ct_engine.specs.Starts.{AreFresh, HaveBegun, MayStart, started};
 
+use crate::engine::Engine;
 use crate::rows::{Region, Rows};
 use ct_areas::{Fresh, Thread};
 use ct_heap::Heap;
@@ -48,32 +48,35 @@ fn none_standing(alloc: Global, threads: usize) -> Result<Vec<bool>, NoMemory>
     Ok(standing)
 }
 
-/// Threads start, and the heap is laid. The one error is `NoMemory`.
-pub(crate) fn start<M: Memory>(
-    alloc: Global,
-    mem: &mut M,
-    region: Region,
-    fresh: &[Fresh],
-    heap: Heap,
-) -> Result<Rows, NoMemory>
-    requires { MayStart (M.granules mem.old) region fresh.now heap }
-    ensures holds { IfOk result (λ rows. IsEngine (M.granules mem.new) rows) }
-    ensures seen { IfOk result (λ rows. engine_view (M.granules mem.new) rows
-        ≡ started (M.granules mem.old) region fresh.now heap) }
-{
-    let list = begin_all(alloc, mem, region, fresh)?;
-    let standing = none_standing(alloc, list.len())?;
-    let tokens = Tokens::new(alloc, heap.length())?;
-    let mut heap = heap;
-    heap.lay(mem);
-    Ok(Rows {
-        region,
-        list,
-        running: None,
-        standing,
-        loose: false,
-        heap,
-        front: Front::idle(),
-        tokens,
-    })
+impl<M: Memory + Drop> Engine<M> {
+    /// Threads that start, stopped before their first step, in the order of their numbers, over a memory whose trusted
+    /// region and whose heap read as zero; the heap, in which there is no object, is laid. The one error is `NoMemory`.
+    pub fn start(
+        alloc: Global,
+        memory: M,
+        region: Region,
+        fresh: &[Fresh],
+        heap: Heap,
+    ) -> Result<Engine<M>, NoMemory>
+        requires { MayStart (M.granules memory) region fresh.now heap }
+        ensures { IfOk result (λ e. e ≡ started (M.granules memory) region fresh.now heap) }
+    {
+        let mut mem = memory;
+        let list = begin_all(alloc, &mut mem, region, fresh)?;
+        let standing = none_standing(alloc, list.len())?;
+        let tokens = Tokens::new(alloc, heap.length())?;
+        let mut heap = heap;
+        heap.lay(&mut mem);
+        let rows = Rows {
+            region,
+            list,
+            running: None,
+            standing,
+            loose: false,
+            heap,
+            front: Front::idle(),
+            tokens,
+        };
+        Ok(Engine { mem, rows })
+    }
 }

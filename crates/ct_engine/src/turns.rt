@@ -1,10 +1,14 @@
 //! A pick, and when threads are put away.
 
-ghost use Rattle.std.specs.Prelude.{◌≡◌, ◌≢◌, ◌<◌, ℕ, None, true, false, length, map};
+ghost use Rattle.std.specs.Prelude.{◌≡◌, ◌≢◌, ◌<◌, ℕ, true, false, length};
 ghost use Rattle.def_machine.specs.Slices.{is_number};
 ghost use Rattle.def_machine.specs.Memory.{filtered_in};
 ghost use Rattle.ct_engine.specs.Kept.{IsEngine, OnlyRunnerStands};
-ghost use Rattle.ct_engine.specs.Seen.{engine_view, stands, thread, resumed};
+ghost use Rattle.ct_engine.specs.Seen.{engine_view, stands};
+ghost use Rattle.def_machine.specs.Threads.{picked_with};
+ghost use Rattle.def_areas.specs.Touches.{Touches};
+ghost use Rattle.ct_areas.specs.Threads.{area_begin, area_end, thread_of};
+ghost use Rattle.ct_threads.specs.Kept.{IsKept};
 
 use crate::rows::Rows;
 use ct_areas::Thread;
@@ -61,59 +65,22 @@ pub(crate) fn settle<M: Memory>(rows: &mut Rows, mem: &mut M)
     rows.loose = false;
 }
 
-/// A row whose program counter capability and registers have passed the load filter.
-fn refresh<M: Memory>(row: &mut Thread, mem: &M)
-    ensures { row.new ≡ record row.old {
-      pcc = filtered_in row.old.area.ram (M.granules mem.now) row.old.pcc;
-      regs = map (filtered_in row.old.area.ram (M.granules mem.now)) row.old.regs;
-    } }
+/// A stopped thread's row as it is picked, whether it stands in it or in its area.
+pub(crate) fn take_up<M: Memory>(row: &mut Thread, mem: &mut M, stood: bool)
+    requires kept { IsKept (M.granules mem.old) stood row.old }
+    requires alive { 0 < row.old.depth }
+    ensures kept { IsKept (M.granules mem.new) true row.new }
+    ensures area { row.new.area ≡ row.old.area }
+    ensures thread { thread_of (M.granules mem.new) true row.new
+        ≡ picked_with (filtered_in row.old.area.ram (M.granules mem.old))
+        (thread_of (M.granules mem.old) stood row.old) }
+    ensures touches { Touches (area_begin row.old.area) (area_end row.old.area)
+        (M.granules mem.old) (M.granules mem.new) }
 {
-    filter_row(row, mem);
-    filter_in_place(&mut row.pcc, mem, row.area.ram);
-}
-
-/// A thread that stands in its row is picked, where none runs.
-fn go_on<M: Memory>(rows: &mut Rows, mem: &M, t: u32)
-    requires holds { IsEngine (M.granules mem.now) rows.old }
-    requires none { rows.old.running ≡ None }
-    requires stood { stands rows.old.standing.items t ≡ true }
-    ensures holds { IsEngine (M.granules mem.now) rows.new }
-    ensures seen { engine_view (M.granules mem.now) rows.new
-        ≡ resumed (engine_view (M.granules mem.now) rows.old) t }
-{
-    refresh(&mut rows.list[t as usize], mem);
-    rows.running = Some(t);
-}
-
-/// A thread that hasn't ended, and doesn't stand in its row, is picked, where none runs.
-fn take_up<M: Memory>(rows: &mut Rows, mem: &mut M, t: u32)
-    requires holds { IsEngine (M.granules mem.old) rows.old }
-    requires none { rows.old.running ≡ None }
-    requires away { stands rows.old.standing.items t ≡ false }
-    requires there { t < length rows.old.list.items }
-    requires alive { 0 < length (thread (engine_view (M.granules mem.old) rows.old) t).frames }
-    ensures holds { IsEngine (M.granules mem.new) rows.new }
-    ensures seen { engine_view (M.granules mem.new) rows.new
-        ≡ resumed (engine_view (M.granules mem.old) rows.old) t }
-{
-    pick_row(&mut rows.list[t as usize], mem);
-    rows.standing[t as usize] = true;
-    rows.running = Some(t);
-}
-
-/// A thread that hasn't ended is picked, where none runs.
-pub(crate) fn pick<M: Memory>(rows: &mut Rows, mem: &mut M, t: u32)
-    requires holds { IsEngine (M.granules mem.old) rows.old }
-    requires none { rows.old.running ≡ None }
-    requires there { t < length rows.old.list.items }
-    requires alive { 0 < length (thread (engine_view (M.granules mem.old) rows.old) t).frames }
-    ensures holds { IsEngine (M.granules mem.new) rows.new }
-    ensures seen { engine_view (M.granules mem.new) rows.new
-        ≡ resumed (engine_view (M.granules mem.old) rows.old) t }
-{
-    if rows.standing[t as usize] {
-        go_on(rows, mem, t);
+    if stood {
+        filter_row(row, mem);
+        filter_in_place(&mut row.pcc, mem, row.area.ram);
     } else {
-        take_up(rows, mem, t);
+        pick_row(row, mem);
     }
 }

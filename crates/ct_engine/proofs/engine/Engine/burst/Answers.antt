@@ -1,46 +1,30 @@
-use Rattle.std.proofs.Common.{refl, sym, ap, ◌∙◌, subst, true}
-use Rattle.def_machine.specs.State.{Thread}
-use Rattle.ct_areas.specs.Threads.{living}
-use Rattle.ct_threads.specs.Windows.{IsWindow}
-use Rattle.ct_burst.specs.Going.{running_thread}
-use Rattle.ct_engine.specs.Seen.{Seen, engine_view}
-use Rattle.ct_engine.specs.Bursts.{GoesFor, StaysOpen}
-use Rattle.ct_engine.proofs.Bursts.{burst_ends, put_row, Stands}
-use Rattle.ct_engine.proofs.Goes.{running_is}
-use Rattle.ct_engine.proofs.Windows.{counter_seen, window_here}
+use Rattle.ct_engine.proofs.Bursts.{Burst, burst_holds, burst_goes, burst_window}
+use Rattle.ct_engine.proofs.Goes.{runner}
+use Rattle.ct_engine.proofs.Windows.{window_here}
 use Rattle.ct_engine.proofs.engine.Engine.burst.Given as given
 use Rattle.ct_engine.proofs.engine.Engine.burst.Goals as goal
 
 pub burst-requires-clause-window : goal.burst-requires-clause-window
 burst-requires-clause-window g c =
-    let gs = g.M.Memory.granules c.self.inside.mem in
-    let rows = c.self.inside.rows in
-    let runs = ap (λ (s : Seen). s.running) c.self.view_is ∙ c.requires.runs in
-    window_here gs rows c.args.self.now c.args.t c.index_mut.result.now.pcc c.args.window.now c.self.view_is
-    (sym (ap (λ (u : Thread). u.pcc) (running_is gs rows c.args.t c.index_mut.result.now c.self.invariant runs c.index_mut.ensures.value))) c.requires.window
+    window_here (runner c.self.invariant c.self.view_is c.requires.runs c.index_mut.ensures.value) c.self.view_is c.requires.window
 
--- what stands after the burst
-stands : (g : given.Over) (c : goal.After-self-1 g)
-    → Stands (engine_view (g.M.Memory.granules c.self.inside.mem) c.self.inside.rows) c.args.t c.burst.result (running_thread c.burst.new.row (living (g.M.Memory.granules c.self.inside.mem) true c.index_mut.result.now).frames)
-    (g.M.Memory.granules c.burst.new.mem) (put_row c.self.inside.rows c.args.t c.burst.new.row)
-stands g c =
-    burst_ends (g.M.Memory.granules c.self.inside.mem) c.self.inside.rows c.args.t c.index_mut.result.now c.args.most c.burst.result c.burst.new.row (g.M.Memory.granules c.burst.new.mem)
-    (record {
-      holds = c.self.invariant;
-      runs = ap (λ (s : Seen). s.running) c.self.view_is ∙ c.requires.runs;
-      is = c.index_mut.ensures.value;
-      opened = subst (λ (s : Seen). StaysOpen c.args.t c.args.most s) (sym c.self.view_is) c.requires.opened;
-    }) c.burst.ensures.most c.burst.ensures.goes c.burst.ensures.stays.beside
+burst : (g : given.Over) (c : goal.After-self-1 g)
+    → Burst (g.M.Memory.granules c.self.inside.mem) c.self.inside.rows c.args.self.now c.args.t c.args.most c.burst.result
+    c.index_mut.result.now c.burst.new.row (g.M.Memory.granules c.burst.new.mem)
+burst g c = record {
+  run = runner c.self.invariant c.self.view_is c.requires.runs c.index_mut.ensures.value;
+  view = c.self.view_is;
+  opened = c.requires.opened;
+  few = c.burst.ensures.most;
+  goes = c.burst.ensures.goes;
+  beside = c.burst.ensures.stays.beside;
+}
 
 pub invariant_of-self : goal.invariant_of-self
-invariant_of-self g c = (stands g c).holds
+invariant_of-self g c = burst_holds (burst g c)
 
 pub returns-clause-goes : goal.returns-clause-goes
-returns-clause-goes g c =
-    subst (λ (s : Seen). GoesFor c.args.t c.burst.result s (engine_view (g.M.Memory.granules c.burst.new.mem) (put_row c.self.inside.rows c.args.t c.burst.new.row))) c.self.view_is (stands g c).goes
+returns-clause-goes g c = burst_goes (burst g c)
 
 pub returns-clause-window : goal.returns-clause-window
-returns-clause-window g c =
-    let hs = g.M.Memory.granules c.burst.new.mem in
-    let rows = put_row c.self.inside.rows c.args.t c.burst.new.row in
-    counter_seen (λ x ram size. IsWindow c.burst.new.window x ram size) hs rows (engine_view hs rows) c.args.t c.burst.new.row.pcc refl (sym (ap (λ (u : Thread). u.pcc) (stands g c).is)) c.burst.ensures.window
+returns-clause-window g c = burst_window (burst g c) c.burst.new.window c.burst.ensures.window

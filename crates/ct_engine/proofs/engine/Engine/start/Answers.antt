@@ -3,15 +3,8 @@ use Rattle.std.proofs.lemmas.List.{length-replicate}
 use Rattle.ct_engine.specs.Seen.{stands}
 use Rattle.ct_engine.specs.declared.rows.Rows.{Rows}
 use Rattle.ct_engine.proofs.Laying.{Lays, none_stood, laid_holds, laid_seen}
-use Rattle.ct_engine.proofs.starting.start.Given as given
-use Rattle.ct_engine.proofs.starting.start.Goals as goal
-
-pub lay-requires-clause-inside : goal.lay-requires-clause-inside
-lay-requires-clause-inside g c =
-    let inside = c.requires.heap.inside in
-    let ram = c.requires.heap.ram in
-    let size = c.in_ok-list.ensures.size in
-    omega (arith, inside, ram, size)
+use Rattle.ct_engine.proofs.engine.Engine.start.Given as given
+use Rattle.ct_engine.proofs.engine.Engine.start.Goals as goal
 
 abbrev rows_of : (g : given.Over) (c : goal.After-idle g) → Rows
 rows_of g c = record {
@@ -27,7 +20,7 @@ rows_of g c = record {
 
 -- what is known once the heap is laid
 lays : (g : given.Over) (c : goal.After-idle g)
-    → Lays (g.M.Memory.granules c.args.mem.now) (g.M.Memory.granules c.begin_all.new.mem) (g.M.Memory.granules c.lay.new.mem) (rows_of g c) c.args.fresh.now c.args.heap
+    → Lays (g.M.Memory.granules c.args.memory) (g.M.Memory.granules c.begin_all.new.mem) (g.M.Memory.granules c.lay.new.mem) (rows_of g c) c.args.fresh.now c.args.heap
 lays g c = record {
   may = c.requires;
   begun = c.in_ok-list.ensures;
@@ -44,8 +37,8 @@ lays g c = record {
   room = c.in_ok-tokens.ensures.room ∙ ap (λ n. n / 16) c.length.ensures;
 }
 
-pub returns-clause-holds : goal.returns-clause-holds
-returns-clause-holds g c = laid_holds _ _ (g.M.Memory.granules c.lay.new.mem) (rows_of g c) c.args.fresh.now c.args.heap (lays g c)
+pub invariant_of-result : goal.invariant_of-result
+invariant_of-result g c = laid_holds _ _ (g.M.Memory.granules c.lay.new.mem) (rows_of g c) c.args.fresh.now c.args.heap (lays g c)
 
-pub returns-clause-seen : goal.returns-clause-seen
-returns-clause-seen g c = laid_seen _ _ (g.M.Memory.granules c.lay.new.mem) (rows_of g c) c.args.fresh.now c.args.heap (lays g c)
+pub returns : goal.returns
+returns g c = laid_seen _ _ (g.M.Memory.granules c.lay.new.mem) (rows_of g c) c.args.fresh.now c.args.heap (lays g c)
