@@ -51,7 +51,7 @@ SURFACE = {
     "ct_handler": "Start record_at write_record fresh answer",
     "ct_sched": "Sched Status Sched::new Sched::pick Sched::tick Sched::sleep Sched::wait Sched::wake Sched::end "
                 "Sched::status",
-    "ct_boot": "First boot first_of",
+    "ct_boot": "First boot thread_start",
     "ct_machine": "Machine Event Machine::start Machine::lawful Machine::advance Machine::ended Machine::totals",
     "ct_trace": "Line line summary",
     "ct_top": "Status capfw ready",

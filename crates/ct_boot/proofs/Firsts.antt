@@ -13,7 +13,7 @@ use Rattle.ct_areas.specs.declared.thread.First.{First}
 use Rattle.ct_boot.specs.Starts.{start_of}
 use Rattle.law_image.proofs.Sounds.{compartment_is}
 
--- sixteen registers, of which four are these
+-- sixteen registers: c1, c2 and c3 are these, and each other is none
 abbrev pub registers_with : Cap → Cap → Cap → Cap → List Cap
 registers_with none sentry stack globals =
     none ∷ sentry ∷ stack ∷ globals ∷ none ∷ none ∷ none ∷ none ∷ none ∷ none ∷ none ∷ none ∷ none ∷ none ∷ none ∷ none ∷ []

@@ -31,6 +31,13 @@ use Rattle.ct_boot.proofs.Placing.{stack_lies, ends_are, begins_are, ram_is, fir
 use Rattle.law_started.proofs.Starting.{rows_start, threads_count}
 
 module _ (p : PartsRow) (s : Sound p) where
+  cap_at : (k : ℕ) → p.ram + 8 * k < p.ram + p.size → cap_in (boot_state p).granules k ≡ boot_cap p (p.ram + 8 * k)
+  cap_at k high =
+      let size = s.ram.size in
+      let few : k < granules_in p = omega (arith, high, size) in
+      let here : address_of (image_of p) k ≡ p.ram + 8 * k = ap (λ n. n + 8 * k) (sym (ram_is p)) in
+      ap (λ (g : Granule). g.cap) (same_granule p s k) ∙ booted_in p k few ∙ ap (λ x. boot_cap p x) here
+
   -- ---- the region reads as zero
 
   zero_at : (x : ℕ) → areas_begin p ≤ x → x < areas_end p → boot_cap p x ≡ plain 0
@@ -47,10 +54,7 @@ module _ (p : PartsRow) (s : Sound p) where
   clear_at : (k : ℕ) → areas_begin p ≤ p.ram + 8 * k → p.ram + 8 * k < areas_end p → cap_in (boot_state p).granules k ≡ plain 0
   clear_at k low high =
       let end = ends_in_ram p s in
-      let size = s.ram.size in
-      let few : k < granules_in p = omega (arith, high, end, size) in
-      let here : address_of (image_of p) k ≡ p.ram + 8 * k = ap (λ n. n + 8 * k) (sym (ram_is p)) in
-      ap (λ (g : Granule). g.cap) (same_granule p s k) ∙ booted_in p k few ∙ ap (λ x. boot_cap p x) here ∙ zero_at (p.ram + 8 * k) low high
+      cap_at k (omega (arith, high, end)) ∙ zero_at (p.ram + 8 * k) low high
 
   pub region_clear : (k : ℕ) → region_hides (region_of (image_of p)) k ≡ true → cap_in (boot_state p).granules k ≡ plain 0
   region_clear k hidden =
@@ -89,11 +93,7 @@ module _ (p : PartsRow) (s : Sound p) where
   heap_zero x low = ap (λ o. content_at p o x) (none_there p x (λ i r is lies. let end = (s.laid.each i r is).high in let lt = lies.1 in omega (arith, end, lt, low)))
 
   heap_clear : (k : ℕ) → p.heap ≤ p.ram + 8 * k → p.ram + 8 * k < p.ram + p.size → cap_in (boot_state p).granules k ≡ plain 0
-  heap_clear k low high =
-      let size = s.ram.size in
-      let few : k < granules_in p = omega (arith, high, size) in
-      let here : address_of (image_of p) k ≡ p.ram + 8 * k = ap (λ n. n + 8 * k) (sym (ram_is p)) in
-      ap (λ (g : Granule). g.cap) (same_granule p s k) ∙ booted_in p k few ∙ ap (λ x. boot_cap p x) here ∙ heap_zero (p.ram + 8 * k) low
+  heap_clear k low high = cap_at p s k high ∙ heap_zero (p.ram + 8 * k) low
 
   holds : (limits : List ℕ) → Empty (empty (heap_range p) limits) → MayHold (boot_state p).granules (region_of (image_of p)) (empty (heap_range p) limits)
   holds limits none =

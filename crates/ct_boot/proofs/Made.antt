@@ -3,62 +3,25 @@ use Rattle.std.proofs.Common.{ℕ, List, ◌≡◌, ◌+◌, ◌*◌, ◌<◌, S
 use Rattle.ct_entry.specs.declared.rows.Gate.{Gate}
 use Rattle.ct_entry.specs.declared.rows.Owner.TheVariants.{Compartment, Library}
 use Rattle.def_words.specs.declared.Cap.{Cap}
-use Rattle.def_words.specs.Derive.{executable_root, memory_root}
+use Rattle.def_words.specs.Derive.{derive, executable_root, memory_root}
 use Rattle.def_reach.specs.Roots.{gate_for}
 use Rattle.def_image.specs.Parts.{GateRow, CodeRow, CompartmentRow, ThreadRow, PartsRow}
 use Rattle.def_image.specs.Members.{compartment, library, text_base, gate_address, code_number, globals_number, library_number, stack_number, library_gate_number}
-use Rattle.def_image.specs.Sound.{Sound}
+use Rattle.def_image.specs.Sound.{Names, Sound}
 use Rattle.def_boot.specs.Entries.{code_row, globals_row, stack_row}
-use Rattle.def_boot.specs.Gates.{gate, gates_of}
+use Rattle.def_boot.specs.Gates.{gates_of}
 use Rattle.def_boot.specs.Made.{from_entry, entry_cap_as, boot_cap_of, sentry_type}
-use Rattle.def_words.specs.Derive.{derive}
 use Rattle.def_image.specs.declared.ImportRow.{ImportRow}
 use Rattle.def_image.specs.declared.SlotKind.TheVariants as slot
-use Rattle.def_image.specs.Sound.{Names}
 use Rattle.law_boot.proofs.Standing.{compartment_of, library_of, stack_of}
-use Rattle.def_boot.specs.Booting.{BootPuts}
-use Rattle.def_boot.specs.Booting.{PutsBytes}
+use Rattle.def_boot.specs.Booting.{BootPuts, PutsBytes}
 use Rattle.law_boot.proofs.Putting.{puts_slot, puts_library_slot}
 use Rattle.ct_boot.proofs.Fits.{gate_end}
 use Rattle.ct_boot.specs.Slots.{slot_cap, SlotsPut}
 use Rattle.law_image.proofs.Sounds.{compartment_is, library_is}
 
-pub code_is : (p : PartsRow) (b : ℕ) (c : CompartmentRow) → slice_get p.compartments b ≡ Some c → entry_cap_as executable_root (code_number p b) (code_row (Compartment b) c.code) c.code.base 0 ≡ boot_cap_of p (code_number p b)
-code_is p b c is = sym (compartment_of p b c is).code.made_is
-
-pub globals_are : (p : PartsRow) (b : ℕ) (c : CompartmentRow) → slice_get p.compartments b ≡ Some c → entry_cap_as memory_root (globals_number p b) (globals_row b c) c.globals 0 ≡ boot_cap_of p (globals_number p b)
-globals_are p b c is = sym (compartment_of p b c is).globals.made_is
-
 pub stack_is : (p : PartsRow) (t : ℕ) (x : ThreadRow) → slice_get p.threads t ≡ Some x → entry_cap_as memory_root (stack_number p t) (stack_row t x) (x.stack + x.stack_length) 0 ≡ boot_cap_of p (stack_number p t)
 stack_is p t x is = sym (stack_of p t x is).row.made_is
-
-pub gate_is : (p : PartsRow) (l j : ℕ) (c : CodeRow) (x : GateRow) → slice_get p.libraries l ≡ Some c → slice_get c.exports j ≡ Some x → gate_for (gates_of p) (library_gate_number p l j) ≡ gate (library_gate_number p l j) c x.row
-gate_is p l j c x is export = ((library_of p l c is).export j x export).gate_is
-
--- ---- slots
-
-puts_this : (p : PartsRow) (x : ℕ) (c d : Cap) → c ≡ d → BootPuts p x c → BootPuts p x d
-puts_this p x c d same h = subst (λ z. BootPuts p x z) same h
-
-pub slots_put : (p : PartsRow) → Sound p → (b first : ℕ) (c : CompartmentRow) → slice_get p.compartments b ≡ Some c → first ≡ code_number p b + 2 → SlotsPut p first c.code
-slots_put p s b first c is number j slot there =
-    let has = (compartment_of p b c is).slot j slot there in
-    let same : code_number p b + 2 + j ≡ first + j = omega (arith, number) in
-    record {
-      fits = ((s.compartment b c is).slot j slot there).fits;
-      owner = Compartment b;
-      puts = puts_this p (c.code.base + 8 * j) _ _ (has.made_is ∙ ap (λ n. slot_cap p (Compartment b) n (c.code.base + 8 * j) slot.row) same) (puts_slot p s b j c slot is there);
-    }
-
-pub library_slots_put : (p : PartsRow) → Sound p → (l first : ℕ) (c : CodeRow) → slice_get p.libraries l ≡ Some c → first ≡ library_number p l + 1 → SlotsPut p first c
-library_slots_put p s l first c is number j slot there =
-    let has = (library_of p l c is).slot j slot there in
-    let same : library_number p l + 1 + j ≡ first + j = omega (arith, number) in
-    record {
-      fits = ((s.library l c is).slot j slot there).fits;
-      owner = Library l;
-      puts = puts_this p (c.base + 8 * j) _ _ (has.made_is ∙ ap (λ n. slot_cap p (Library l) n (c.base + 8 * j) slot.row) same) (puts_library_slot p s l j c slot is there);
-    }
 
 -- ---- the same by other names
 
@@ -68,14 +31,42 @@ puts_at p x y c d h place what = subst (λ z. BootPuts p z d) (sym place) (subst
 pub bytes_at : (p : PartsRow) (x y : ℕ) (b d : List ℕ) → PutsBytes p x b → y ≡ x → d ≡ b → PutsBytes p y d
 bytes_at p x y b d h place what = subst (λ z. PutsBytes p z d) (sym place) (subst (λ z. PutsBytes p x z) (sym what) h)
 
-pub code_made_is : (p : PartsRow) (b : ℕ) (c : CompartmentRow) (n : ℕ) (d : CodeRow) → slice_get p.compartments b ≡ Some c → n ≡ code_number p b → d ≡ c.code → entry_cap_as executable_root n (code_row (Compartment b) d) d.base 0 ≡ boot_cap_of p (code_number p b)
-code_made_is p b c n d there number same =
-    ap (λ k. entry_cap_as executable_root k (code_row (Compartment b) d) d.base 0) number
-    ∙ ap (λ (e : CodeRow). entry_cap_as executable_root (code_number p b) (code_row (Compartment b) e) e.base 0) same
-    ∙ code_is p b c there
+-- ---- slots
 
-pub globals_made_are : (p : PartsRow) (b : ℕ) (c : CompartmentRow) (n : ℕ) → slice_get p.compartments b ≡ Some c → n ≡ globals_number p b → entry_cap_as memory_root n (globals_row b c) c.globals 0 ≡ boot_cap_of p (globals_number p b)
-globals_made_are p b c n there number = ap (λ k. entry_cap_as memory_root k (globals_row b c) c.globals 0) number ∙ globals_are p b c there
+pub slots_put : (p : PartsRow) → Sound p → (b first : ℕ) (c : CompartmentRow) → slice_get p.compartments b ≡ Some c → first ≡ code_number p b + 2 → SlotsPut p first c.code
+slots_put p s b first c is number j slot there =
+    let has = (compartment_of p b c is).slot j slot there in
+    let same : code_number p b + 2 + j ≡ first + j = omega (arith, number) in
+    record {
+      fits = ((s.compartment b c is).slot j slot there).fits;
+      owner = Compartment b;
+      puts = subst (BootPuts p (c.code.base + 8 * j))
+          (has.made_is ∙ ap (λ n. slot_cap p (Compartment b) n (c.code.base + 8 * j) slot.row) same)
+          (puts_slot p s b j c slot is there);
+    }
+
+pub library_slots_put : (p : PartsRow) → Sound p → (l first : ℕ) (c : CodeRow) → slice_get p.libraries l ≡ Some c → first ≡ library_number p l + 1 → SlotsPut p first c
+library_slots_put p s l first c is number j slot there =
+    let has = (library_of p l c is).slot j slot there in
+    let same : library_number p l + 1 + j ≡ first + j = omega (arith, number) in
+    record {
+      fits = ((s.library l c is).slot j slot there).fits;
+      owner = Library l;
+      puts = subst (BootPuts p (c.base + 8 * j))
+          (has.made_is ∙ ap (λ n. slot_cap p (Library l) n (c.base + 8 * j) slot.row) same)
+          (puts_library_slot p s l j c slot is there);
+    }
+
+-- ---- a compartment's code and globals
+
+pub code_made_is : (p : PartsRow) (b : ℕ) (c : CompartmentRow) (n : ℕ) (d : CodeRow)
+    → slice_get p.compartments b ≡ Some c → n ≡ code_number p b → d ≡ c.code
+    → entry_cap_as executable_root n (code_row (Compartment b) d) d.base 0 ≡ boot_cap_of p (code_number p b)
+code_made_is p b c n d there number same = rw (number, same) (sym (compartment_of p b c there).code.made_is)
+
+pub globals_made_are : (p : PartsRow) (b : ℕ) (c : CompartmentRow) (n : ℕ) → slice_get p.compartments b ≡ Some c → n ≡ globals_number p b
+    → entry_cap_as memory_root n (globals_row b c) c.globals 0 ≡ boot_cap_of p (globals_number p b)
+globals_made_are p b c n there number = rw number (sym (compartment_of p b c there).globals.made_is)
 
 -- ---- what a row names
 
@@ -90,4 +81,5 @@ pub library_made : (p : PartsRow) (l j : ℕ) (c : CodeRow) (x : GateRow) (n rig
     ≡ derive executable_root (library p l).base (library p l).length rights (gate_for (gates_of p) (library_gate_number p l j)).code (sentry_type (gate_for (gates_of p) (library_gate_number p l j)).posture) (from_entry n)
 library_made p l j c x n rights there export =
     sym (ap (λ (d : CodeRow). derive executable_root d.base d.length rights (gate_for (gates_of p) (library_gate_number p l j)).code (sentry_type (gate_for (gates_of p) (library_gate_number p l j)).posture) (from_entry n)) (library_is p l c there)
-    ∙ ap (λ (g : Gate). derive executable_root c.base c.length rights g.code (sentry_type g.posture) (from_entry n)) (gate_is p l j c x there export))
+    ∙ ap (λ (g : Gate). derive executable_root c.base c.length rights g.code (sentry_type g.posture) (from_entry n))
+    ((library_of p l c there).export j x export).gate_is)

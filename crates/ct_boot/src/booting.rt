@@ -27,8 +27,7 @@ fn fill<M: Memory>(parts: &Parts, mem: &mut M)
 
 /// Boots an image: memory is RAM as the image boots it.
 ///
-/// Condition: memory reads as zero, is unmarked, and has the size of the image's RAM. No memory is
-/// taken, and nothing is refused. A granule in which nothing but zeros stands isn't visited.
+/// Condition: memory reads as zero, is unmarked, and has the size of the image's RAM.
 pub fn boot<M: Memory>(image: &Image, mem: &mut M)
     requires { M.granules mem.old ≡ empty_granules image.now }
     ensures { M.granules mem.new ≡ (boot_state image.now).granules }

@@ -1,12 +1,12 @@
 //! RAM at boot: each capability and each word is written once, where it stands.
 
-ghost use Rattle.std.specs.Prelude.{◌≡◌, ◌<◌, ◌≤◌, ◌+◌, ◌*◌, ◌^◌, ℕ, Some, length, slice_get};
+ghost use Rattle.std.specs.Prelude.{◌≡◌, ◌<◌, ◌+◌, ◌*◌, ◌^◌, ℕ, Some, length, slice_get};
 ghost use Rattle.def_image.specs.Members.{text_base};
 ghost use Rattle.def_image.specs.Parts.{GateRow};
 ghost use Rattle.def_image.specs.Spelling.{export_field};
 ghost use Rattle.def_image.specs.Sound.{Sound};
 ghost use Rattle.def_boot.specs.Booting.{Booting, IsFrom, PutsBytes, Stage};
-ghost use Rattle.def_boot.specs.Written.{InCode, InCompartment, InInitial, InSealed, InTable, InFirst};
+ghost use Rattle.def_boot.specs.Written.{InCode, InCompartment, InSealed, InTable, InFirst};
 ghost use Rattle.ct_boot.specs.Slots.{SlotPut, SlotsPut};
 
 use crate::making::{own_code, own_globals};
@@ -89,18 +89,18 @@ fn put_export<M: Memory>(parts: &Parts, mem: &mut M, at: u32, export: &Export)
 }
 
 /// The rows of a compartment's exports, in the export table at an address.
-fn put_exports<M: Memory>(parts: &Parts, mem: &mut M, table: u32, code: &Code)
+fn put_exports<M: Memory>(parts: &Parts, mem: &mut M, table: u32, exports: &[Export])
     requires sound { Sound parts.now }
     requires booting { Booting parts.now (M.granules mem.old) }
-    requires fits { table + 16 + 16 * length code.now.exports < 2 ^ 32 }
-    requires puts { (j : ℕ) (x : GateRow) → slice_get code.now.exports j ≡ Some x
+    requires fits { table + 16 + 16 * length exports.now < 2 ^ 32 }
+    requires puts { (j : ℕ) (x : GateRow) → slice_get exports.now j ≡ Some x
         → PutsBytes parts.now (table + 16 + 16 * j) (export_field x.row) }
     ensures { Stage parts.now (M.granules mem.old) (M.granules mem.new)
-        (IsFrom (table + 16) (table + 16 + 16 * length code.now.exports)) }
+        (IsFrom (table + 16) (table + 16 + 16 * length exports.now)) }
 {
-    for index in 0..code.exports.len() {
+    for index in 0..exports.len() {
         let at = table + TABLE_HEAD + TABLE_ROW * index as u32;
-        put_export(parts, mem, at, &code.exports[index]);
+        put_export(parts, mem, at, &exports[index]);
     }
 }
 
@@ -112,7 +112,8 @@ fn put_table<M: Memory>(parts: &Parts, mem: &mut M, of: usize, own: &Compartment
     ensures { Stage parts.now (M.granules mem.old) (M.granules mem.new) (InTable own.now) }
 {
     put_head(parts, mem, of, own);
-    put_exports(parts, mem, own.table, &own.code);
+    let code = &own.code;
+    put_exports(parts, mem, own.table, code.exports.as_slice());
 }
 
 /// All that stands in RAM for a compartment: slots and text, the export table, and what the globals

@@ -8,10 +8,9 @@ ghost use Rattle.ct_heap.specs.Effects.{AreFew, Empty, empty};
 ghost use Rattle.ct_boot.specs.Launching.{heap_range, launched};
 ghost use Rattle.ct_boot.specs.Placed.{ArePlaced, AreFirst};
 
-use crate::areas::region_of;
 use crate::booting::boot;
 use crate::fresh::{areas_begin, threads_of};
-use ct_engine::{Engine, Heap};
+use ct_engine::{Engine, Heap, Region};
 use ct_image::Image;
 use ct_image_parts::Parts;
 use ct_mem::Memory;
@@ -42,7 +41,11 @@ fn engine_of<M: Memory + Drop>(
     ensures { IfOk result (λ e. e ≡ launched parts.now limits.now) }
 {
     let threads = threads_of(alloc, parts)?;
-    let region = region_of(parts, areas_begin(parts), threads.end);
+    let region = Region {
+        ram: parts.ram,
+        trusted: areas_begin(parts),
+        end: threads.end,
+    };
     let heap = heap_of(alloc, parts, limits)?;
     Engine::start(alloc, mem, region, threads.fresh.as_slice(), heap)
 }

@@ -7,7 +7,6 @@
 //! machine's image (specs/Placed). docs/use/machine.md tells the same in prose.
 #![tactic(auto)]
 
-mod areas;
 mod booting;
 mod filling;
 mod fresh;
@@ -21,4 +20,4 @@ mod starting;
 pub use booting::boot;
 pub use ct_areas::First;
 pub use launching::launch;
-pub use starting::first_of;
+pub use starting::thread_start;

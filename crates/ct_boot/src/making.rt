@@ -4,7 +4,6 @@ ghost use Rattle.std.specs.Prelude.{◌≡◌, ◌+◌, ◌^◌, ◌<◌, ℕ};
 ghost use Rattle.ct_entry.specs.declared.rows.Owner.{Owner};
 ghost use Rattle.def_boot.specs.Entries as spec;
 ghost use Rattle.def_boot.specs.Made.{from_entry, entry_cap_as};
-ghost use Rattle.def_memory.specs.Granules.{plain};
 ghost use Rattle.def_words.specs.Derive.{derive, executable_root, memory_root, sealing_root};
 
 use ct_cap::{Live, Shadow, derive};

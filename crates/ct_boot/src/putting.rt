@@ -1,6 +1,6 @@
 //! One granule, and bytes from an address on.
 
-ghost use Rattle.std.specs.Prelude.{◌≡◌, ◌<◌, ◌≤◌, ◌+◌, ◌*◌, ◌^◌, length};
+ghost use Rattle.std.specs.Prelude.{◌≡◌, ◌<◌, ◌+◌, ◌*◌, ◌^◌, length};
 ghost use Rattle.def_boot.specs.Contents as spec;
 ghost use Rattle.def_boot.specs.Contents.{byte_or_zero};
 ghost use Rattle.def_image.specs.Sound.{Sound};

@@ -1,6 +1,6 @@
 //! The capabilities of slots, by their kinds.
 
-ghost use Rattle.std.specs.Prelude.{◌≡◌, ◌+◌, ◌*◌, ◌^◌, ◌<◌, ◌≤◌, ℕ};
+ghost use Rattle.std.specs.Prelude.{◌≡◌, ◌+◌, ◌*◌, ◌^◌, ◌<◌, ◌≤◌};
 ghost use Rattle.ct_entry.specs.declared.rows.Owner.{Owner};
 ghost use Rattle.def_boot.specs.Entries.{native_address};
 ghost use Rattle.def_boot.specs.Gates.{gates_of};
@@ -16,7 +16,7 @@ ghost use Rattle.def_native.specs.declared.TheConstants.{LAST_NATIVE};
 ghost use Rattle.def_profile.specs.declared.native.TheConstants as native;
 ghost use Rattle.def_profile.specs.declared.seals.TheConstants as seals;
 ghost use Rattle.def_reach.specs.Roots.{gate_for};
-ghost use Rattle.def_words.specs.Derive.{derive, executable_root, memory_root, sealing_root};
+ghost use Rattle.def_words.specs.Derive.{derive, executable_root, memory_root};
 ghost use Rattle.ct_boot.specs.Slots.{slot_cap};
 
 use crate::making::{code_made, key_made, memory_made};

@@ -79,7 +79,9 @@ pub(crate) fn first_at(parts: &Parts, index: usize, thread: &Thread) -> First
 }
 
 /// How the thread of this index starts.
-pub fn first_of(image: &Image, index: u32) -> First
+///
+/// Condition: the image has a thread of this index.
+pub fn thread_start(image: &Image, index: u32) -> First
     requires { index < length image.now.threads }
     ensures { result ≡ start_of (thread (boot_state image.now) index) }
 {

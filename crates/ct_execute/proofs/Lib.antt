@@ -2,4 +2,3 @@ pub mod Bursting
 pub mod Ends
 pub mod Executed
 pub mod Opens
-pub mod Reaching

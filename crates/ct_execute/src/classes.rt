@@ -72,10 +72,7 @@ fn execute_jump<M: Memory + Drop>(
     let named = called(entries, x.cap.shadow.root);
     match flow(instruction, x, y, engine.pcc(t), engine.posture(t), named) {
         Ok(went) => {
-            let link = match went.link {
-                Some(link) => link,
-                None => Live::integer(0),
-            };
+            let link = went.link.unwrap_or(Live::integer(0));
             engine.jump_to(t, went.pcc, went.posture, operands.to, link);
             Ran::Went { done: None }
         }
@@ -108,10 +105,7 @@ fn execute_access<M: Memory + Drop>(
     let y = engine.register(t, operands.second);
     match engine.loadstore(instruction, x, y, heap, bus, time) {
         Ok(moved) => {
-            let value = match moved.value {
-                Some(value) => value,
-                None => Live::integer(0),
-            };
+            let value = moved.value.unwrap_or(Live::integer(0));
             advance(engine, t, operands.to, value);
             Ran::Went {
                 done: done_by(moved.device, x.cap.shadow.root),

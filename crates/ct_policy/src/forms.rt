@@ -63,7 +63,7 @@ fn export_of(name: &[u8]) -> Option<ResourceName<'_>>
 }
 
 /// What has this name, by the word of its kind.
-fn resource_of<'a>(word: &[u8], name: &'a [u8]) -> Option<ResourceName<'a>>
+fn resource_in<'a>(word: &[u8], name: &'a [u8]) -> Option<ResourceName<'a>>
     ensures { option_map resource_row result ≡ spec.resource_in word.now name.now }
 {
     if is(word, "device") {
@@ -89,7 +89,7 @@ fn only_of<'a>(word: &[u8], words: &'a [&'a [u8]]) -> Option<Rule<'a>>
         [name, rest @ ..] => (*name, rest),
         _ => return None,
     };
-    let resource = match resource_of(word, name) {
+    let resource = match resource_in(word, name) {
         Some(resource) => resource,
         None => return None,
     };

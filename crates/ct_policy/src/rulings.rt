@@ -80,6 +80,7 @@ fn apart(owner: Option<Owner>, compartment: Option<u32>) -> Option<Subject>
     }
 }
 
+/// The kind of what has a name.
 fn resource_of(name: ResourceName) -> Resource
     ensures { result ≡ spec.resource_of (resource_row name.entry) }
 {

@@ -1,6 +1,8 @@
 -- Rounds up to one that tells something are as many rounds of the run.
-use Rattle.std.proofs.Common.{◌≡◌, ℕ, zero, suc, ◌+◌, ◌-◌, ◌==◌, ◌<◌, ◌≤◌, ◌⊎◌, inl, inr, nat_eq, Bool, true, false, List, [], ◌∷◌, ◌++◌, take, drop, if◌then◌else◌, None, refl, sym, ap, ◌∙◌, subst, arith}
+use Rattle.std.proofs.Common.{◌≡◌, ℕ, zero, suc, ◌+◌, ◌-◌, ◌==◌, ◌<◌, ◌≤◌, nat_eq, Bool, true, false, List, [], ◌∷◌, ◌++◌, take, drop, if◌then◌else◌, None, refl, sym, ap, ◌∙◌, subst, arith}
+use Rattle.std.specs.Prelude.{min}
 use Rattle.std.specs.List.{flat_map}
+use Rattle.std.proofs.Math.Nat.{le-min, min-le_left, min-le_right}
 use Rattle.std.proofs.lemmas.List.{append-nil}
 use Rattle.ct_entry.specs.declared.acts.Happened.{Happened}
 use Rattle.def_port.specs.Bytes.{SinkView}
@@ -8,12 +10,14 @@ use Rattle.def_port.specs.Writes.{Writes, WriteFails}
 use Rattle.def_machine.specs.Platform.{MachineRow}
 use Rattle.def_step.specs.Events.{run, happenings_of, end_of}
 use Rattle.def_trace.specs.Trace.{trace_line}
+use Rattle.def_profile.specs.declared.limits.TheConstants.{MOST_STEPS}
+use Rattle.def_script.specs.declared.Given.{Given}
 use Rattle.def_script.specs.Script.{Due, given_at}
 use Rattle.ct_machine.specs.Going.{silence}
 use Rattle.ct_machine.specs.Onward.{after_rounds, RanOn}
 use Rattle.ct_port.proofs.Pieces as pieces
 use Rattle.ct_run.specs.Rounds.{before_of, line_if, lines_of, AreBare, Came}
-use Rattle.ct_run.proofs.Going.{one_round, opens, comes, closes, breaks, text_of, Amid, Going, Run}
+use Rattle.ct_run.proofs.Going.{one_round, opens, comes, closes, breaks, room_for, text_of, Amid, Going, Run}
 use Rattle.ct_run.proofs.Ticking.{not_zero}
 
 -- ---- a round of which the step alone may tell something
@@ -81,46 +85,76 @@ reaches (suc count) r m n h done left {now} some a few bare ran =
     (λ k lt. let there : done + 1 + suc k ≡ done + 1 + 1 + k = omega arith in rw there at (bare (suc k) (omega (arith, lt))))
     (rest_ran m n count h ran))
 
--- what comes before a step came: these are left up to the tick
-pub comes_before : (r : Run) (m mid : MachineRow) (done left ahead : ℕ) {s0 s1 : SinkView} → 1 ≤ r.quantum → Going r m done left s0 → done < r.limit → end_of m.state ≡ None
-    → Came r.with_lines m mid (done + 1) (before_of (given_at r.script (done + 1)) (nat_eq left 0)) s0 s1 → ahead ≡ (if left == 0 then r.quantum else left) → Amid r mid one_round (done + 1) (ahead - 1) s1
-comes_before r m mid done left ahead some g more on came is =
-    rw is (comes r m mid (before_of (given_at r.script (done + 1)) (nat_eq left 0)) one_round (done + 1) ((if left == 0 then r.quantum else left) - 1) (opens r m done left some g more on) came)
-
+-- what comes before a step fails
 pub fails_before : (r : Run) (m : MachineRow) (done left : ℕ) {s0 s1 : SinkView} → 1 ≤ r.quantum → Going r m done left s0 → done < r.limit → end_of m.state ≡ None
     → WriteFails s0 s1 (lines_of r.with_lines m (done + 1) (before_of (given_at r.script (done + 1)) (nat_eq left 0))) → WriteFails r.before s1 (text_of r)
 fails_before r m done left some g more on w =
     breaks r m (before_of (given_at r.script (done + 1)) (nat_eq left 0)) one_round (done + 1) ((if left == 0 then r.quantum else left) - 1) (opens r m done left some g more on) w
 
-module _ (r : Run) (mid n : MachineRow) (h : Happened) (done ahead most : ℕ) {now : SinkView} (some : 1 ≤ r.quantum) (a : Amid r mid one_round (done + 1) (ahead - 1) now) (b : AreBare r.script ahead r.limit done most) where
-  reached : (count : ℕ) → 1 ≤ count → count ≤ most → RanOn mid n count h → Reached r n h (done + count) (ahead - count) now
-  reached zero above within ran = absurd (omega (arith, above))
-  reached (suc count) above within ran =
+-- or came: the machine goes on to the next tick, or as far as it may
+module _ (r : Run) {m mid : MachineRow} {done left ahead most : ℕ} {gs : List Given} {s0 now : SinkView}
+    (some : 1 ≤ r.quantum) (g : Going r m done left s0) (more : done < r.limit) (on : end_of m.state ≡ None)
+    (given : gs ≡ given_at r.script (done + 1))
+    (came : Came r.with_lines m mid (done + 1) (before_of gs (nat_eq left 0)) s0 now)
+    (next : ahead ≡ (if left == 0 then r.quantum else left)) (b : AreBare r.script ahead r.limit done most) where
+  -- these are left up to the tick
+  amid : Amid r mid one_round (done + 1) (ahead - 1) now
+  amid =
+      rw next
+      (comes r m mid (before_of (given_at r.script (done + 1)) (nat_eq left 0)) one_round (done + 1)
+      ((if left == 0 then r.quantum else left) - 1) (opens r m done left some g more on) (rw given at came))
+
+  pub may_run_on : r.limit ≤ MOST_STEPS
+      → (mid.state.counts.steps + most ≤ MOST_STEPS) × (mid.state.counts.sweeps + most ≤ MOST_STEPS)
+  may_run_on few = room_for r mid done (ahead - 1) most amid b.few few
+
+  reached : (n : MachineRow) (h : Happened) (count : ℕ) → 1 ≤ count → count ≤ most → RanOn mid n count h
+      → Reached r n h (done + count) (ahead - count) now
+  reached n h zero above within ran = absurd (omega (arith, above))
+  reached n h (suc count) above within ran =
       let made : done + suc count ≡ done + 1 + count = omega arith in
       let less : ahead - 1 ≡ ahead - suc count + count = omega (arith, b.early, within) in
       rw made
-      (reaches count r mid n h (done + 1) (ahead - suc count) some (rw less at a) (omega (arith, b.few, within))
+      (reaches count r mid n h (done + 1) (ahead - suc count) some (rw less at amid) (omega (arith, b.few, within))
       (λ k lt. let there : done + 1 + suc k ≡ done + 1 + 1 + k = omega arith in rw there at (b.bare (suc k) (omega arith) (omega (arith, lt, within)))) ran)
 
-  pub rounds_came : (count : ℕ) (new : SinkView) → 1 ≤ count → count ≤ most → RanOn mid n count h → Writes now new (line_if r.with_lines (done + count) h) → Going r n (done + count) (ahead - count) new
-  rounds_came count new above within ran w =
-      let z = reached count above within ran in
-      closes r z.m n one_round (done + count) (ahead - count) z.amid (last_came r.with_lines z.m n (done + count) h z.ran w)
+  module _ {n : MachineRow} {h : Happened} {count : ℕ} {new : SinkView}
+      (above : 1 ≤ count) (within : count ≤ most) (ran : RanOn mid n count h) where
+    pub rounds_came : Writes now new (line_if r.with_lines (done + count) h)
+        → Going r n (done + count) (ahead - count) new
+    rounds_came w =
+        let z = reached n h count above within ran in
+        closes r z.m n one_round (done + count) (ahead - count) z.amid
+        (last_came r.with_lines z.m n (done + count) h z.ran w)
 
-  pub rounds_fail : (count : ℕ) (new : SinkView) → 1 ≤ count → count ≤ most → RanOn mid n count h → WriteFails now new (line_if r.with_lines (done + count) h) → WriteFails r.before new (text_of r)
-  rounds_fail count new above within ran w =
-      let z = reached count above within ran in
-      breaks r z.m one_round [] (done + count) (ahead - count) z.amid (subst (λ t. WriteFails now new t) (sym (round_line r.with_lines z.m (done + count) h z.ran.told)) w)
+    pub rounds_fail : WriteFails now new (line_if r.with_lines (done + count) h) → WriteFails r.before new (text_of r)
+    rounds_fail w =
+        let z = reached n h count above within ran in
+        breaks r z.m one_round [] (done + count) (ahead - count) z.amid
+        (subst (λ t. WriteFails now new t) (sym (round_line r.with_lines z.m (done + count) h z.ran.told)) w)
+
+-- as many rounds as come before the next tick and up to the limit, where no byte comes
+pub most_bare : (left limit done all : ℕ) → 1 ≤ left → done < limit → all ≡ min left (limit - done) → AreBare [] left limit done all
+most_bare left limit done all some more is =
+    let early = min-le_left left (limit - done) in
+    let few = min-le_right left (limit - done) in
+    let above : 1 ≤ min left (limit - done) = le-min some (omega (arith, more)) in
+    record {
+      some = omega (arith, is, above);
+      few = omega (arith, is, few, more);
+      early = omega (arith, is, early);
+      bare = λ k after lt. refl;
+    }
 
 -- one round, and so many bare ones
-pub bare_from : (script : List Due) (left limit done all bare : ℕ) → 1 ≤ left → done < limit → all ≤ left → done + all ≤ limit → (all ≡ left) ⊎ (done + all ≡ limit) → bare ≤ all - 1
+pub bare_from : (script : List Due) (left limit done all bare : ℕ) → 1 ≤ left → done < limit → all ≡ min left (limit - done) → bare ≤ all - 1
     → ((k : ℕ) → k < bare → given_at script (done + 2 + k) ≡ []) → AreBare script left limit done (1 + bare)
-bare_from script left limit done all bare some more early few whole most none =
-    let above : 1 ≤ all = elim whole [ inl same ↦ omega (arith, same, some) | inr same ↦ omega (arith, same, more) ] in
+bare_from script left limit done all bare some more is most none =
+    let b = most_bare left limit done all some more is in
     record {
       some = omega arith;
-      few = omega (arith, above, most, few);
-      early = omega (arith, above, most, early);
+      few = omega (arith, b.some, most, b.few);
+      early = omega (arith, b.some, most, b.early);
       bare = λ k after lt.
           let there : done + 2 + (k - 1) ≡ done + 1 + k = omega (arith, after) in
           subst (λ j. given_at script j ≡ []) there (none (k - 1) (omega (arith, after, lt)));

@@ -8,7 +8,7 @@ use Rattle.def_machine.specs.Platform.{Platform, MachineRow}
 use Rattle.def_step.specs.declared.Event.{Event}
 use Rattle.def_step.specs.Events.{run, happenings_of, end_of}
 use Rattle.def_script.specs.Script.{Due}
-use Rattle.def_program.specs.Runs.{round, or_last, unless_ended, last_line, lines_from, events_from, run_lines, summary_after}
+use Rattle.def_program.specs.Runs.{round, or_last, unless_ended, last_line, lines_from, events_from, summary_after}
 use Rattle.law_routines.proofs.Appended.{run_append}
 use Rattle.ct_run.specs.Rounds.{after, line_if, lines_of, text_from}
 
@@ -31,14 +31,11 @@ text_on with_lines m script quantum k n on = rw on refl
 
 -- ---- with lines, it is the run's lines
 
-run_lines_from : (n : ℕ) (m : MachineRow) (script : List Due) (quantum k : ℕ) → text_from true m script quantum k n ≡ lines_from m.board m.state script quantum k n
+pub run_lines_from : (n : ℕ) (m : MachineRow) (script : List Due) (quantum k : ℕ) → text_from true m script quantum k n ≡ lines_from m.board m.state script quantum k n
 unfolding text_from lines_from
 run_lines_from zero m script quantum k = refl
 run_lines_from (suc n) m script quantum k =
     ap (λ t. or_last (end_of m.state) m.state (lines_of true m k (round script quantum k) ++ t)) (run_lines_from n (after m (round script quantum k)) script quantum (k + 1))
-
-pub run_lines_is : (m : MachineRow) (script : List Due) (quantum limit : ℕ) → text_from true m script quantum 1 limit ≡ run_lines m script quantum limit
-run_lines_is m script quantum limit = run_lines_from limit m script quantum 1
 
 -- ---- and without, the summary alone
 

@@ -58,9 +58,9 @@ Comes with_lines old new k events before now result =
     (λ _. WriteFails before now (lines_of with_lines old k events))
 
 -- the bytes of a script; without one none
-abbrev pub dues_of : Option (Bor Script) → List Due
-dues_of (Some script) = script.now
-dues_of None = []
+abbrev pub script_dues : Option (Bor Script) → List Due
+script_dues (Some script) = script.now
+script_dues None = []
 
 -- so many rounds may come after so many steps: before the next tick, up to the limit, and before each but the first no
 -- byte of the script

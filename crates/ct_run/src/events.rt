@@ -44,10 +44,7 @@ pub(crate) fn write_before<M: Memory + Drop, S: Sink>(
             device: given.device,
             byte: given.byte,
         };
-        match write_event(machine, event, number, with_lines, sink) {
-            Ok(()) => {}
-            Err(failed) => return Err(failed),
-        }
+        write_event(machine, event, number, with_lines, sink)?;
     }
     if due {
         return write_event(machine, Event::Tick, number, with_lines, sink);

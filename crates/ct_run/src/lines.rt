@@ -1,9 +1,6 @@
 //! The lines of an event, and the summary, each by one write.
 
-ghost use Rattle.std.specs.Prelude.{◌≡◌, unwrap_or};
-ghost use Rattle.ct_entry.specs.declared.acts.End.TheVariants.{Limit};
 ghost use Rattle.def_port.specs.Writes.{WriteAnswers};
-ghost use Rattle.def_step.specs.Events.{end_of};
 ghost use Rattle.def_trace.specs.Trace.{trace_line};
 ghost use Rattle.def_program.specs.Runs.{last_line};
 ghost use Rattle.ct_run.specs.Rounds.{line_if};
@@ -59,16 +56,6 @@ pub(crate) fn write_happened<S: Sink>(
     }
 }
 
-/// How a run ends here.
-fn end_here<M: Memory + Drop>(machine: &Machine<M>) -> End
-    ensures { result ≡ unwrap_or (end_of machine.now.state) Limit }
-{
-    match machine.ended() {
-        Some(end) => end,
-        None => End::Limit,
-    }
-}
-
 /// Writes the summary.
 pub(crate) fn write_last<M: Memory + Drop, S: Sink>(
     machine: &Machine<M>,
@@ -77,7 +64,7 @@ pub(crate) fn write_last<M: Memory + Drop, S: Sink>(
     ensures { WriteAnswers (S.shows sink.old) (S.shows sink.new)
         (last_line machine.now.state) result }
 {
-    let totals = machine.totals(end_here(machine));
+    let totals = machine.totals(machine.ended().unwrap_or(End::Limit));
     let line = summary(&totals);
     sink.write(line.as_str().as_bytes())
 }

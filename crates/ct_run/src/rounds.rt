@@ -1,11 +1,11 @@
 //! The rounds of a run, one after another.
 
-ghost use Rattle.std.specs.Prelude.{◌≡◌, ◌+◌, ◌==◌, ◌<◌, ◌≤◌, ◌⊎◌, if◌then◌else◌};
+ghost use Rattle.std.specs.Prelude.{◌≡◌, ◌+◌, ◌==◌, ◌<◌, ◌≤◌, if◌then◌else◌};
 ghost use Rattle.def_profile.specs.declared.limits.TheConstants.{MOST_STEPS};
 ghost use Rattle.def_port.specs.Writes.{WriteAnswers};
 ghost use Rattle.def_script.specs.Script.{given_at};
 ghost use Rattle.def_program.specs.Scripts.{IsPlayable};
-ghost use Rattle.ct_run.specs.Rounds.{dues_of, text_from, AreBare, MayRun};
+ghost use Rattle.ct_run.specs.Rounds.{script_dues, text_from, AreBare, MayRun};
 
 use crate::events::write_before;
 use crate::lines::{write_happened, write_last};
@@ -22,21 +22,10 @@ fn up_to_tick(left: u32, quantum: u32) -> u32
     if left == 0 { quantum } else { left }
 }
 
-/// How many rounds may come before the next tick and up to the limit.
-fn rounds_left(left: u32, limit: u32, done: u32) -> u32
-    requires { done ≤ limit }
-    ensures early { result ≤ left }
-    ensures few { done + result ≤ limit }
-    ensures all { (result ≡ left) ⊎ (done + result ≡ limit) }
-{
-    let rest = limit - done;
-    if left < rest { left } else { rest }
-}
-
 /// The bytes that come before a step: without a script none.
 #[inline(always)]
 fn given_before(script: Option<&Script>, step: u32) -> &[Given]
-    ensures { result.now ≡ given_at (dues_of script.entry) step }
+    ensures { result.now ≡ given_at (script_dues script.entry) step }
 {
     match script {
         Some(script) => script.at(step),
@@ -50,9 +39,9 @@ fn bare_rounds(script: Option<&Script>, left: u32, limit: u32, done: u32) -> u32
     requires some { 1 ≤ left }
     requires more { done < limit }
     requires limit { limit ≤ MOST_STEPS }
-    ensures { AreBare (dues_of script.entry) left limit done result }
+    ensures { AreBare (script_dues script.entry) left limit done result }
 {
-    let most = rounds_left(left, limit, done);
+    let most = left.min(limit - done);
     match script {
         Some(script) => 1 + script.bare_steps(done + 2, most - 1),
         None => most,
@@ -69,9 +58,9 @@ pub(crate) fn write_rounds<M: Memory + Drop, S: Sink>(
     sink: &mut S,
 ) -> Result<(), WriteFailed>
     requires may { MayRun machine.old quantum limit }
-    requires script { IsPlayable (dues_of script) machine.old.state }
+    requires script { IsPlayable (script_dues script) machine.old.state }
     ensures { WriteAnswers (S.shows sink.old) (S.shows sink.new)
-        (text_from with_lines machine.old (dues_of script.entry) quantum 1 limit) result }
+        (text_from with_lines machine.old (script_dues script.entry) quantum 1 limit) result }
 {
     let mut left = quantum;
     let mut done = 0;
@@ -80,25 +69,13 @@ pub(crate) fn write_rounds<M: Memory + Drop, S: Sink>(
             Some(_) => return write_last(machine, sink),
             None => {}
         }
-        match write_before(
-            machine,
-            given_before(script, done + 1),
-            left == 0,
-            done + 1,
-            with_lines,
-            sink,
-        ) {
-            Ok(()) => {}
-            Err(failed) => return Err(failed),
-        }
+        let givens = given_before(script, done + 1);
+        write_before(machine, givens, left == 0, done + 1, with_lines, sink)?;
         left = up_to_tick(left, quantum);
         let ran = machine.run_on(bare_rounds(script, left, limit, done));
         left -= ran.count;
         done += ran.count;
-        match write_happened(&ran.told, done, with_lines, sink) {
-            Ok(()) => {}
-            Err(failed) => return Err(failed),
-        }
+        write_happened(&ran.told, done, with_lines, sink)?;
     }
     write_last(machine, sink)
 }

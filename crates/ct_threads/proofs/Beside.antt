@@ -1,11 +1,10 @@
 -- What is kept of a row where its area stays, and where its stack is zeroed.
-use Rattle.std.proofs.Common.{ℕ, zero, ◌≡◌, ◌+◌, ◌-◌, ◌*◌, ◌/◌, ◌%◌, ◌<◌, ◌≤◌, inl, inr, Bool, List, length, refl, arith}
+use Rattle.std.proofs.Common.{ℕ, ◌≡◌, ◌+◌, ◌-◌, ◌*◌, ◌/◌, ◌%◌, ◌<◌, ◌≤◌, inl, inr, Bool, List, length, refl, arith}
 use Rattle.def_profile.specs.Areas.{area_length}
 use Rattle.def_memory.specs.declared.Granule.{Granule}
 use Rattle.def_memory.specs.Granules.{cap_in, plain}
 use Rattle.def_memory.specs.Ranges.{zeroed_from}
 use Rattle.law_granules.proofs.Lists.{zeroed_length, zeroed_at}
-use Rattle.def_machine.specs.State.{Thread}
 use Rattle.ct_areas.specs.declared.thread.Area.{Area}
 use Rattle.ct_areas.specs.declared.thread.Thread as row
 use Rattle.ct_areas.specs.Threads.{HasArea, area_begin, area_end, frames_most}

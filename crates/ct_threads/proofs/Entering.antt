@@ -1,5 +1,5 @@
 -- A call: where the switch enters, and what is kept of the row.
-use Rattle.std.proofs.Common.{ℕ, ◌≡◌, ◌+◌, ◌-◌, ◌^◌, ◌==◌, ◌<◌, ◌≤◌, inl, inr, Bool, true, false, nat_lt, List, length, Option, Some, None, refl, sym, ap, ◌∙◌, arith, subst}
+use Rattle.std.proofs.Common.{ℕ, ◌≡◌, ◌+◌, ◌-◌, ◌^◌, ◌==◌, ◌<◌, ◌≤◌, inl, inr, Bool, true, nat_lt, List, length, Option, Some, None, refl, sym, ap, ◌∙◌, arith, subst}
 use Rattle.std.proofs.lemmas.Bool.{eqb-false}
 use Rattle.std.proofs.Math.Nat.{div-mul-le_self}
 use Rattle.ct_entry.specs.Listed.{Listed}
@@ -40,41 +40,26 @@ pub record EntersBy (e : Listed) (base top most : ℕ) (caller : Thread) (export
   pub export_is : export ≡ called e caller
   pub high_is : high ≡ new_top base (cap_address (register caller 2))
 
-abbrev export_told : Switched → ℕ
-export_told (Enters export high) = export
-export_told _ = 0
-
-abbrev high_told : Switched → ℕ
-high_told (Enters export high) = high
-high_told _ = 0
-
-abbrev enters_told : Switched → Bool
-enters_told (Enters export high) = true
-enters_told _ = false
-
 pub enters_by : (e : Listed) (base top most : ℕ) (caller : Thread) (export high : ℕ) → switch_of e base top most caller ≡ Enters export high
     → EntersBy e base top most caller export high
 enters_by e base top most caller export high is = by_failed (first_failed (switch_checks base top caller)) refl is
   where
-    other : (w : Switched) → enters_told w ≡ false → w ≡ Enters export high → EntersBy e base top most caller export high
-    other w not same = absurd (let clash : false ≡ true = sym not ∙ ap enters_told same in cc)
-
     by_failed : (o : Option Trap) → first_failed (switch_checks base top caller) ≡ o → past_checks e base most caller o ≡ Enters export high
         → EntersBy e base top most caller export high
-    by_failed (Some why) failed same = other (Trapped why) refl same
+    by_failed (Some why) failed same = absurd cc
     by_failed None failed same =
         chosen (λ (w : Switched). w ≡ Enters export high → EntersBy e base top most caller export high) (length caller.frames == most)
         TooDeep (with_room e base (new_top base (cap_address (register caller 2))) (called e caller))
-        (λ deep so. other TooDeep refl so)
+        (λ deep so. absurd cc)
         (λ free. chosen (λ (w : Switched). w ≡ Enters export high → EntersBy e base top most caller export high)
         (nat_lt (new_top base (cap_address (register caller 2)) - base) (gate_for e.gates (called e caller)).stack)
         NoStack (Enters (called e caller) (new_top base (cap_address (register caller 2))))
-        (λ little so. other NoStack refl so)
+        (λ little so. absurd cc)
         (λ fits so. record {
           passed = failed;
           room = eqb-false (length caller.frames) most free;
-          export_is = sym (ap export_told so);
-          high_is = sym (ap high_told so);
+          export_is = cc;
+          high_is = cc;
         }))
         same
 

@@ -5,7 +5,6 @@ use Rattle.def_words.specs.declared.Cap.{Cap}
 use Rattle.def_words.specs.declared.Posture.{Posture}
 use Rattle.def_memory.specs.declared.Granule.{Granule}
 use Rattle.def_memory.specs.Granules.{plain}
-use Rattle.def_machine.specs.State.{Thread}
 use Rattle.def_machine.specs.Registers.{written}
 use Rattle.ct_areas.specs.declared.thread.Thread as row
 use Rattle.ct_threads.specs.Rows.{row_gone}

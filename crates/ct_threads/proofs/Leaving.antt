@@ -1,5 +1,5 @@
 -- A frame's end: what it leaves of a row.
-use Rattle.std.proofs.Common.{ℕ, zero, ◌≡◌, ◌+◌, ◌-◌, ◌*◌, ◌==◌, ◌<◌, ◌≤◌, ◌⊎◌, inl, inr, Bool, true, false, nat_lt, List, length, refl, sym, ap, ◌∙◌, arith, subst}
+use Rattle.std.proofs.Common.{ℕ, ◌≡◌, ◌+◌, ◌-◌, ◌*◌, ◌==◌, ◌<◌, ◌≤◌, ◌⊎◌, inl, inr, Bool, true, false, nat_lt, List, length, refl, sym, ap, ◌∙◌, arith, subst}
 use Rattle.std.proofs.lemmas.Bool.{eqb-true}
 use Rattle.law_lists.proofs.Tests.{lt_tells, chosen}
 use Rattle.def_words.specs.declared.Cap.{Cap}
@@ -7,7 +7,7 @@ use Rattle.def_memory.specs.declared.Granule.{Granule}
 use Rattle.def_memory.specs.Granules.{granule_at, blank, plain}
 use Rattle.def_memory.specs.Ranges.{zeroed_from}
 use Rattle.law_granules.proofs.Lists.{zeroed_length, zeroed_at}
-use Rattle.def_machine.specs.State.{nobody, Thread, Frame}
+use Rattle.def_machine.specs.State.{nobody, Frame}
 use Rattle.def_areas.specs.Touches.{Touches}
 use Rattle.ct_areas.specs.declared.thread.Thread as row
 use Rattle.ct_areas.specs.Threads.{area_begin, area_end, thread_of}

@@ -12,6 +12,7 @@ use Rattle.def_reach.specs.Roots.{Listing}
 use Rattle.def_image.specs.Parts.{PartsRow}
 use Rattle.def_image.specs.Sound.{Sound}
 use Rattle.def_boot.specs.Boot.{image_of}
+use Rattle.def_boot.specs.Fits.{ExportAt}
 use Rattle.def_machine.specs.Image.{Image, root, handler_entry}
 use Rattle.def_machine.specs.State.{State, register}
 use Rattle.def_machine.specs.State as state
@@ -46,53 +47,36 @@ import_is i m s t confined registers tagged sealed =
     let rooted = in_rooted i m.objects t (state.thread m t).frames (register (state.thread m t) 6) (confined.registers t 6) (sym (ap (λ (c : Cap). c.tag) six) ∙ tagged) in
     subst (λ (c : Cap). (root i c.shadow.root).origin ≡ Listing kind.Call) (sym six) (rooted.calls (sym (ap cap_seal six) ∙ sealed))
 
--- ---- of an image by its parts
-
-caller_asks : (p : PartsRow) (m : State) (s : Seen) (t : ℕ) → Sound p → ShowsCaller (image_of p) m s t → 0 < length (thread s t).frames → MayCall s t (image_of p).entries
-caller_asks p m s t sound shows some = record {
-  top = top_lies (image_of p) m s (8 * length s.granules) t shows.confined shows.placed shows.frames some;
-  sorted = image_sorted p;
-  import = λ tagged sealed.
-      let n : ℕ = (register (thread s t) 6).shadow.root in
-      let is = import_is (image_of p) m s t shows.confined shows.registers tagged sealed in
-      let size = subst (λ (gs : List Granule). p.size ≤ 8 * length gs) (sym shows.granules) (size_in p m shows.confined) in
-      enterable p (root (image_of p) n).of sound ((named p sound n).call is) s shows.region size shows.heap;
-}
-
-head_stands : (p : PartsRow) (m : State) (s : Seen) (size t n : ℕ) → Sound p → Confined (image_of p) m → IsPlaced (image_of p) size t (area_at s t)
-    → s.region ≡ region_of (image_of p) → s.granules ≡ m.granules → (root (image_of p) n).origin ≡ Listing kind.Call → HeadStands (image_of p) s t (root (image_of p) n).of
-head_stands p m s size t n sound confined placed region granules is =
-    export_stands p (root (image_of p) n).of sound ((named p sound n).call is) s region m confined granules size t placed
-
-handler_asks : (p : PartsRow) (m : State) (s : Seen) (t b : ℕ) → Sound p → ShowsCaller (image_of p) m s t → (handler_entry (image_of p) b ≡ 0 → ⊥) → IsEnterable s (image_of p).entries (handler_entry (image_of p) b)
-handler_asks p m s t b sound shows some =
+-- an export of an image by its parts is open to an engine that shows the state
+enterable_at : (p : PartsRow) (m : State) (s : Seen) (t n : ℕ) → Sound p → ShowsCaller (image_of p) m s t → ExportAt p n
+    → IsEnterable s (image_of p).entries n
+enterable_at p m s t n sound shows export =
     let size = subst (λ (gs : List Granule). p.size ≤ 8 * length gs) (sym shows.granules) (size_in p m shows.confined) in
-    enterable p (handler_entry (image_of p) b) sound (handler_at p b some) s shows.region size shows.heap
+    enterable p n sound export s shows.region size shows.heap
 
-handler_own : (p : PartsRow) (b : ℕ) → Sound p → (handler_entry (image_of p) b ≡ 0 → ⊥) → callee_of (image_of p).entries (handler_entry (image_of p) b) ≡ b
-handler_own p b sound some =
-    ap (λ (e : Listed). callee_of e (handler_entry (image_of p) b)) (entries_are p)
-    ∙ callee_is p (handler_entry (image_of p) b) sound (handler_at p b some)
-    ∙ handler_owner p b some
-
-handler_stands : (p : PartsRow) (m : State) (s : Seen) (t b : ℕ) → Sound p → ShowsCaller (image_of p) m s t → (handler_entry (image_of p) b ≡ 0 → ⊥) → HeadStands (image_of p) s t (handler_entry (image_of p) b)
-handler_stands p m s t b sound shows some =
-    export_stands p (handler_entry (image_of p) b) sound (handler_at p b some) s shows.region m shows.confined shows.granules (8 * length s.granules) t shows.placed
-
--- ---- of the machine's image
+-- ---- a call
 
 -- a thread of a confined state may call, where it has frames and an engine shows it
 pub may_call : (i : Image) (m : State) (s : Seen) (t : ℕ) → ShowsCaller i m s t → 0 < length (thread s t).frames → MayCall s t i.entries
 may_call i m s t shows some =
-    subst (λ (j : Image). ShowsCaller j m s t → MayCall s t j.entries) (sym shows.is)
-    (λ here. caller_asks shows.parts m s t shows.sound here some) shows
+    subst (λ (j : Image). ShowsCaller j m s t → MayCall s t j.entries) (sym shows.is) (λ here. record {
+      top = top_lies (image_of shows.parts) m s (8 * length s.granules) t here.confined here.placed here.frames some;
+      sorted = image_sorted shows.parts;
+      import = λ tagged sealed.
+          let n : ℕ = (register (thread s t) 6).shadow.root in
+          let is = import_is (image_of shows.parts) m s t here.confined here.registers tagged sealed in
+          let export = (named shows.parts shows.sound n).call is in
+          enterable_at shows.parts m s t (root (image_of shows.parts) n).of shows.sound here export;
+    }) shows
 
 -- the head of an export table is as boot made it, of each export that a call import names
 pub heads_stand : (i : Image) (m : State) (s : Seen) (size t n : ℕ) (p : PartsRow) → Sound p → i ≡ image_of p → Confined i m → IsPlaced i size t (area_at s t)
     → s.region ≡ region_of i → s.granules ≡ m.granules → (root i n).origin ≡ Listing kind.Call → HeadStands i s t (root i n).of
 heads_stand i m s size t n p sound booted confined placed region granules is =
     subst (λ (j : Image). Confined j m → IsPlaced j size t (area_at s t) → s.region ≡ region_of j → (root j n).origin ≡ Listing kind.Call → HeadStands j s t (root j n).of) (sym booted)
-    (λ held lies here call. head_stands p m s size t n sound held lies here granules call) confined placed region is
+    (λ held lies here call.
+    export_stands p (root (image_of p) n).of sound ((named p sound n).call call) s here m held granules size t lies)
+    confined placed region is
 
 -- what a call through an import of a confined thread asks
 pub import_stands : (i : Image) (m : State) (s : Seen) (t : ℕ) → ShowsCaller i m s t → (register (thread s t) 6).tag ≡ true
@@ -116,15 +100,21 @@ entered_stands i m s t export high shows enters =
 pub handlers_asked : (i : Image) (m : State) (s : Seen) (t b : ℕ) → ShowsCaller i m s t → (handler_entry i b ≡ 0 → ⊥) → IsEnterable s i.entries (handler_entry i b)
 handlers_asked i m s t b shows some =
     subst (λ (j : Image). ShowsCaller j m s t → (handler_entry j b ≡ 0 → ⊥) → IsEnterable s j.entries (handler_entry j b)) (sym shows.is)
-    (λ here has. handler_asks shows.parts m s t b shows.sound here has) shows some
+    (λ here has.
+    enterable_at shows.parts m s t (handler_entry (image_of shows.parts) b) shows.sound here (handler_at shows.parts b has))
+    shows some
 
 -- the handler's export is one of the compartment's own
 pub handlers_own : (i : Image) (b : ℕ) (p : PartsRow) → Sound p → i ≡ image_of p → (handler_entry i b ≡ 0 → ⊥) → callee_of i.entries (handler_entry i b) ≡ b
 handlers_own i b p sound booted some =
-    subst (λ (j : Image). (handler_entry j b ≡ 0 → ⊥) → callee_of j.entries (handler_entry j b) ≡ b) (sym booted) (λ has. handler_own p b sound has) some
+    subst (λ (j : Image). (handler_entry j b ≡ 0 → ⊥) → callee_of j.entries (handler_entry j b) ≡ b) (sym booted)
+    (λ has. ap (λ (e : Listed). callee_of e (handler_entry (image_of p) b)) (entries_are p)
+    ∙ callee_is p (handler_entry (image_of p) b) sound (handler_at p b has) ∙ handler_owner p b has) some
 
 -- the head of its export table is as boot made it
 pub handlers_stand : (i : Image) (m : State) (s : Seen) (t b : ℕ) → ShowsCaller i m s t → (handler_entry i b ≡ 0 → ⊥) → HeadStands i s t (handler_entry i b)
 handlers_stand i m s t b shows some =
     subst (λ (j : Image). ShowsCaller j m s t → (handler_entry j b ≡ 0 → ⊥) → HeadStands j s t (handler_entry j b)) (sym shows.is)
-    (λ here has. handler_stands shows.parts m s t b shows.sound here has) shows some
+    (λ here has.
+    export_stands shows.parts (handler_entry (image_of shows.parts) b) shows.sound (handler_at shows.parts b has) s
+    here.region m here.confined here.granules (8 * length s.granules) t here.placed) shows some

@@ -2,7 +2,7 @@
 //! docs/use/image.md.
 
 use crate::seen::{count_is, fewer, is, put_made};
-use ct_boot::{First, boot, first_of};
+use ct_boot::{First, boot, thread_start};
 use ct_cap::{Cap, Posture, Shadow};
 use ct_entry::{Device, DeviceKind, Devices, Mode};
 use ct_image::{Image, ImageFault, accept};
@@ -314,8 +314,8 @@ fn see_first(rt: &impl Abort, thread: u32, first: &First) {
 /// Both threads start as they are expected.
 fn see_start(rt: &impl Abort, image: &Image) {
     count_is(rt, image.parts().threads.len(), 2);
-    see_first(rt, 0, &first_of(image, 0));
-    see_first(rt, 1, &first_of(image, 1));
+    see_first(rt, 0, &thread_start(image, 0));
+    see_first(rt, 1, &thread_start(image, 1));
 }
 
 /// The image that these bytes spell.

@@ -9,11 +9,17 @@ use Rattle.ct_boot.proofs.filling.put_table.Goals as goal
 pub put_exports-requires-clause-fits : goal.put_exports-requires-clause-fits
 put_exports-requires-clause-fits g c =
     let end = table_end c.args.parts.now c.requires.sound c.args.of c.args.own.now c.requires.there in
-    let same = ap (λ o. o.table + 16 + 16 * length o.code.exports) c.own.view_is in
-    omega (arith, end, same)
+    let own = c.own.view_is in
+    let exports = c.as_slice.ensures.value ∙ ap (λ d. d.exports) c.code.view_is ∙ ap (λ o. o.code.exports) own in
+    let table = ap (λ o. o.table) own in
+    let all = ap length exports in
+    omega (arith, end, table, all)
 
 pub put_exports-requires-clause-puts : goal.put_exports-requires-clause-puts
 put_exports-requires-clause-puts g c j x is =
-    let export : slice_get c.args.own.now.code.exports j ≡ Some x = ap (λ o. slice_get o.code.exports j) (sym c.own.view_is) ∙ is in
-    bytes_at c.args.parts.now (gate_address c.args.own.now j) _ (export_field x.row) (export_field x.row) (puts_export c.args.parts.now c.requires.sound c.args.of j c.args.own.now x c.requires.there export)
-    (ap (λ o. o.table + 16 + 16 * j) c.own.view_is) refl
+    let own = c.own.view_is in
+    let exports = c.as_slice.ensures.value ∙ ap (λ d. d.exports) c.code.view_is ∙ ap (λ o. o.code.exports) own in
+    let export : slice_get c.args.own.now.code.exports j ≡ Some x = ap (λ xs. slice_get xs j) (sym exports) ∙ is in
+    bytes_at c.args.parts.now (gate_address c.args.own.now j) _ (export_field x.row) (export_field x.row)
+    (puts_export c.args.parts.now c.requires.sound c.args.of j c.args.own.now x c.requires.there export)
+    (ap (λ o. o.table + 16 + 16 * j) own) refl

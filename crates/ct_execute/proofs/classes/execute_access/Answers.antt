@@ -1,4 +1,4 @@
-use Rattle.ct_execute.proofs.Reaching.{register_seen}
+use Rattle.ct_engine.proofs.Reaching.{register_seen}
 use Rattle.ct_execute.proofs.classes.execute_access.Goals as goal
 
 pub loadstore-requires-clause-seen : goal.loadstore-requires-clause-seen

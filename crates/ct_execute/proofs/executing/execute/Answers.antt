@@ -9,7 +9,7 @@ use Rattle.ct_engine.specs.Seen.{thread}
 use Rattle.ct_engine.specs.Steps.{space_in}
 use Rattle.ct_execute.specs.declared.ran.Ran.TheVariants as ran
 use Rattle.ct_execute.specs.Deciding.{Decision, decide_instruction, around_of, named_in, Decided}
-use Rattle.ct_execute.proofs.Ends.{decided_unfinished, no_routine, fetch_fails, fetch_passes, stays_same}
+use Rattle.ct_execute.proofs.Ends.{decided_unfinished, no_routine, fetch_fails, fetch_passes}
 use Rattle.ct_execute.proofs.executing.execute.Goals as goal
 
 pub returns-in-Instruction-clause-unfinished : goal.returns-in-Instruction-clause-unfinished
@@ -28,55 +28,32 @@ returns-in-Instruction-clause-ranged g c =
     (carried_out (class_of i) i (operands_of i).to x (register w (operands_of i).second) (named_in c.args.entries.now x) (around_of w (space_in e c.args.bus.now c.args.time)))
     c.args.t e c.execute_instruction.new.engine c.args.bus.now c.execute_instruction.new.bus c.execute_instruction.result c.execute_instruction.ensures.is
 
-pub returns-in-Some : goal.returns-in-Some
-returns-in-Some g c = record {
-  is = fetch_fails c.args.entries.now c.args.engine.now c.args.t c.args.bus.now c.args.time c.pcc-pcc.result c.in-Some.trap c.pcc-pcc.ensures c.in-Some.ensures;
-  unfinished = (refl, refl);
-  ranged = tt;
-  stays = stays_same c.args.engine.now;
-  bases = refl;
-}
+pub returns-in-Some-clause-is : goal.returns-in-Some-clause-is
+returns-in-Some-clause-is g c =
+    fetch_fails c.args.entries.now c.args.engine.now c.args.t c.args.bus.now c.args.time c.pcc-pcc.result c.in-Some.trap c.pcc-pcc.ensures c.in-Some.ensures
 
-pub returns-in-Returning : goal.returns-in-Returning
-returns-in-Returning g c =
+pub returns-in-Returning-clause-is : goal.returns-in-Returning-clause-is
+returns-in-Returning-clause-is g c =
     let s = c.args.engine.now in
     let k = c.args.bus.now in
-    record {
-      is = subst (λ (d : Decision). Decided d c.args.t s k s k ran.Returned)
-          (fetch_passes c.args.entries.now s c.args.t k c.args.time c.pcc-pcc.result c.address.result Returning c.pcc-pcc.ensures c.in_default.ensures c.address.ensures c.in-Returning.ensures.is) (refl, refl, refl);
-      unfinished = (refl, refl);
-      ranged = tt;
-      stays = stays_same s;
-      bases = refl;
-    }
+    subst (λ (d : Decision). Decided d c.args.t s k s k ran.Returned)
+    (fetch_passes c.args.entries.now s c.args.t k c.args.time c.pcc-pcc.result c.address.result Returning c.pcc-pcc.ensures c.in_default.ensures c.address.ensures c.in-Returning.ensures.is) (refl, refl, refl)
 
-pub returns-in-Native : goal.returns-in-Native
-returns-in-Native g c =
+pub returns-in-Native-clause-is : goal.returns-in-Native-clause-is
+returns-in-Native-clause-is g c =
     let s = c.args.engine.now in
     let k = c.args.bus.now in
     let number = c.in-Native.number in
-    record {
-      is = subst (λ (d : Decision). Decided d c.args.t s k s k (ran.Native number))
-          (fetch_passes c.args.entries.now s c.args.t k c.args.time c.pcc-pcc.result c.address.result (Native number) c.pcc-pcc.ensures c.in_default.ensures c.address.ensures c.in-Native.ensures.is) (refl, refl, refl);
-      unfinished = (refl, refl);
-      ranged = c.in-Native.ensures.ranged;
-      stays = stays_same s;
-      bases = refl;
-    }
+    subst (λ (d : Decision). Decided d c.args.t s k s k (ran.Native number))
+    (fetch_passes c.args.entries.now s c.args.t k c.args.time c.pcc-pcc.result c.address.result (Native number) c.pcc-pcc.ensures c.in_default.ensures c.address.ensures c.in-Native.ensures.is) (refl, refl, refl)
 
-pub returns-in-Nothing : goal.returns-in-Nothing
-returns-in-Nothing g c =
+pub returns-in-Nothing-clause-is : goal.returns-in-Nothing-clause-is
+returns-in-Nothing-clause-is g c =
     let s = c.args.engine.now in
     let k = c.args.bus.now in
-    record {
-      is = subst (λ (d : Decision). Decided d c.args.t s k s k (ran.Trapped c.plain.result))
-          (fetch_passes c.args.entries.now s c.args.t k c.args.time c.pcc-pcc.result c.address.result Nothing c.pcc-pcc.ensures c.in_default.ensures c.address.ensures c.in-Nothing.ensures.is)
-          (refl, refl, ap (λ (w : Trap). ran.Trapped w) c.plain.ensures);
-      unfinished = (refl, refl);
-      ranged = tt;
-      stays = stays_same s;
-      bases = refl;
-    }
+    subst (λ (d : Decision). Decided d c.args.t s k s k (ran.Trapped c.plain.result))
+    (fetch_passes c.args.entries.now s c.args.t k c.args.time c.pcc-pcc.result c.address.result Nothing c.pcc-pcc.ensures c.in_default.ensures c.address.ensures c.in-Nothing.ensures.is)
+    (refl, refl, ap (λ (w : Trap). ran.Trapped w) c.plain.ensures)
 
 pub returns-in-Instruction-clause-is : goal.returns-in-Instruction-clause-is
 returns-in-Instruction-clause-is g c =

@@ -1,4 +1,5 @@
 use Rattle.std.proofs.Common.{[], ap}
+use Rattle.std.proofs.lemmas.Result.{MatchResult-from_err}
 use Rattle.def_script.specs.declared.Given.{Given}
 use Rattle.def_step.specs.declared.Event.TheVariants.{Tick}
 use Rattle.ct_run.specs.Rounds.{ticks_if}
@@ -15,10 +16,12 @@ pub write_event-requires : goal.write_event-requires
 write_event-requires g c = may_come _ _ _ _ _ _ _ (next_byte _ _ _ _ _ _ _ _ none c.loop-given-test.true c.loop-given.invariant)
 
 pub loop-given-preserved : goal.loop-given-preserved
-loop-given-preserved g c = comes _ _ _ _ _ _ _ _ (next_byte _ _ _ _ _ _ _ _ none c.loop-given-test.true c.loop-given.invariant) c.in-Ok.ensures
+loop-given-preserved g c = comes _ _ _ _ _ _ _ _ (next_byte _ _ _ _ _ _ _ _ none c.loop-given-test.true c.loop-given.invariant) c.in_ok-write_event.ensures
 
-pub returns-in-Err : goal.returns-in-Err
-returns-in-Err g c = fails _ _ _ _ _ _ _ (next_byte _ _ _ _ _ _ _ _ none c.loop-given-test.true c.loop-given.invariant) c.in-Err.ensures
+pub returns-in_err-write_event : goal.returns-in_err-write_event
+returns-in_err-write_event g c =
+    MatchResult-from_err c.from_residual.result _ _ c.from_residual.ensures.0
+    (λ _. fails _ _ _ _ _ _ _ (next_byte _ _ _ _ _ _ _ _ none c.loop-given-test.true c.loop-given.invariant) c.in_err-write_event.ensures)
 
 pub write_event-requires-then-due : goal.write_event-requires-then-due
 write_event-requires-then-due g c = may_come _ _ _ _ _ Tick [] (no_byte _ _ _ _ _ _ _ _ c.loop-given-test.false (ap ticks_if c.if-due.true) c.loop-given.invariant)

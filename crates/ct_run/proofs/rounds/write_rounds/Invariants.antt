@@ -1,5 +1,5 @@
 use Rattle.std.proofs.Common.{◌-◌}
-use Rattle.ct_run.specs.Rounds.{dues_of}
+use Rattle.ct_run.specs.Rounds.{script_dues}
 use Rattle.ct_run.proofs.Going.{Going}
 use Rattle.ct_run.proofs.rounds.write_rounds.Given as goal
 
@@ -8,7 +8,7 @@ invariant-loop-done g l =
     Going (record {
       with_lines = l.with_lines;
       first = l.fn.machine;
-      script = dues_of l.script;
+      script = script_dues l.script;
       quantum = l.quantum;
       limit = l.limit;
       before = g.S.Sink.shows l.fn.sink;

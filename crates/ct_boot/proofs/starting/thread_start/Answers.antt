@@ -7,7 +7,7 @@ use Rattle.law_image.proofs.Sounds.{sound}
 use Rattle.law_started.proofs.Starting.{thread_starts}
 use Rattle.ct_boot.specs.Starts.{start_of}
 use Rattle.ct_boot.proofs.Ranges.{got_of}
-use Rattle.ct_boot.proofs.starting.first_of.Goals as goal
+use Rattle.ct_boot.proofs.starting.thread_start.Goals as goal
 
 pub first_at-requires-clause-sound : goal.first_at-requires-clause-sound
 first_at-requires-clause-sound c = subst (λ p. Sound p) (sym c.parts-parts.ensures.parts) (sound c.args.image.now c.parts-parts.ensures.faultless)
