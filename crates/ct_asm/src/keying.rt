@@ -22,8 +22,8 @@ fn add_line(hasher: &mut Sha256, part: CompactPart<'_>)
     }
 }
 
-/// The key of the labels of a source: of their names in order, each on a line of its own. Another name, or another
-/// order, is another key.
+/// The key of the labels of a source: of their names in order, each on a line of its own, so that the same letters cut
+/// into other names are another text.
 pub(crate) fn key_of_labels(statements: &[CompactStatement<'_>]) -> HashKey
     ensures { result ≡ key_of (label_lines (statements_view statements.now)) }
 {

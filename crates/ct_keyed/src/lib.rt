@@ -2,8 +2,8 @@
 //!
 //! With a fixed hash a writer can choose names that all fall in one place of a set's table, and each look-up then
 //! walks them all. Here a set hashes by SipHash-1-3 with a key from the SHA-256 digest of the text that the names
-//! stand in: another name is another key, so the names can't be chosen against it. The same text has the same
-//! key, and no random number is drawn, so what is answered comes of the text alone.
+//! stand in, so that who changes a name changes the key too. No random number is drawn: the same text has the same
+//! key.
 #![tactic(auto)]
 
 ghost use Rattle.std.specs.Prelude.{◌≡◌};
