@@ -70,3 +70,19 @@ pub record HasHeap (i : Image) (s : Seen) : Type 0 where
 pub record SharesObjects (m : State) (s : Seen) : Type 0 where
   pub objects : m.objects ≡ s.objects
   pub next : m.next ≡ s.next
+
+-- RAM, the heap and the quotas lie where the image has them, and there are as many statuses as threads
+pub record HasLayout (i : Image) (s : Seen) (ss : List Status) : Type 0 where
+  pub ram : s.region.ram ≡ i.ram
+  pub heap : HasHeap i s
+  pub statuses : length ss ≡ length s.threads
+
+-- what neither a routine nor a slice of a sweep changes of an engine
+pub record StaysBeside (s new : Seen) : Type 0 where
+  pub region : new.region ≡ s.region
+  pub areas : new.areas ≡ s.areas
+  pub size : length new.granules ≡ length s.granules
+  pub threads : length new.threads ≡ length s.threads
+  pub heap_base : new.heap_base ≡ s.heap_base
+  pub heap_end : new.heap_end ≡ s.heap_end
+  pub limits : new.limits ≡ s.limits

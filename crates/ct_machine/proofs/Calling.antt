@@ -28,7 +28,7 @@ use Rattle.ct_engine.specs.Seen.{area_at, Seen}
 use Rattle.ct_engine.specs.Calls.{HeadStands, switch_at, after_call}
 use Rattle.ct_engine.specs.Written.{Shows, callee_thread}
 use Rattle.ct_engine.proofs.AsWritten.{enters_is}
-use Rattle.ct_services.specs.Served.{answered_in, switched_in}
+use Rattle.ct_services.specs.Answering.{answered_in, switched_in}
 use Rattle.law_callable.proofs.Showing.{ShowsCaller}
 use Rattle.ct_machine.specs.Parts.{state_by, IsKept}
 use Rattle.ct_machine.specs.Starting.{IsOfSound}

@@ -30,14 +30,14 @@ use Rattle.ct_threads.specs.Steps.{IsHeapPlaced}
 use Rattle.ct_threads.specs.Handling.{record_place}
 use Rattle.ct_engine.specs.Seen as engine
 use Rattle.ct_engine.specs.Seen.{area_at, resumed, with_running, Seen}
-use Rattle.ct_engine.specs.Written.{HasHeap}
+use Rattle.ct_engine.specs.Written.{StaysBeside, HasHeap}
 use Rattle.ct_engine.specs.Calls.{switched, ended_by, ended_with, returned}
 use Rattle.ct_engine.specs.Handling.{is_marked, is_handled_at, handler_begun}
 use Rattle.ct_execute.specs.declared.ran.Ran.{Ran}
 use Rattle.ct_execute.specs.declared.ran.Ran.TheVariants.{Went, Returned, Native, Trapped}
 use Rattle.ct_execute.specs.Deciding.{Decision, Goes, Returns, Serves, Traps, Decided, IfUnfinished, Stays}
-use Rattle.ct_services.specs.Served.{switched_in}
-use Rattle.ct_services.specs.Serves.{RunsReady, StaysBeside}
+use Rattle.ct_services.specs.Answering.{switched_in}
+use Rattle.ct_services.specs.Serves.{RunsReady}
 use Rattle.ct_boot.specs.Placed.{ArePlaced}
 use Rattle.ct_machine.specs.Parts.{state_by, IsKept, IsCounted}
 use Rattle.ct_machine.specs.Going.{left_after, goes_after, status_after, CameTo}

@@ -11,7 +11,7 @@ pub mod Picking
 pub mod Quietly
 pub mod Ready
 pub mod Rounding
-pub mod Served
+pub mod ServedSteps
 pub mod Sizes
 pub mod Starts
 pub mod Statuses

@@ -27,14 +27,13 @@ use Rattle.law_moves.proofs.Ending.{ends_clean}
 use Rattle.law_hidden.proofs.Slices.{kept_length}
 use Rattle.ct_sched.specs.Sched.{SchedRow}
 use Rattle.ct_engine.specs.Seen as engine
-use Rattle.ct_engine.specs.Written.{HasAreas}
+use Rattle.ct_engine.specs.Written.{StaysBeside, HasAreas}
 use Rattle.ct_engine.specs.Seen.{Seen}
 use Rattle.ct_engine.specs.Sweeps.{NoneLeft, passes, area_offset, size_of, began, with_slice, over, ended, slice_end, passed_on, swept_by}
 use Rattle.ct_engine.proofs.Shown.{swept_shown}
 use Rattle.ct_engine.proofs.Sliced.{slice_written}
 use Rattle.ct_machine.specs.Parts.{state_by, IsKept}
 use Rattle.ct_machine.specs.Going.{MaySweep, one_more_sweep, silence}
-use Rattle.ct_services.specs.Serves.{StaysBeside}
 use Rattle.ct_services.proofs.Statuses.{like_with}
 use Rattle.ct_machine.proofs.Taking.{ram_is, frames_with}
 use Rattle.ct_machine.proofs.Keeping.{stays_kept, still_ready}

@@ -9,7 +9,7 @@ use Rattle.def_memory.specs.Granules.{plain}
 use Rattle.def_machine.specs.State.{Thread, nobody, register}
 use Rattle.def_machine.specs.Threads.{jumped}
 use Rattle.ct_engine.specs.Seen.{Seen, thread, after_jump}
-use Rattle.ct_services.specs.Served.{answered_in}
+use Rattle.ct_services.specs.Answering.{answered_in}
 
 -- an element is written twice, each time by what stands there
 twice : (f g : Thread → Thread) (ts : List Thread) (t : ℕ)

@@ -25,15 +25,15 @@ use Rattle.ct_heap.specs.Lookups.{spans_of}
 use Rattle.ct_engine.specs.Seen.{Seen}
 use Rattle.ct_engine.specs.Grants.{IsTold, new_object, with_object, allocation_in, refused_as}
 use Rattle.ct_engine.specs.Grants.{WasWhole, whole_in, freed, freed_by}
-use Rattle.ct_engine.specs.Written.{SharesObjects, state_with}
+use Rattle.ct_engine.specs.Written.{HasLayout, SharesObjects, state_with}
 use Rattle.ct_engine.proofs.Freeing.{whole_says, freed_shown}
 use Rattle.ct_engine.proofs.Granted.{allocation_same}
 use Rattle.ct_execute.specs.declared.ran.Ran as engine
 use Rattle.ct_execute.specs.declared.ran.Ran.TheVariants.{Went}
 use Rattle.ct_execute.specs.Deciding.{act_by}
 use Rattle.ct_services.specs.Arguments.{refusal_code}
-use Rattle.ct_services.specs.Served.{answered_in}
-use Rattle.ct_services.specs.Serves.{Holds, ServesAlone}
+use Rattle.ct_services.specs.Answering.{answered_in}
+use Rattle.ct_services.specs.Serves.{ServesAlone}
 use Rattle.ct_services.proofs.Serving.{Becomes, serves_answer, serves_as}
 
 -- ---- an allocation
@@ -47,7 +47,7 @@ refused_so s NoGap = refl
 module _ (s u new : Seen) (t quota size : ℕ) (comes : State → Allocation → Ran) where
   -- the written one comes to this
   by_allocation : (a : Allocation) (i : Image) (m : State) (ss : List Status) → allocation_in s quota size ≡ a
-      → Holds i s ss
+      → HasLayout i s ss
       → comes (state_with m s ss) (allocation i (state_with m s ss) quota size) ≡ comes (state_with m s ss) a
   by_allocation a i m ss is h =
       let shares : SharesObjects (state_with m s ss) s = record { objects = refl; next = refl } in

@@ -8,7 +8,7 @@ use Rattle.def_memory.specs.Accesses.{IsAccess}
 use Rattle.def_machine.specs.State.{register}
 use Rattle.ct_engine.specs.Seen.{thread, Seen, hides}
 use Rattle.ct_engine.specs.Bursts.{IsOpen}
-use Rattle.ct_services.specs.Served.{IsWord}
+use Rattle.ct_services.specs.Answering.{IsWord}
 
 accessed : (ram size at : ℕ) → ram % 16 ≡ 0 → ram ≤ at → at + 4 ≤ ram + size → at % 4 ≡ 0 → IsAccess size (at - ram) 4
 accessed ram size at even low high whole = record {

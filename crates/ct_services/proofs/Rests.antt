@@ -13,10 +13,10 @@ use Rattle.def_machine.specs.State.{State, Thread}
 use Rattle.def_machine.specs.Threads.{with_statuses}
 use Rattle.def_step.specs.Routines.{Leaves, answered, stops, threads_woken}
 use Rattle.ct_engine.specs.Seen.{Seen, thread, with_thread, with_running}
-use Rattle.ct_engine.specs.Written.{state_with}
+use Rattle.ct_engine.specs.Written.{HasLayout, state_with}
 use Rattle.ct_execute.specs.declared.ran.Ran.TheVariants.{Went}
-use Rattle.ct_services.specs.Served.{answered_in, rested}
-use Rattle.ct_services.specs.Serves.{Holds, Routine, RunsReady, Serves}
+use Rattle.ct_services.specs.Answering.{answered_in, rested}
+use Rattle.ct_services.specs.Serves.{Routine, RunsReady, ServesAsWritten}
 use Rattle.ct_services.proofs.Statuses.{like_with, changed_with, set_both, twice_with, statuses_with}
 
 -- ---- whom a wake leaves ready
@@ -39,10 +39,10 @@ module _ (s : Seen) (ss : List Status) (t : ℕ) where
   becomes u run = with_running (with_thread s t u) run
 
   serves_went : (u : Thread) (run : Option ℕ) (after : List Status) (x : Routine)
-      → ((i : Image) (m : State) → Holds i s ss
+      → ((i : Image) (m : State) → HasLayout i s ss
       → x i (state_with m s ss) ≡ Leaves (state_with m (becomes u run) after) None)
       → length after ≡ length ss → (RunsReady s ss → RunsReady (becomes u run) after)
-      → Serves s ss (becomes u run) after (Went None) x
+      → ServesAsWritten s ss (becomes u run) after (Went None) x
   serves_went u run after x is many ready = record {
     comes = is;
     same = tt;
@@ -63,7 +63,7 @@ module _ (s : Seen) (ss : List Status) (t : ℕ) where
   -- ---- it stops
 
   pub serves_stops : (status : Status)
-      → Serves s ss (rested s t) (set ss t status) (Went None) (λ i m. stops m t status)
+      → ServesAsWritten s ss (rested s t) (set ss t status) (Went None) (λ i m. stops m t status)
   serves_stops status =
       serves_went (answered (thread s t) (integer 0)) None (set ss t status) (λ i m. stops m t status)
       (λ i m h.
@@ -76,7 +76,7 @@ module _ (s : Seen) (ss : List Status) (t : ℕ) where
   -- ---- it wakes others
 
   pub serves_woken : (address most : ℕ)
-      → Serves s ss (answered_in s t (integer (woken_count address most ss))) (woken address most ss) (Went None)
+      → ServesAsWritten s ss (answered_in s t (integer (woken_count address most ss))) (woken address most ss) (Went None)
       (λ i m. Leaves (threads_woken m t address most) None)
   serves_woken address most =
       let gives : Thread → Thread = λ u. answered u (integer (woken_count address most ss)) in

@@ -11,12 +11,12 @@ use Rattle.def_machine.specs.State as state
 use Rattle.def_machine.specs.State.{State, Thread, register}
 use Rattle.def_step.specs.Routines.{Traps, Leaves, answered, answers, tells}
 use Rattle.ct_engine.specs.Seen.{Seen, thread}
-use Rattle.ct_engine.specs.Written.{state_with}
+use Rattle.ct_engine.specs.Written.{HasLayout, StaysBeside, state_with}
 use Rattle.ct_execute.specs.declared.ran.ActBy.{ActBy}
 use Rattle.ct_execute.specs.declared.ran.Ran.{Ran}
 use Rattle.ct_execute.specs.declared.ran.Ran.TheVariants.{Went, Trapped}
-use Rattle.ct_services.specs.Served.{answered_in}
-use Rattle.ct_services.specs.Serves.{Holds, ComesTo, StaysBeside, Routine, Serves, ServesAlone, told_by}
+use Rattle.ct_services.specs.Answering.{answered_in}
+use Rattle.ct_services.specs.Serves.{ComesTo, Routine, ServesAsWritten, ServesAlone, act_row}
 use Rattle.ct_services.proofs.Statuses.{like_with, changed_with}
 
 -- ---- the running thread in a state that holds what is seen
@@ -58,11 +58,11 @@ same_beside s = record {
 
 -- of an engine that became this
 pub serves_answer : (s u : Seen) (t : ℕ) (v : Cap) (done : Option ActBy) (x : Routine) → Becomes s u
-    → ((i : Image) (m : State) (ss : List Status) → Holds i s ss
-    → x i (state_with m s ss) ≡ Leaves (answers (state_with m u ss) t v) (option_map told_by done))
+    → ((i : Image) (m : State) (ss : List Status) → HasLayout i s ss
+    → x i (state_with m s ss) ≡ Leaves (answers (state_with m u ss) t v) (option_map act_row done))
     → ServesAlone s (answered_in u t v) (Went done) x
 serves_answer s u t v done x became comes ss = record {
-  comes = λ i m h. comes i m ss h ∙ ap (λ (y : State). Leaves y (option_map told_by done)) (answers_alike m u ss t v);
+  comes = λ i m h. comes i m ss h ∙ ap (λ (y : State). Leaves y (option_map act_row done)) (answers_alike m u ss t v);
   same = tt;
   beside = record {
     region = ap (λ (y : Seen). y.region) became.same;
@@ -88,9 +88,9 @@ serves_tell s new t v is =
 -- ---- what comes to the same
 
 pub serves_alike : {s new : Seen} {ss after : List Status} {ran : Ran} {x y : Routine}
-    → Serves s ss new after ran x
-    → ((i : Image) (m : State) → Holds i s ss → y i (state_with m s ss) ≡ x i (state_with m s ss))
-    → Serves s ss new after ran y
+    → ServesAsWritten s ss new after ran x
+    → ((i : Image) (m : State) → HasLayout i s ss → y i (state_with m s ss) ≡ x i (state_with m s ss))
+    → ServesAsWritten s ss new after ran y
 serves_alike {new = new} {after = after} {ran = ran} h alike = record {
   comes = λ i m holds. subst (ComesTo (state_with m new after) ran) (sym (alike i m holds)) (h.comes i m holds);
   same = h.same;
@@ -101,7 +101,7 @@ serves_alike {new = new} {after = after} {ran = ran} h alike = record {
 }
 
 pub serves_as : {s new : Seen} {ran : Ran} {x y : Routine} → ServesAlone s new ran x
-    → ((i : Image) (m : State) (ss : List Status) → Holds i s ss → y i (state_with m s ss) ≡ x i (state_with m s ss))
+    → ((i : Image) (m : State) (ss : List Status) → HasLayout i s ss → y i (state_with m s ss) ≡ x i (state_with m s ss))
     → ServesAlone s new ran y
 serves_as serves alike ss = serves_alike (serves ss) (λ i m h. alike i m ss h)
 
@@ -109,7 +109,7 @@ serves_as serves alike ss = serves_alike (serves ss) (λ i m h. alike i m ss h)
 
 -- where the routine traps nothing has changed
 pub serves_trapped : (s : Seen) (ss : List Status) (why : Trap) (x : Routine)
-    → ((i : Image) (m : State) → Holds i s ss → x i (state_with m s ss) ≡ Traps why)
-    → Serves s ss s ss (Trapped why) x
+    → ((i : Image) (m : State) → HasLayout i s ss → x i (state_with m s ss) ≡ Traps why)
+    → ServesAsWritten s ss s ss (Trapped why) x
 serves_trapped s ss why x is =
     record { comes = is; same = (refl, refl); beside = same_beside s; made = omega arith; many = refl; ready = λ r. r }

@@ -8,7 +8,7 @@ use Rattle.ct_switch.specs.declared.calls.Called.TheVariants as called
 use Rattle.ct_switch.specs.Calls.{call_outcome}
 use Rattle.ct_engine.specs.Calls.{after_call}
 use Rattle.ct_engine.specs.Seen.{Seen}
-use Rattle.ct_services.specs.Served.{answered_in, switched_in}
+use Rattle.ct_services.specs.Answering.{answered_in, switched_in}
 
 -- the thread goes on with the answer of this code
 abbrev answered : Seen → ℕ → ℕ → Seen

@@ -20,7 +20,7 @@ NamesQuota s t =
     → (register (thread s t) 10).shadow.root < length s.limits
 
 -- c1 leads back, and c10 is a capability of this quota
-pub record IsQuota (s : Seen) (t quota : ℕ) : Type 0 where
+pub record NamesThisQuota (s : Seen) (t quota : ℕ) : Type 0 where
   pub returns : first_failed (return_checks (register (thread s t) 1)) ≡ None
   pub is : is_quota_cap (register (thread s t) 10) ≡ true
   pub entry : quota ≡ (register (thread s t) 10).shadow.root
@@ -33,7 +33,7 @@ IsNoQuota s t None =
     × (is_quota_cap (register (thread s t) 10) ≡ false)
 
 -- the heap tells so the live object that a capability is the whole of
-pub record IsSealedObject (objects : List Object) (c : Cap) (f : Found) : Type 0 where
+pub record IsWholeObject (objects : List Object) (c : Cap) (f : Found) : Type 0 where
   pub object : Object
   pub whole : find (is_all_of c) objects ≡ Some object
   pub number : f.object.number ≡ object.number
@@ -41,7 +41,7 @@ pub record IsSealedObject (objects : List Object) (c : Cap) (f : Found) : Type 0
 
 -- and that is this one; or this is none
 abbrev pub Finds : List Object → Cap → Option Object → Option Found → Type 0
-Finds objects c o (Some f) = (w : IsSealedObject objects c f) × (o ≡ Some w.object)
+Finds objects c o (Some f) = (w : IsWholeObject objects c f) × (o ≡ Some w.object)
 Finds objects c o None = o ≡ None
 
 -- a refusal's code; `waits` tells whether something is quarantined

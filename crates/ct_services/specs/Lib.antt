@@ -1,4 +1,4 @@
-pub mod Served
+pub mod Answering
 pub mod Arguments
 pub mod Serves
 pub mod Conditions

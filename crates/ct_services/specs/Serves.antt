@@ -12,42 +12,26 @@ use Rattle.def_machine.specs.State.{State}
 use Rattle.def_step.specs.Routines as routine
 use Rattle.def_step.specs.Routines.{Traps, Leaves}
 use Rattle.ct_engine.specs.Seen.{Seen}
-use Rattle.ct_engine.specs.Written.{HasHeap, state_with}
+use Rattle.ct_engine.specs.Written.{HasLayout, StaysBeside, state_with}
 use Rattle.ct_execute.specs.declared.ran.ActBy.{ActBy}
 use Rattle.ct_execute.specs.declared.ran.Ran.{Ran}
 use Rattle.ct_execute.specs.declared.ran.Ran.TheVariants.{Went, Returned, Native, Trapped}
 use Rattle.ct_execute.specs.Deciding.{IfUnfinished}
-
--- RAM, the heap and the quotas lie where the image has them, and there are as many statuses as threads
-pub record Holds (i : Image) (s : Seen) (ss : List Status) : Type 0 where
-  pub ram : s.region.ram ≡ i.ram
-  pub heap : HasHeap i s
-  pub statuses : length ss ≡ length s.threads
 
 -- what a routine comes to, of each image and state
 abbrev pub Routine : Type 0
 Routine = Image → State → routine.Ran
 
 -- an act with the entry that it was done by, as a routine tells it
-abbrev pub told_by : ActBy → ℕ × Act
-told_by d = (d.entry, d.act)
+abbrev pub act_row : ActBy → ℕ × Act
+act_row d = (d.entry, d.act)
 
 -- what the code came to, and the state that it left, are what the routine comes to
 abbrev pub ComesTo : State → Ran → routine.Ran → Type 0
-ComesTo after (Went done) x = x ≡ Leaves after (option_map told_by done)
+ComesTo after (Went done) x = x ≡ Leaves after (option_map act_row done)
 ComesTo after (Trapped why) x = x ≡ Traps why
 ComesTo after Returned x = ⊥
 ComesTo after (Native number) x = ⊥
-
--- what no routine changes of an engine
-pub record StaysBeside (s new : Seen) : Type 0 where
-  pub region : new.region ≡ s.region
-  pub areas : new.areas ≡ s.areas
-  pub size : length new.granules ≡ length s.granules
-  pub threads : length new.threads ≡ length s.threads
-  pub heap_base : new.heap_base ≡ s.heap_base
-  pub heap_end : new.heap_end ≡ s.heap_end
-  pub limits : new.limits ≡ s.limits
 
 -- the running thread is ready
 abbrev pub RunsReady : Seen → List Status → Type 0
@@ -55,9 +39,9 @@ RunsReady s ss = (t : ℕ) → s.running ≡ Some t → status_of ss t ≡ Ready
 
 -- An engine and the threads' statuses became these, and the code came to this: what the written routine comes to.
 -- Where it traps nothing has changed. One object is made at most, and the running thread stays ready.
-pub record Serves (s : Seen) (ss : List Status) (new : Seen) (after : List Status) (ran : Ran)
+pub record ServesAsWritten (s : Seen) (ss : List Status) (new : Seen) (after : List Status) (ran : Ran)
     (x : Routine) : Type 0 where
-  pub comes : (i : Image) (m : State) → Holds i s ss
+  pub comes : (i : Image) (m : State) → HasLayout i s ss
       → ComesTo (state_with m new after) ran (x i (state_with m s ss))
   pub same : IfUnfinished ran ((new ≡ s) × (after ≡ ss))
   pub beside : StaysBeside s new
@@ -67,7 +51,7 @@ pub record Serves (s : Seen) (ss : List Status) (new : Seen) (after : List Statu
 
 -- the same where the statuses stay
 abbrev pub ServesAlone : Seen → Seen → Ran → Routine → Type 0
-ServesAlone s new ran x = (ss : List Status) → Serves s ss new ss ran x
+ServesAlone s new ran x = (ss : List Status) → ServesAsWritten s ss new ss ran x
 
 -- what the routine of a number comes to; no number of none is served
 abbrev pub routine_or_trap : Option routine.Ran → routine.Ran

@@ -2,7 +2,7 @@
 
 ghost use Rattle.std.specs.Prelude.{◌≡◌, ◌<◌, Some};
 ghost use Rattle.def_step.specs.Routines as routine;
-ghost use Rattle.ct_services.specs.Served.{answered_in};
+ghost use Rattle.ct_services.specs.Answering.{answered_in};
 ghost use Rattle.ct_services.specs.Serves.{ServesAlone};
 
 use ct_cap::{Live, open};

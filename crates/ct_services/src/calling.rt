@@ -6,7 +6,7 @@ ghost use Rattle.ct_engine.specs.Calls.{switch_at};
 ghost use Rattle.ct_engine.specs.Seen.{thread};
 ghost use Rattle.ct_switch.specs.Calls.{call_outcome};
 ghost use Rattle.ct_engine.specs.Calls.{MayCall};
-ghost use Rattle.ct_services.specs.Served.{switched_in};
+ghost use Rattle.ct_services.specs.Answering.{switched_in};
 
 use crate::answering::{answer, code};
 use ct_engine::{Called, Engine};

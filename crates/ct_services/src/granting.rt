@@ -13,8 +13,8 @@ ghost use Rattle.def_step.specs.Routines as routine;
 ghost use Rattle.ct_heap.specs.Lookups.{spans_of};
 ghost use Rattle.ct_execute.specs.declared.ran.Ran.TheVariants.{Went};
 ghost use Rattle.ct_execute.specs.Deciding.{act_by};
-ghost use Rattle.ct_services.specs.Arguments.{NamesQuota, IsQuota, IsNoQuota, refusal_code};
-ghost use Rattle.ct_services.specs.Served.{answered_in};
+ghost use Rattle.ct_services.specs.Arguments.{NamesQuota, NamesThisQuota, IsNoQuota, refusal_code};
+ghost use Rattle.ct_services.specs.Answering.{answered_in};
 ghost use Rattle.ct_services.specs.Serves.{Routine, ServesAlone};
 
 use crate::answering::{answer, refuse, tell};
@@ -38,7 +38,7 @@ fn is_quota(c: Live) -> bool
 /// The quota's entry that c10 names. The error is the check of c1 that fails, or none where c10 is no quota.
 pub(crate) fn quota_named<M: Memory + Drop>(engine: &Engine<M>, t: u32) -> Result<u32, Option<Trap>>
     requires { engine.now.running ≡ Some t }
-    ensures { MatchResult result (IsQuota engine.now t) (IsNoQuota engine.now t) }
+    ensures { MatchResult result (NamesThisQuota engine.now t) (IsNoQuota engine.now t) }
 {
     if let Some(trap) = return_trap(engine.register(t, 1)) {
         return Err(Some(trap));

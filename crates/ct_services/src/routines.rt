@@ -6,7 +6,7 @@ ghost use Rattle.def_step.specs.declared.TheConstants.{LAST_ROUTINE};
 ghost use Rattle.def_step.specs.Native.{native};
 ghost use Rattle.ct_sched.specs.Sched.{with_statuses};
 ghost use Rattle.ct_services.specs.Conditions.{MayServe};
-ghost use Rattle.ct_services.specs.Serves.{Serves, routine_or_trap};
+ghost use Rattle.ct_services.specs.Serves.{ServesAsWritten, routine_or_trap};
 
 use crate::granting::{allocate, free, remaining};
 use crate::resting::{rest, sleep, wait, wake};
@@ -31,7 +31,7 @@ pub fn serve<M: Memory + Drop>(
 ) -> Ran
     requires may { MayServe engine.old sched.old.statuses t ram }
     requires routine { (numbers.YIELD ≤ number) × (number ≤ LAST_ROUTINE) }
-    ensures serves { Serves engine.old sched.old.statuses engine.new sched.new.statuses result
+    ensures serves { ServesAsWritten engine.old sched.old.statuses engine.new sched.new.statuses result
         (λ i m. routine_or_trap (native i m t number)) }
     ensures sched { sched.new ≡ with_statuses sched.old sched.new.statuses }
 {

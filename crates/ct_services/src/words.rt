@@ -5,7 +5,7 @@ ghost use Rattle.def_machine.specs.Image.{Image};
 ghost use Rattle.def_machine.specs.State.{State};
 ghost use Rattle.def_step.specs.Checks.{first_failed};
 ghost use Rattle.def_step.specs.Routines.{lies_in_ram, word_checks};
-ghost use Rattle.ct_services.specs.Served.{IfPasses, IsWord};
+ghost use Rattle.ct_services.specs.Answering.{IfPasses, IsWord};
 
 use ct_cap::{Flags, Live, Perms, Trap};
 use def_profile::traps::{BOUNDS_CODE, LOAD_CODE, MISALIGNED_LOAD, SEAL_CODE, TAG_CODE};

@@ -3,7 +3,7 @@ use Rattle.def_words.specs.declared.Cap.{Cap}
 use Rattle.def_machine.specs.State.{register}
 use Rattle.ct_engine.specs.Calls.{switch_at}
 use Rattle.ct_engine.specs.Seen.{thread}
-use Rattle.ct_services.specs.Served.{answered_in}
+use Rattle.ct_services.specs.Answering.{answered_in}
 use Rattle.ct_services.proofs.Switching.{too_deep, no_stack}
 use Rattle.ct_services.proofs.calling.switch.Goals as goal
 

@@ -10,7 +10,7 @@ use Rattle.law_callable.proofs.Calls.{may_call, entered_stands}
 use Rattle.ct_machine.specs.Going.{MayGoOn, Runs}
 use Rattle.ct_machine.proofs.Opened.{placed_at, some_seen}
 use Rattle.ct_machine.proofs.Calling.{came_call, call_kept, shows_caller}
-use Rattle.ct_machine.proofs.Served.{may_serve, came_served, served_done, served_kept}
+use Rattle.ct_machine.proofs.ServedSteps.{may_serve, came_served, served_done, served_kept}
 use Rattle.ct_machine.proofs.Keeping.{came_by, counted_so, switched_next}
 use Rattle.ct_machine.proofs.parts.Parts.serve.Goals as goal
 
