@@ -39,7 +39,7 @@ abbrev pub AreFirst : Labels → ℕ → Statements → Type 0
 AreFirst labels k [] = Unit {0}
 AreFirst labels k (s ∷ ss) = IsFirst labels k s.part × AreFirst labels (k + 1) ss
 
--- a label's name, and a line feed, which no name holds
+-- a label's name, and a line feed; of another part nothing
 abbrev pub label_line : Part Name → List ℕ
 label_line (part.Label name) = name ++ 10 ∷ []
 label_line _ = []

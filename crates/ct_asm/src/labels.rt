@@ -9,14 +9,14 @@ use indexmap::IndexMap;
 use std::alloc::{AllocError, Global};
 use std::marker::Model;
 
-/// Labels by name, which are looked up in constant time, whoever chose them: the table hashes by a key of their names.
+/// Labels by name, in a table that hashes by the key that it is made with.
 #[derive(Drop)]
 pub struct Labels {
     table: IndexMap<Vec<u8>, Label, HashKey>,
 }
 
 impl Model for Labels {
-    ghost use Rattle.std.specs.Prelude.{List, map, ℕ};
+    ghost use Rattle.std.specs.Prelude.{List, map};
     ghost use Rattle.def_source.specs.Source.{Name};
     ghost use Rattle.def_object.specs.declared.Label.{Label};
 
@@ -26,7 +26,7 @@ impl Model for Labels {
 }
 
 impl Labels {
-    /// No labels, of those whose names have this key.
+    /// No labels; the table hashes by this key.
     pub fn new(alloc: Global, key: HashKey) -> Labels
         ensures { result ≡ [] }
     {

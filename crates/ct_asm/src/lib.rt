@@ -53,7 +53,7 @@ fn first_undeclared(statements: &[CompactStatement<'_>], imports: &Names) -> Opt
 /// `AsmFault::At` names the least line that has a fault, and on it the least number: A4 a label out
 /// of a branch's reach; A5 a label twice, at the second; A6 a label that isn't defined in the
 /// section where its use needs it; A8 the statement that passes 1,048,576 bytes of a section
-/// (docs/use/assembler.md, "Faults"). `AsmFault::NoMemory` comes where a growth was refused.
+/// (docs/use/errors.md, "5 assembly"). `AsmFault::NoMemory` comes where a growth was refused.
 pub fn assemble(alloc: Global, program: &Program<'_>, imports: &Names) -> Result<Object, AsmFault>
     requires lawful { IsLawful (program_view program.now) }
     requires declared { undeclared_in imports.now (program_view program.now) ≡ None }

@@ -1,6 +1,6 @@
 //! The object of statements.
 
-ghost use Rattle.std.specs.Prelude.{◌≡◌, ◌<◌, ◌^◌, [], IfOk, IfErr};
+ghost use Rattle.std.specs.Prelude.{◌≡◌, ◌<◌, [], IfOk, IfErr};
 ghost use Rattle.def_source.specs.Source.{IsLawful};
 ghost use Rattle.ct_source.specs.Views.{statements_view};
 ghost use Rattle.def_object.specs.Object.{text_offset};

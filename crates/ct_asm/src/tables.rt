@@ -1,6 +1,6 @@
 //! The labels of a source, and the slots that it names.
 
-ghost use Rattle.std.specs.Prelude.{◌≡◌, ◌<◌, ◌≤◌, ◌^◌, ◌&&◌, ℕ, true, OnOk, IfOk, Option};
+ghost use Rattle.std.specs.Prelude.{◌≡◌, ◌<◌, ◌&&◌, true, OnOk, IfOk};
 ghost use Rattle.def_source.specs.Source as source;
 ghost use Rattle.def_object.specs.Object as object;
 ghost use Rattle.ct_source.specs.Views.{statements_view};

@@ -5,7 +5,8 @@
 //! JSON is read by ct_json. The places of the value are walked once for F2 to F6, all of which are
 //! judged at a place before the next, and once for each of F7 to F9: members, limits and tables are
 //! judged in ct_desc_value, rows are read in ct_desc_rows, and names, references and addresses are
-//! judged here. Sets of names hash by a key of the text, so that no writer can choose names against them.
+//! judged here. Sets of names hash by a key of the text: a writer who
+//! changes a name changes the key too.
 #![tactic(auto)]
 
 mod addresses;

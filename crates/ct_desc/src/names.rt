@@ -8,8 +8,7 @@ use indexmap::IndexSet;
 use std::alloc::{AllocError, Global};
 use std::marker::Model;
 
-/// Names, each once, which are looked up in constant time, whoever chose them: the set hashes by a key of the text
-/// that they stand in.
+/// Names, each once, in a set that hashes by the key that it is made with.
 #[derive(Drop)]
 pub(crate) struct Names {
     set: IndexSet<String, HashKey>,
@@ -24,7 +23,7 @@ impl Model for Names {
 }
 
 impl Names {
-    /// No names of a text that has this key.
+    /// No names; the set hashes by this key.
     pub fn new(alloc: Global, key: HashKey) -> Names
         ensures { result ≡ [] }
     {

@@ -37,7 +37,7 @@ struct Lists<'t, 'a> {
     lists: &'static [(PartWord, &'static str)],
 }
 
-/// A place counts in 32 bits; a longer list wants more memory than there is.
+/// A place counts in 32 bits. An error is a count of 2^32 or more.
 fn counted(n: u64) -> Result<u32, AllocError>
     ensures { IfOk result (λ v. v ≡ n) }
 {
@@ -116,8 +116,7 @@ impl<'t, 'a> Lists<'t, 'a> {
         }
     }
 
-    /// The next place of the lists. An error is want of memory: a list too long to be counted in 32 bits wants more
-    /// than there is.
+    /// The next place of the lists. An error is want of memory, or a list of more than 2^32 elements.
     fn next(&mut self) -> Result<Option<Spot<'t, 'a>>, AllocError>
         ensures { IfOk result (λ r. YieldsFirstBy spot_view spots_in self.old r self.new) }
     {
@@ -168,7 +167,7 @@ impl<'t, 'a> Spots<'t, 'a> {
         }
     }
 
-    /// The next place. An error is want of memory, and may come of any value.
+    /// The next place. An error is want of memory, or a list of more than 2^32 elements.
     #[tactic(auto, unfolding(crate::specs::Seen::spots_left))]
     pub fn next(&mut self) -> Result<Option<Spot<'t, 'a>>, AllocError>
         ensures { IfOk result

@@ -179,7 +179,7 @@ impl<M: Memory + Drop> Engine<M> {
         ensures is { self.new ≡ returned self.old e.now t }
     {
         let back = return_row(&mut self.rows.list[t as usize], &mut self.mem, e);
-        self.rows.stay(t, back)
+        self.rows.go_on_or_end(t, back)
     }
 
     /// The innermost frame of the running thread ends with a value. `false` exactly where it was the thread's last.
@@ -190,7 +190,7 @@ impl<M: Memory + Drop> Engine<M> {
         ensures is { self.new ≡ ended_with self.old t value }
     {
         let more = end_row(&mut self.rows.list[t as usize], &mut self.mem, value);
-        self.rows.stay(t, more)
+        self.rows.go_on_or_end(t, more)
     }
 
     /// The innermost frame of the running thread is unwound after a trap: the return with c10 = -1 and c11 = 0. `false`

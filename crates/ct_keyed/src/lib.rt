@@ -1,9 +1,9 @@
 //! Hash keys of texts, for sets of names that a text's writer chooses.
 //!
 //! With a fixed hash a writer can choose names that all fall in one place of a set's table, and each look-up then
-//! walks them all. Here a set hashes by SipHash-1-3 with a key from the SHA-256 digest of the text that the names
-//! stand in, so that who changes a name changes the key too. No random number is drawn: the same text has the same
-//! key.
+//! walks them all. Here a set hashes by SipHash-1-3 with a key from a SHA-256 digest. Of what the digest is, is the
+//! caller's to choose: of a text that has all the names, who changes a name changes the key too. No random number is
+//! drawn: the same text has the same key.
 #![tactic(auto)]
 
 ghost use Rattle.std.specs.Prelude.{◌≡◌};

@@ -36,7 +36,7 @@ pub struct Program<'a> {
 /// `AsmFault::At` names the first line that has a fault, and on it the least number: A1 a byte that
 /// isn't ASCII, or a row that isn't one of tokens; A2 an unknown first word; A3 operands of no form,
 /// or a statement in the wrong section; A4 a number out of range; A7 a register above 15
-/// (docs/use/assembler.md, "Faults"). `AsmFault::NoMemory` comes where a growth was refused.
+/// (docs/use/errors.md, "5 assembly"). `AsmFault::NoMemory` comes where a growth was refused.
 #[tactic(auto, unfolding(def_source::specs::Source::program_of))]
 pub fn statements<'a>(alloc: Global, text: &'a [u8]) -> Result<Program<'a>, AsmFault>
     requires { length text.now < 2 ^ 32 }

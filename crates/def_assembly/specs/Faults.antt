@@ -1,5 +1,5 @@
--- What a line of a source breaks, the numbers 1, 2, 3, 4 and 7 of docs/use/assembler.md ("Faults"), each by its own
--- condition, however many it breaks; and the fault of a line, and of all lines of a source, as the least of them.
+-- What a line of a source breaks, the faults A1, A2, A3, A4 and A7 of docs/use/errors.md ("5 assembly"), each by its
+-- own condition, however many it breaks; and the fault of a line, and of all lines of a source, as the least of them.
 use Rattle.std.specs.Prelude.{ℕ, zero, suc, ◌≡◌, ◌+◌, ◌<◌, ◌≤◌, ◌⊎◌, Bool, true, false, is_none, is_some, List, [], ◌∷◌, Option, Some, None, option_and_then, Result, Ok, Err, slice_get}
 use Rattle.std.specs.List.{list_all}
 use Rattle.def_source.specs.declared.parts.Line.{Line}

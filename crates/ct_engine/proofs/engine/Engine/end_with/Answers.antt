@@ -21,17 +21,17 @@ pub invariant_of-self : goal.invariant_of-self
 invariant_of-self g c =
     let h = runner c.self.invariant c.self.view_is c.requires.runs c.index_mut.ensures.value in
     let top = subst (λ (s : Seen). TopLies s c.args.t) (sym c.self.view_is) c.requires.top in
-    rw c.stay.ensures.is (turn_holds (end_turn h top c.end_row-more.ensures))
+    rw c.go_on_or_end.ensures.is (turn_holds (end_turn h top c.end_row-more.ensures))
 
 pub returns-clause-result : goal.returns-clause-result
 returns-clause-result g c =
     let h = runner c.self.invariant c.self.view_is c.requires.runs c.index_mut.ensures.value in
     let top = subst (λ (s : Seen). TopLies s c.args.t) (sym c.self.view_is) c.requires.top in
-    rw (← c.self.view_is) (c.stay.ensures.result ∙ end_tells h top c.end_row-more.ensures)
+    rw (← c.self.view_is) (c.go_on_or_end.ensures.result ∙ end_tells h top c.end_row-more.ensures)
 
 pub returns-clause-is : goal.returns-clause-is
 returns-clause-is g c =
     let h = runner c.self.invariant c.self.view_is c.requires.runs c.index_mut.ensures.value in
     let top = subst (λ (s : Seen). TopLies s c.args.t) (sym c.self.view_is) c.requires.top in
-    rw (← c.self.view_is, c.stay.ensures.is)
+    rw (← c.self.view_is, c.go_on_or_end.ensures.is)
     (end_sees h top c.end_row-more.ensures (λ f. plain c.args.value) (λ f. plain 0) (λ f. refl) (λ f. refl))

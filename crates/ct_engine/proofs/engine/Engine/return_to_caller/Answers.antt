@@ -22,20 +22,20 @@ pub invariant_of-self : goal.invariant_of-self
 invariant_of-self g c =
     let h = runner c.self.invariant c.self.view_is c.requires.runs c.index_mut.ensures.value in
     let top = subst (λ (s : Seen). TopLies s c.args.t) (sym c.self.view_is) c.requires.top in
-    rw c.stay.ensures.is (turn_holds (end_turn h top c.return_row-back.ensures))
+    rw c.go_on_or_end.ensures.is (turn_holds (end_turn h top c.return_row-back.ensures))
 
 pub returns-clause-result : goal.returns-clause-result
 returns-clause-result g c =
     let h = runner c.self.invariant c.self.view_is c.requires.runs c.index_mut.ensures.value in
     let top = subst (λ (s : Seen). TopLies s c.args.t) (sym c.self.view_is) c.requires.top in
-    rw (← c.self.view_is) (c.stay.ensures.result ∙ end_tells h top c.return_row-back.ensures)
+    rw (← c.self.view_is) (c.go_on_or_end.ensures.result ∙ end_tells h top c.return_row-back.ensures)
 
 pub returns-clause-is : goal.returns-clause-is
 returns-clause-is g c =
     let h = runner c.self.invariant c.self.view_is c.requires.runs c.index_mut.ensures.value in
     let top = subst (λ (s : Seen). TopLies s c.args.t) (sym c.self.view_is) c.requires.top in
     let old : Seen = engine_view (g.M.Memory.granules c.self.inside.mem) c.self.inside.rows in
-    rw (← c.self.view_is, c.stay.ensures.is) (end_sees h top c.return_row-back.ensures
+    rw (← c.self.view_is, c.go_on_or_end.ensures.is) (end_sees h top c.return_row-back.ensures
     (λ f. answer_by c.args.e.now (thread old c.args.t) f 10) (λ f. answer_by c.args.e.now (thread old c.args.t) f 11)
     (λ f. ap (λ (x : Cap). cap_passed_by c.args.e.now f.export x) (sym (register_is h 10)))
     (λ f. ap (λ (x : Cap). cap_passed_by c.args.e.now f.export x) (sym (register_is h 11))))

@@ -1,4 +1,4 @@
-use Rattle.std.proofs.Common.{◌/◌, ◌∙◌, Bool, false, List, length, None, refl, ap, arith}
+use Rattle.std.proofs.Common.{◌/◌, ◌∙◌, Bool, false, List, length, None, refl, ap}
 use Rattle.std.proofs.lemmas.List.{length-replicate}
 use Rattle.ct_engine.specs.Seen.{stands}
 use Rattle.ct_engine.specs.declared.rows.Rows.{Rows}

@@ -1,7 +1,7 @@
 use Rattle.std.proofs.Common.{ap}
 use Rattle.std.specs.Vec.{with_item}
 use Rattle.ct_engine.specs.declared.rows.Rows.{Rows}
-use Rattle.ct_engine.proofs.rows.Rows.stay.Goals as goal
+use Rattle.ct_engine.proofs.rows.Rows.go_on_or_end.Goals as goal
 
 pub returns-clause-is : goal.returns-clause-is
 returns-clause-is c =
