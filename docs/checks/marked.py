@@ -166,7 +166,7 @@ MARKED = {
     },
     "ct_threads": {
         "inner":
-            "access call_row return_row end_row next fetch_trap handle_row value_of read read_ref jump_row "
+            "access next fetch_trap handle_row value_of read read_ref jump_row "
             "branch_row filter_row begin stop_row pick_row Window::empty Window::holds window_of",
     },
     "ct_burst": {
@@ -183,7 +183,7 @@ MARKED = {
             "calls_written ends_written handlers_written grants_written sweeps_written",
     },
     "ct_execute": {
-        "inner": "execute executed_decided running_opened",
+        "inner": "execute",
     },
     "ct_services": {
         "inner": "answer switch",

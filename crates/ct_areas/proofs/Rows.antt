@@ -1,10 +1,8 @@
 -- A start, a frame more and a frame less, as threads.
 use Rattle.std.proofs.Common.{ℕ, suc, ◌≡◌, ◌+◌, ◌-◌, ◌*◌, ◌/◌, ◌%◌, ◌^◌, ◌==◌, ◌<◌, ◌≤◌, inl, Bool, true, false, List, [], ◌∷◌, length, refl, ap, ◌∙◌, arith}
-use Rattle.def_profile.specs.declared.layout.TheConstants.{FRAME_SIZE}
-use Rattle.def_profile.specs.Areas.{frame_after}
 use Rattle.def_words.specs.declared.Cap.{Cap}
 use Rattle.def_memory.specs.declared.Granule.{Granule}
-use Rattle.def_memory.specs.Granules.{plain, cap_in, holding, holding_all}
+use Rattle.def_memory.specs.Granules.{plain, cap_in, holding}
 use Rattle.def_memory.specs.Accesses.{loaded_cap}
 use Rattle.def_machine.specs.State.{Thread, Frame, outermost}
 use Rattle.def_machine.specs.Frames.{pushed_frame}
@@ -12,12 +10,12 @@ use Rattle.def_areas.specs.Areas.{frame_place, frame_at, frames_in, frame_words,
 use Rattle.def_areas.specs.Touches.{Touches}
 use Rattle.law_areas.proofs.Writes.{put_same, put_other}
 use Rattle.law_areas.proofs.Frames.{frames_same, frames_next, frames_none, frame_written}
-use Rattle.law_areas.proofs.Changes.{all_touches, zeroed_touches, touches_more}
+use Rattle.law_areas.proofs.Changes.{all_touches}
 use Rattle.ct_areas.specs.declared.thread.Area.{Area}
 use Rattle.ct_areas.specs.declared.thread.Thread as row
 use Rattle.ct_areas.specs.Threads.{HasArea, area_begin, area_end, frames_most, living, thread_of, first}
 use Rattle.ct_areas.specs.Parts.{saved_of, register_in, with_frame, deeper, pushed, inner_place, inner_frame, outer_frames, frame_address, frame_cleared, without_frame, shallower}
-use Rattle.ct_areas.proofs.Places.{area_long, area_inside, frame_granule, some_depth, frames_of}
+use Rattle.ct_areas.proofs.Places.{area_long, area_touches, frame_inside, frame_touches, granules_zeroed, frame_low, frame_offset_is, some_depth, frames_of}
 
 -- ---- a start
 
@@ -53,16 +51,12 @@ pub first_is : (gs : List Granule) (t : row.Thread) (export : ℕ) → HasArea (
     → thread_of (holding gs (frame_place (area_begin t.area) 0 + 5) (plain export)) true t ≡ first t.pcc t.regs t.posture t.actor export t.top
 first_is gs t export has one unhandled small clear =
     let long = area_long (8 * length gs) t.area has in
-    let inside = area_inside (length gs) t.area has in
     let some = has.some in
     let frames = first_frames gs (area_begin t.area) t.actor t.top export small
-    (fits (area_begin t.area) (area_end t.area) (frames_most t.area) (length gs) long inside some)
+    (frame_inside 0 (length gs) t.area has some)
     (λ k lo hi. clear k (omega (arith, lo)) (below k (area_begin t.area) (area_end t.area) (frames_most t.area) hi long some)) in
     rw (one, unhandled) (ap (λ (fs : List Frame). let l : Thread = record (first t.pcc t.regs t.posture t.actor export t.top) { frames = fs } in l) frames)
   where
-    fits : (a end most n : ℕ) → end ≡ frame_place a most → end ≤ n → 1 ≤ most → frame_place a 1 ≤ n
-    fits a end most n is le some = omega (arith, is, le, some)
-
     below : (k a end most : ℕ) → k < frame_place a 1 → end ≡ frame_place a most → 1 ≤ most → k < end
     below k a end most lt is some = omega (arith, lt, is, some)
 
@@ -70,11 +64,8 @@ pub first_touches : (gs : List Granule) (a : Area) (export : ℕ) → HasArea (8
     → Touches (area_begin a) (area_end a) gs (holding gs (frame_place (area_begin a) 0 + 5) (plain export))
 first_touches gs a export has =
     let k : ℕ = frame_place (area_begin a) 0 + 5 in
-    touches_more k (k + 1) (area_begin a) (area_end a) gs (holding gs k (plain export)) (omega arith)
-    (before (area_begin a) (area_end a) (frames_most a) (area_long (8 * length gs) a has) has.some) (all_touches gs k (plain export ∷ []))
-  where
-    before : (b end most : ℕ) → end ≡ frame_place b most → 1 ≤ most → frame_place b 0 + 5 + 1 ≤ end
-    before b end most is some = omega (arith, is, some)
+    let some = has.some in
+    area_touches k (k + 1) (8 * length gs) a gs (holding gs k (plain export)) has (omega arith) (omega (arith, some)) (all_touches gs k (plain export ∷ []))
 
 -- ---- a frame more
 
@@ -82,55 +73,29 @@ pub pushed_is : (gs hs : List Granule) (t q : row.Thread) (actor export top : �
     → export < 2 ^ 32 → t.top < 2 ^ 32 → hs ≡ with_frame gs t export → q ≡ deeper t actor top
     → thread_of hs true q ≡ pushed (thread_of gs true t) actor export top
 pushed_is gs hs t q actor export top has alive room small low wrote row_is =
-    let long = area_long (8 * length gs) t.area has in
-    let inside = area_inside (length gs) t.area has in
     let more : (t.depth + 1 == 0) ≡ false = some_depth (t.depth + 1) (omega arith) in
     let now : (t.depth == 0) ≡ false = some_depth t.depth alive in
     let next : t.depth + 1 ≡ suc t.depth = omega arith in
     let written = frame_written gs (area_begin t.area) t.actor t.top t.handling t.depth actor export top
     (register_in t 1) (register_in t 2) (register_in t 3) (register_in t 8) (register_in t 9) small low
-    (fits (area_begin t.area) (area_end t.area) t.depth (frames_most t.area) (length gs) long inside room) in
+    (frame_inside t.depth (length gs) t.area has room) in
     let frames : frames_in (with_frame gs t export) (area_begin t.area) actor top false (t.depth + 1)
     ≡ pushed_frame (living gs true t) actor export top ∷ frames_in gs (area_begin t.area) t.actor t.top t.handling t.depth =
     rw next written in
     rw (wrote, row_is, more, now) (ap (λ (fs : List Frame). let l : Thread = record (living gs true t) { frames = fs } in l) frames)
-  where
-    fits : (a end depth most n : ℕ) → end ≡ frame_place a most → end ≤ n → depth < most → frame_place a (suc depth) ≤ n
-    fits a end depth most n is le lt = omega (arith, is, le, lt)
 
 pub pushed_touches : (gs : List Granule) (t : row.Thread) (export : ℕ) → HasArea (8 * length gs) t.area → t.depth < frames_most t.area
     → Touches (area_begin t.area) (area_end t.area) gs (with_frame gs t export)
 pushed_touches gs t export has room =
-    let k : ℕ = frame_place (area_begin t.area) t.depth in
-    let words : List Cap = frame_words (saved_of t) export t.actor t.top t.handling in
-    touches_more k (k + 8) (area_begin t.area) (area_end t.area) gs (holding_all gs k words) (omega arith)
-    (before (area_begin t.area) (area_end t.area) t.depth (frames_most t.area) (area_long (8 * length gs) t.area has) room) (all_touches gs k words)
-  where
-    before : (b end depth most : ℕ) → end ≡ frame_place b most → depth < most → frame_place b depth + 8 ≤ end
-    before b end depth most is lt = omega (arith, is, lt)
+    frame_touches t.depth (8 * length gs) t.area gs (with_frame gs t export) has room
+    (all_touches gs (frame_place (area_begin t.area) t.depth) (frame_words (saved_of t) export t.actor t.top t.handling))
 
 -- ---- a frame less
 
-pub cleared_touches : (size : ℕ) (gs : List Granule) (a : Area) (n : ℕ) → HasArea size a
+cleared_touches : (size : ℕ) (gs : List Granule) (a : Area) (n : ℕ) → HasArea size a
     → Touches (frame_place (area_begin a) n) (frame_place (area_begin a) n + 8) gs (frame_cleared gs a n)
 cleared_touches size gs a n has =
-    let from = frame_granule size a n has in
-    let to : (frame_address a n + FRAME_SIZE - a.ram) / 8 ≡ frame_place (area_begin a) n + 8 = next a.ram (frame_address a n) (frame_place (area_begin a) n) (low a.ram a.trusted n has.low) from in
-    let touches = zeroed_touches gs a.ram (frame_address a n) (frame_address a n + FRAME_SIZE) (low a.ram a.trusted n has.low)
-    (even a.ram a.trusted n has.ram has.even) (whole a.ram a.trusted n has.ram has.even) in
-    rw (from, to) at touches
-  where
-    low : (ram trusted n : ℕ) → ram ≤ trusted → ram ≤ frame_after trusted n
-    low ram trusted n le = omega (arith, le)
-
-    even : (ram trusted n : ℕ) → ram % 16 ≡ 0 → trusted % 16 ≡ 0 → frame_after trusted n % 8 ≡ ram % 8
-    even ram trusted n r t = omega (arith, r, t)
-
-    whole : (ram trusted n : ℕ) → ram % 16 ≡ 0 → trusted % 16 ≡ 0 → (frame_after trusted n + FRAME_SIZE) % 8 ≡ ram % 8
-    whole ram trusted n r t = omega (arith, r, t)
-
-    next : (ram from place : ℕ) → ram ≤ from → (from - ram) / 8 ≡ place → (from + FRAME_SIZE - ram) / 8 ≡ place + 8
-    next ram from place le is = omega (arith, le, is)
+    granules_zeroed gs a.ram (frame_address a n) (frame_place (area_begin a) n) 8 (frame_low size a n has) (frame_offset_is size a n has)
 
 pub popped_frames : (gs hs : List Granule) (t q : row.Thread) (size : ℕ) → HasArea size t.area → 0 < t.depth
     → hs ≡ without_frame gs t → q ≡ shallower gs t → (thread_of hs true q).frames ≡ outer_frames gs t
@@ -158,12 +123,7 @@ shallower_is gs t at c5 c6 c7 whose top mark place is5 is6 is7 whose_is top_is m
 pub popped_touches : (size : ℕ) (gs : List Granule) (t : row.Thread) → HasArea size t.area → 0 < t.depth → t.depth ≤ frames_most t.area
     → Touches (area_begin t.area) (area_end t.area) gs (without_frame gs t)
 popped_touches size gs t has some room =
-    let k : ℕ = inner_place t in
-    touches_more k (k + 8) (area_begin t.area) (area_end t.area) gs (without_frame gs t) (omega arith)
-    (before (area_begin t.area) (area_end t.area) t.depth (frames_most t.area) (area_long size t.area has) some room) (cleared_touches size gs t.area (t.depth - 1) has)
-  where
-    before : (b end depth most : ℕ) → end ≡ frame_place b most → 0 < depth → depth ≤ most → frame_place b (depth - 1) + 8 ≤ end
-    before b end depth most is some le = omega (arith, is, some, le)
+    frame_touches (t.depth - 1) size t.area gs (without_frame gs t) has (omega (arith, some, room)) (cleared_touches size gs t.area (t.depth - 1) has)
 
 -- the frames of a thread that has some: the innermost, and those below it
 pub frames_are : (gs : List Granule) (runs : Bool) (t : row.Thread) → 0 < t.depth → (thread_of gs runs t).frames ≡ inner_frame gs t ∷ outer_frames gs t

@@ -1,7 +1,7 @@
 -- Registers that go to granules one after another, and come back through a filter.
-use Rattle.std.proofs.Common.{ℕ, zero, suc, ◌≡◌, ◌+◌, ◌-◌, ◌*◌, ◌/◌, ◌%◌, ◌==◌, ◌<◌, ◌≤◌, inl, inr, true, false, cond, List, [], ◌∷◌, ◌++◌, length, drop, take, map, refl, sym, ap, ◌∙◌, arith}
+use Rattle.std.proofs.Common.{ℕ, zero, suc, ◌≡◌, ◌+◌, ◌*◌, ◌/◌, ◌%◌, ◌==◌, ◌<◌, ◌≤◌, inl, inr, true, false, cond, List, [], ◌∷◌, ◌++◌, length, drop, take, map, refl, sym, ap, ◌∙◌, arith}
 use Rattle.std.proofs.Math.ListN.{get_or, set}
-use Rattle.std.proofs.lemmas.List.{append-nil}
+use Rattle.std.proofs.lemmas.List.{append-nil, drop_all}
 use Rattle.def_words.specs.declared.Cap.{Cap}
 use Rattle.def_memory.specs.declared.Granule.{Granule}
 use Rattle.def_memory.specs.Granules.{plain, cap_in, caps_from, holding, holding_all}
@@ -12,11 +12,11 @@ use Rattle.def_areas.specs.Areas.{frame_place, frames_in}
 use Rattle.def_areas.specs.Touches.{Touches}
 use Rattle.law_areas.proofs.Writes.{read_back, all_other, put_same, put_other, put_length}
 use Rattle.law_areas.proofs.Frames.{frames_same}
-use Rattle.law_areas.proofs.Changes.{all_touches, zeroed_touches, touches_more}
+use Rattle.law_areas.proofs.Changes.{all_touches}
 use Rattle.ct_areas.specs.declared.thread.Thread as row
 use Rattle.ct_areas.specs.Threads.{HasArea, area_begin, area_end, frames_most, living, thread_of}
 use Rattle.ct_areas.specs.Parts.{register_in, with_saved, without_saved}
-use Rattle.ct_areas.proofs.Places.{area_long, area_inside, area_even, depth_tells}
+use Rattle.ct_areas.proofs.Places.{area_long, area_inside, area_touches, granules_zeroed, area_even, depth_tells}
 
 -- ---- a stop
 
@@ -89,11 +89,8 @@ pub saved_touches : (gs : List Granule) (t : row.Thread) (size : ℕ) → HasAre
 saved_touches gs t size has sixteen =
     let a : ℕ = area_begin t.area in
     let words : List Cap = t.pcc ∷ drop 1 t.regs in
-    touches_more a (a + length words) a (area_end t.area) gs (holding_all gs a words) (omega arith)
-    (before a (area_end t.area) (frames_most t.area) (length (drop 1 t.regs)) (area_long size t.area has) (rest_length t.regs sixteen)) (all_touches gs a words)
-  where
-    before : (b end most n : ℕ) → end ≡ frame_place b most → n ≡ 15 → b + suc n ≤ end
-    before b end most n is few = omega (arith, is, few)
+    let fifteen = rest_length t.regs sixteen in
+    area_touches a (a + length words) size t.area gs (holding_all gs a words) has (omega arith) (omega (arith, fifteen)) (all_touches gs a words)
 
 -- ---- a pick
 
@@ -122,50 +119,23 @@ take_step keep gs rs now new at i c d even long few is read passed put =
     put ∙ here ∙ ap (λ x. plain 0 ∷ set (filled keep gs (at / 8) i (drop 1 rs)) i x) got
     ∙ ap (λ l. plain 0 ∷ l) (take_next keep gs (at / 8) i (drop 1 rs) (omega (arith, few, rest_length rs long)))
 
--- before its first turn c0 is zero, and the rest as it was
-pub take_start : (keep : Cap → Cap) (gs : List Granule) (rs : List Cap) (k : ℕ) → length rs ≡ 16 → set rs 0 (plain 0) ≡ plain 0 ∷ filled keep gs k 0 (drop 1 rs)
-take_start keep gs [] k long = absurd (omega (arith, long))
-take_start keep gs (c ∷ cs) k long = refl
-
-past : (n : ℕ) (cs : List Cap) → length cs ≤ n → drop n cs ≡ []
-past zero [] h = refl
-past (suc n) [] h = refl
-past zero (c ∷ cs) h = absurd (omega (arith, h))
-past (suc n) (c ∷ cs) h = past n cs (omega (arith, h))
-
 -- at its end nothing is left of what was there
 pub take_end : (keep : Cap → Cap) (gs : List Granule) (rs : List Cap) (k : ℕ) → length rs ≡ 16 → filled keep gs k 15 (drop 1 rs) ≡ map keep (caps_from gs k 15)
 take_end keep gs rs k long =
     let fifteen = rest_length rs long in
-    let none : drop 15 (drop 1 rs) ≡ [] = past 15 (drop 1 rs) (omega (arith, fifteen)) in
+    let none : drop 15 (drop 1 rs) ≡ [] = drop_all 15 (drop 1 rs) (omega (arith, fifteen)) in
     ap (λ l. map keep (caps_from gs k 15) ++ l) none ∙ append-nil (map keep (caps_from gs k 15))
 
-pub restored_touches : (gs : List Granule) (t : row.Thread) (size : ℕ) → HasArea size t.area
+restored_touches : (gs : List Granule) (t : row.Thread) (size : ℕ) → HasArea size t.area
     → Touches (area_begin t.area) (area_begin t.area + 16) gs (without_saved gs t)
 restored_touches gs t size has =
-    let touches = zeroed_touches gs t.area.ram t.area.trusted (t.area.trusted + 128) has.low
-    (even t.area.ram t.area.trusted has.ram has.even) (whole t.area.ram t.area.trusted has.ram has.even) in
-    let to : (t.area.trusted + 128 - t.area.ram) / 8 ≡ area_begin t.area + 16 = next t.area.ram t.area.trusted (area_begin t.area) has.low (area_even size t.area has) in
-    rw to at touches
-  where
-    even : (ram trusted : ℕ) → ram % 16 ≡ 0 → trusted % 16 ≡ 0 → trusted % 8 ≡ ram % 8
-    even ram trusted r t = omega (arith, r, t)
-
-    whole : (ram trusted : ℕ) → ram % 16 ≡ 0 → trusted % 16 ≡ 0 → (trusted + 128) % 8 ≡ ram % 8
-    whole ram trusted r t = omega (arith, r, t)
-
-    next : (ram trusted b : ℕ) → ram ≤ trusted → trusted - ram ≡ 8 * b → (trusted + 128 - ram) / 8 ≡ b + 16
-    next ram trusted b low is = omega (arith, low, is)
+    granules_zeroed gs t.area.ram t.area.trusted (area_begin t.area) 16 has.low (area_even size t.area has)
 
 pub resumed_touches : (gs : List Granule) (t : row.Thread) (size : ℕ) → HasArea size t.area
     → Touches (area_begin t.area) (area_end t.area) gs (without_saved gs t)
 resumed_touches gs t size has =
     let a : ℕ = area_begin t.area in
-    touches_more a (a + 16) a (area_end t.area) gs (without_saved gs t) (omega arith)
-    (before a (area_end t.area) (frames_most t.area) (area_long size t.area has)) (restored_touches gs t size has)
-  where
-    before : (b end most : ℕ) → end ≡ frame_place b most → b + 16 ≤ end
-    before b end most is = omega (arith, is)
+    area_touches a (a + 16) size t.area gs (without_saved gs t) has (omega arith) (omega arith) (restored_touches gs t size has)
 
 pub resumed_is : (gs hs : List Granule) (t : row.Thread) (pcc : Cap) (rs : List Cap) (size ram : ℕ) → HasArea size t.area → hs ≡ without_saved gs t
     → pcc ≡ filtered_in ram gs (cap_in gs (area_begin t.area))

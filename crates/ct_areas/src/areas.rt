@@ -63,6 +63,7 @@ pub(crate) fn put<M: Memory>(mem: &mut M, at: u32, cap: Cap)
 }
 
 /// So many bytes from an address on are zeroed; RAM begins at `ram`.
+#[tactic(auto, using(law_areas::proofs::Changes::cleared_is))]
 pub fn clear<M: Memory>(mem: &mut M, ram: u32, from: u32, bytes: u32)
     requires { IsSpan ram (8 * length (M.granules mem.old)) from (from + bytes) }
     ensures { M.granules mem.new ≡ zeroed_from from (from + bytes) ram (M.granules mem.old) }

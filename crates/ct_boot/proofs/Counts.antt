@@ -1,5 +1,6 @@
 -- The numbers of an image's entries are sums over the members before.
 use Rattle.std.proofs.Common.{ℕ, zero, suc, ◌≡◌, ◌+◌, ◌<◌, ◌≤◌, List, [], ◌∷◌, length, take, Some, slice_get, All, refl, arith}
+use Rattle.std.proofs.lemmas.List.Elements.{All-take}
 use Rattle.law_lists.proofs.Places.{all_there}
 use Rattle.def_profile.specs.declared.limits.TheConstants.{MOST_COMPARTMENT_ENTRIES, MOST_LIBRARY_ENTRIES}
 use Rattle.def_image.specs.Parts.{CodeRow, CompartmentRow, ThreadRow, PartsRow}
@@ -8,12 +9,6 @@ use Rattle.def_image.specs.Sizes.{sum_of}
 use Rattle.def_image.specs.Sound.{Sound}
 
 -- ---- lists
-
-pub taken : {A : Type 0} (xs : List A) (n i : ℕ) (x : A) → slice_get (take n xs) i ≡ Some x → slice_get xs i ≡ Some x
-taken xs zero i x is = cc
-taken [] (suc n) i x is = cc
-taken (y ∷ ys) (suc n) zero x is = is
-taken (y ∷ ys) (suc n) (suc i) x is = taken ys n i x is
 
 pub take_short : {A : Type 0} (xs : List A) (n : ℕ) → length (take n xs) ≤ length xs
 take_short xs zero = omega arith
@@ -58,13 +53,13 @@ pub all_own : (p : PartsRow) → Sound p → All (λ (c : CompartmentRow). compa
 all_own p s = all_there (λ (c : CompartmentRow). compartment_entries c ≤ MOST_COMPARTMENT_ENTRIES) p.compartments (own_few p s)
 
 pub some_own : (p : PartsRow) → Sound p → (n : ℕ) → All (λ (c : CompartmentRow). compartment_entries c ≤ MOST_COMPARTMENT_ENTRIES) (take n p.compartments)
-some_own p s n = all_there (λ (c : CompartmentRow). compartment_entries c ≤ MOST_COMPARTMENT_ENTRIES) (take n p.compartments) (λ b c is. own_few p s b c (taken p.compartments n b c is))
+some_own p s n = All-take (λ (c : CompartmentRow). compartment_entries c ≤ MOST_COMPARTMENT_ENTRIES) n p.compartments (all_own p s)
 
 pub all_libraries : (p : PartsRow) → Sound p → All (λ (c : CodeRow). library_entries c ≤ MOST_LIBRARY_ENTRIES) p.libraries
 all_libraries p s = all_there (λ (c : CodeRow). library_entries c ≤ MOST_LIBRARY_ENTRIES) p.libraries (library_few p s)
 
 pub some_libraries : (p : PartsRow) → Sound p → (n : ℕ) → All (λ (c : CodeRow). library_entries c ≤ MOST_LIBRARY_ENTRIES) (take n p.libraries)
-some_libraries p s n = all_there (λ (c : CodeRow). library_entries c ≤ MOST_LIBRARY_ENTRIES) (take n p.libraries) (λ l c is. library_few p s l c (taken p.libraries n l c is))
+some_libraries p s n = All-take (λ (c : CodeRow). library_entries c ≤ MOST_LIBRARY_ENTRIES) n p.libraries (all_libraries p s)
 
 pub own_short : (p : PartsRow) → Sound p → (n : ℕ) → length (take n p.compartments) ≤ 64
 own_short p s n = let few = s.few.compartments in let short = take_short p.compartments n in omega (arith, few, short)

@@ -26,7 +26,7 @@ use Rattle.ct_engine.specs.Starts.{AreFresh, MayHold, MayStart, started}
 use Rattle.ct_heap.specs.Effects.{Empty, accounts_for, empty}
 use Rattle.ct_boot.specs.Launching.{areas_begin, areas_end, fresh_of, heap_range, launched}
 use Rattle.ct_boot.specs.Placed.{ArePlaced, AreFirst}
-use Rattle.ct_boot.proofs.Standing.{stacks_lie, laid, threads_are, areas_are_of, areas_count, area_is}
+use Rattle.ct_boot.proofs.Standing.{stacks_lie, laid, threads_are, areas_count, area_is}
 use Rattle.ct_boot.proofs.Placing.{stack_lies, ends_are, begins_are, ram_is, first_region, ends_in, ends_in_ram, begin_low, begin_even, are_placed}
 use Rattle.law_started.proofs.Starting.{rows_start, threads_count}
 
@@ -108,19 +108,17 @@ module _ (p : PartsRow) (s : Sound p) where
         clear = λ k low high. heap_clear k (omega (arith, low, ram)) (omega (arith, high, ram, whole));
       }
 
-  pub may_start : (gs : List Granule) (g : Region) (fs : List Fresh) (h : HeapRow) (limits : List ℕ) → gs ≡ (boot_state p).granules → g ≡ region_of (image_of p) → fs ≡ fresh_of p
-      → h ≡ empty (heap_range p) limits → Empty h → MayStart gs g fs h
-  may_start gs g fs h limits granules region fresh is none = rw (granules, region, fresh, is) (record {
-    areas = rw (size_is p s, sym (ends_are p), sym (begins_are p), sym (ram_is p)) (fresh_laid p s);
-    stacks = rw (size_is p s) (stacks_lie p (region_of (image_of p)) p.heap p.size 0 (areas_begin p) p.threads (λ k x there at. stack_lies p s k x there at));
-    clear = region_clear p s;
-    heap = holds limits (subst Empty is none);
-  })
-
-  pub started_is : (gs : List Granule) (g : Region) (fs : List Fresh) (h : HeapRow) (limits : List ℕ) → gs ≡ (boot_state p).granules → g ≡ region_of (image_of p) → fs ≡ fresh_of p
-      → h ≡ empty (heap_range p) limits → started gs g fs h ≡ launched p limits
-  started_is gs g fs h limits granules region fresh is =
-      rw (is, granules, region, fresh, threads_are p 0 (areas_begin p) p.threads, areas_are_of p 0 (areas_begin p) p.threads, heap_length p s, limits_are limits) refl
+  pub starts : (gs : List Granule) (g : Region) (fs : List Fresh) (h : HeapRow) (limits : List ℕ) → gs ≡ (boot_state p).granules → g ≡ region_of (image_of p) → fs ≡ fresh_of p
+      → h ≡ empty (heap_range p) limits → Empty h → MayStart gs g fs h × (started gs g fs h ≡ launched p limits)
+  starts gs g fs h limits granules region fresh is none = rw (granules, region, fresh, is) (
+    record {
+      areas = rw (size_is p s, sym (ends_are p), sym (begins_are p), sym (ram_is p)) (fresh_laid p s);
+      stacks = rw (size_is p s) (stacks_lie p (region_of (image_of p)) p.heap p.size 0 (areas_begin p) p.threads (λ k x there at. stack_lies p s k x there at));
+      clear = region_clear p s;
+      heap = holds limits (subst Empty is none);
+    },
+    rw (threads_are p 0 (areas_begin p) p.threads, heap_length p s, limits_are limits) refl,
+  )
 
 -- ---- what stands then
 
@@ -135,7 +133,7 @@ module _ (p : PartsRow) (limits : List ℕ) where
       let found = present p.threads t lt in (
         found.0,
         rows_start p 0 p.threads t found.0 found.1,
-        ap (λ (a : Area). a.stack + a.stack_length) (area_is p (areas_begin p) p.threads t found.0 found.1),
+        ap (λ (a : Area). a.stack + a.stack_length) (area_is p 0 (areas_begin p) p.threads t found.0 found.1),
       )
 
   few : (t : ℕ) → t < length (launched p limits).threads → t < length p.threads
@@ -143,7 +141,7 @@ module _ (p : PartsRow) (limits : List ℕ) where
 
   all_first : AreFirst (launched p limits)
   all_first = record {
-    count = threads_count p 0 p.threads ∙ sym (areas_count p (areas_begin p) p.threads);
+    count = threads_count p 0 p.threads ∙ sym (areas_count p 0 (areas_begin p) p.threads);
     one = λ t lt. ap (λ (z : Thread). length z.frames) (thread_there t (few t lt)).1;
     top = λ t lt. let here = thread_there t (few t lt) in
         ap (λ (z : Thread). (slice_index_or z.frames 0 (outermost 0 0 0)).top) here.1 ∙ sym here.2;

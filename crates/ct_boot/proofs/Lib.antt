@@ -2,8 +2,6 @@ pub mod Counts
 pub mod Fits
 pub mod Made
 pub mod Ranges
-pub mod Firsts
 pub mod Standing
 pub mod Placing
 pub mod Launched
-pub mod Low

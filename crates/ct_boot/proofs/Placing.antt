@@ -1,5 +1,5 @@
 -- Where the areas and the stacks of a sound image's threads lie.
-use Rattle.std.proofs.Common.{ℕ, ◌≡◌, ◌+◌, ◌%◌, ◌≤◌, ◌<◌, ◌⊎◌, inl, inr, true, false, Bool, Some, slice_get, refl, sym, ap, ◌∙◌, subst, arith}
+use Rattle.std.proofs.Common.{ℕ, ◌≡◌, ◌+◌, ◌%◌, ◌≤◌, ◌<◌, ◌⊎◌, inl, inr, true, false, Bool, Some, map, slice_get, refl, sym, ap, ◌∙◌, subst, arith}
 use Rattle.std.proofs.lemmas.List.{length-map}
 use Rattle.std.proofs.lemmas.Option.{slice_get_within}
 use Rattle.law_lists.proofs.Tests.{lt_tells}
@@ -22,10 +22,11 @@ use Rattle.law_boot.proofs.Sets.{no_way}
 use Rattle.law_boot.proofs.Regions.{stack_there}
 use Rattle.law_started.proofs.Whole.{areas_are}
 use Rattle.ct_areas.specs.declared.thread.Area.{Area}
+use Rattle.ct_areas.specs.declared.thread.Fresh.{Fresh}
 use Rattle.ct_engine.specs.Kept.{StackLies}
 use Rattle.ct_engine.specs.declared.rows.Region.{Region}
 use Rattle.ct_engine.specs.Seen.{region_of}
-use Rattle.ct_boot.specs.Launching.{area_from, areas_of, areas_begin, areas_end}
+use Rattle.ct_boot.specs.Launching.{area_from, areas_begin, areas_end, fresh_of}
 use Rattle.ct_boot.specs.Placed.{IsPlaced, ArePlaced}
 use Rattle.ct_boot.proofs.Standing.{begin_in, room_of, area_lies, area_is, areas_count, frames_are, begins}
 use Rattle.law_layout.proofs.Placing.{size_fits}
@@ -184,11 +185,11 @@ module _ (p : PartsRow) (s : Sound p) where
 
   -- ---- all threads
 
-  pub are_placed : (size : ℕ) → size ≡ p.size → ArePlaced (image_of p) size (areas_of p)
+  pub are_placed : (size : ℕ) → size ≡ p.size → ArePlaced (image_of p) size (map (λ (f : Fresh). f.area) (fresh_of p))
   unfolding image_of
   are_placed size is = rw is (record {
-    count = areas_count p (areas_begin p) p.threads ∙ sym (length-map p.threads (λ (x : ThreadRow). x.frames));
+    count = areas_count p 0 (areas_begin p) p.threads ∙ sym (length-map p.threads (λ (x : ThreadRow). x.frames));
     each = λ t lt.
-        let found = present p.threads t (subst (λ n. t < n) (areas_count p (areas_begin p) p.threads) lt) in
-        subst (λ (a : Area). IsPlaced (image_of p) p.size t a) (sym (area_is p (areas_begin p) p.threads t found.0 found.1)) (placed t found.0 found.1);
+        let found = present p.threads t (subst (λ n. t < n) (areas_count p 0 (areas_begin p) p.threads) lt) in
+        subst (λ (a : Area). IsPlaced (image_of p) p.size t a) (sym (area_is p 0 (areas_begin p) p.threads t found.0 found.1)) (placed t found.0 found.1);
   })

@@ -4,13 +4,10 @@ use Rattle.std.specs.Prelude.{slice_index_or}
 use Rattle.std.proofs.lemmas.Option.{slice_get_within, slice_get-get_or}
 use Rattle.def_memory.specs.declared.Granule.{Granule}
 use Rattle.def_image.specs.Parts.{CompartmentRow, PartsRow}
-use Rattle.def_boot.specs.Booting.{Booting, Stage, IsFrom}
+use Rattle.def_boot.specs.Booting.{Stage, IsFrom}
 use Rattle.def_boot.specs.Written.{InCode, InTable, InInitial, InCompartment, InSealed, InFirst, OfAny}
 use Rattle.def_boot.specs.Contents.{boot_granules}
-use Rattle.law_boot.proofs.Stages.{stage_none, stage_then, stage_as, stage_granule, stage_one, whole}
-
-pub empty_range : (p : PartsRow) (gs : List Granule) (low high : ℕ) → high ≤ low → Booting p gs → Stage p gs gs (IsFrom low high)
-empty_range p gs low high order h = stage_none p gs (IsFrom low high) h (λ x f. let a = f.0 in let b = f.1 in omega (arith, a, b, order))
+use Rattle.law_boot.proofs.Stages.{stage_then, stage_as, stage_granule, stage_one, whole}
 
 pub narrow : (p : PartsRow) (a b : List Granule) (low high less : ℕ) → less ≤ high → Stage p a b (IsFrom low high) → Stage p a b (IsFrom low less)
 narrow p a b low high less order h = stage_as p a b (IsFrom low high) (IsFrom low less) h (λ x f. let lt = f.1 in (f.0, omega (arith, lt, order)))
@@ -34,10 +31,6 @@ own_parts p a b c d own code table initial =
 -- all members
 pub all_first : {A : Type 0} (p : PartsRow) (a b : List Granule) (In : A → ℕ → Type 0) (xs : List A) (n m : ℕ) → m ≤ n → Stage p a b (InFirst In xs n) → Stage p a b (InFirst In xs m)
 all_first p a b In xs n m order h = stage_as p a b (InFirst In xs n) (InFirst In xs m) h (λ x f. let lt = f.1 in (f.0, omega (arith, lt, order), f.2, f.3, f.4))
-
--- the same range by other names
-pub range_at : (p : PartsRow) (a b : List Granule) (low high from to : ℕ) → Stage p a b (IsFrom low high) → from ≡ low → to ≡ high → Stage p a b (IsFrom from to)
-range_at p a b low high from to h start finish = subst (λ z. Stage p a b (IsFrom z to)) (sym start) (subst (λ z. Stage p a b (IsFrom low z)) (sym finish) h)
 
 pub granule_at : (p : PartsRow) (a b : List Granule) (low from : ℕ) → Stage p a b (λ x. x ≡ low) → from ≡ low → Stage p a b (λ x. x ≡ from)
 granule_at p a b low from h start = subst (λ z. Stage p a b (λ x. x ≡ z)) (sym start) h

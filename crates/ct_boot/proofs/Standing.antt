@@ -22,7 +22,7 @@ use Rattle.ct_engine.specs.declared.rows.Region.{Region}
 use Rattle.ct_engine.specs.Kept.{StackLies}
 use Rattle.ct_engine.specs.Seen.{no_area}
 use Rattle.ct_engine.specs.Starts.{AreFresh}
-use Rattle.ct_boot.specs.Launching.{area_from, areas_from, areas_begin, areas_end, fresh_by, fresh_from, fresh_of}
+use Rattle.ct_boot.specs.Launching.{area_from, areas_begin, areas_end, fresh_by, fresh_from, fresh_of}
 
 abbrev pub frames_in : List ThreadRow → List ℕ
 frames_in xs = map (λ (x : ThreadRow). x.frames) xs
@@ -63,10 +63,6 @@ pub threads_are : (p : PartsRow) (n at : ℕ) (xs : List ThreadRow) → map (λ 
 threads_are p n at [] = refl
 threads_are p n at (x ∷ xs) = ap (λ ts. first_thread p n x ∷ ts) (threads_are p (n + 1) (at + area_size x) xs)
 
-pub areas_are_of : (p : PartsRow) (n at : ℕ) (xs : List ThreadRow) → map (λ (f : Fresh). f.area) (fresh_from p n at xs) ≡ areas_from p at xs
-areas_are_of p n at [] = refl
-areas_are_of p n at (x ∷ xs) = ap (λ ts. area_from p at x ∷ ts) (areas_are_of p (n + 1) (at + area_size x) xs)
-
 -- a stack lies wherever its thread's area stands
 pub stacks_lie : (p : PartsRow) (g : Region) (base size n at : ℕ) (xs : List ThreadRow) → ((k : ℕ) (x : ThreadRow) → slice_get xs k ≡ Some x → (from : ℕ) → StackLies g base size (area_from p from x))
     → Each (StackLies g base size) (map (λ (f : Fresh). f.area) (fresh_from p n at xs))
@@ -75,24 +71,27 @@ stacks_lie p g base size n at (x ∷ xs) each = (each 0 x refl at, stacks_lie p 
 
 -- ---- by number
 
-pub areas_count : (p : PartsRow) (at : ℕ) (xs : List ThreadRow) → length (areas_from p at xs) ≡ length xs
-areas_count p at [] = refl
-areas_count p at (x ∷ xs) = ap (λ n. suc n) (areas_count p (at + area_size x) xs)
+abbrev areas_in : List Fresh → List Area
+areas_in fs = map (λ (f : Fresh). f.area) fs
+
+pub areas_count : (p : PartsRow) (n at : ℕ) (xs : List ThreadRow) → length (areas_in (fresh_from p n at xs)) ≡ length xs
+areas_count p n at [] = refl
+areas_count p n at (x ∷ xs) = ap (λ k. suc k) (areas_count p (n + 1) (at + area_size x) xs)
 
 -- where area t begins, after those before it
 abbrev pub begin_in : ℕ → List ThreadRow → ℕ → ℕ
 begin_in at xs t = at + areas_size (take t (frames_in xs))
 
-pub area_is : (p : PartsRow) (at : ℕ) (xs : List ThreadRow) (t : ℕ) (x : ThreadRow) → slice_get xs t ≡ Some x
-    → slice_index_or (areas_from p at xs) t no_area ≡ area_from p (begin_in at xs t) x
-area_is p at [] t x is = cc
-area_is p at (y ∷ ys) zero x is =
+pub area_is : (p : PartsRow) (n at : ℕ) (xs : List ThreadRow) (t : ℕ) (x : ThreadRow) → slice_get xs t ≡ Some x
+    → slice_index_or (areas_in (fresh_from p n at xs)) t no_area ≡ area_from p (begin_in at xs t) x
+area_is p n at [] t x is = cc
+area_is p n at (y ∷ ys) zero x is =
     let same : y ≡ x = cc in
     let begin : at ≡ at + 0 = omega arith in
     ap (λ z. area_from p at z) same ∙ ap (λ n. area_from p n x) begin
-area_is p at (y ∷ ys) (suc t) x is =
+area_is p n at (y ∷ ys) (suc t) x is =
     let begin : begin_in (at + area_size y) ys t ≡ begin_in at (y ∷ ys) (suc t) = omega arith in
-    area_is p (at + area_size y) ys t x is ∙ ap (λ n. area_from p n x) begin
+    area_is p (n + 1) (at + area_size y) ys t x is ∙ ap (λ n. area_from p n x) begin
 
 pub frames_are : (xs : List ThreadRow) (t : ℕ) (x : ThreadRow) → slice_get xs t ≡ Some x → slice_index_or (frames_in xs) t 0 ≡ x.frames
 frames_are [] t x is = cc

@@ -1,6 +1,6 @@
 -- The engine that an image boots: its memory, its threads before their first step with their
 -- areas, and its empty heap.
-use Rattle.std.specs.Prelude.{ℕ, ◌+◌, ◌-◌, List, [], ◌∷◌, None}
+use Rattle.std.specs.Prelude.{ℕ, ◌+◌, ◌-◌, List, [], ◌∷◌, None, map}
 use Rattle.def_profile.specs.declared.layout.TheConstants.{TRUSTED_HEAD}
 use Rattle.def_image.specs.Parts.{ThreadRow, PartsRow}
 use Rattle.def_image.specs.Sizes.{sum_of}
@@ -26,10 +26,6 @@ area_from p at t = record {
   trusted_length = area_size t;
 }
 
-abbrev pub areas_from : PartsRow → ℕ → List ThreadRow → List Area
-areas_from p at [] = []
-areas_from p at (t ∷ ts) = area_from p at t ∷ areas_from p (at + area_size t) ts
-
 -- where the first begins
 abbrev pub areas_begin : PartsRow → ℕ
 areas_begin p = p.trusted + TRUSTED_HEAD
@@ -38,33 +34,7 @@ areas_begin p = p.trusted + TRUSTED_HEAD
 abbrev pub areas_end : PartsRow → ℕ
 areas_end p = areas_begin p + sum_of area_size p.threads
 
-abbrev pub areas_of : PartsRow → List Area
-areas_of p = areas_from p (areas_begin p) p.threads
-
--- ---- the engine
-
--- RAM from the heap's begin on
-abbrev pub heap_range : PartsRow → Range
-heap_range p = range_of p.ram p.heap (p.ram + p.size - p.heap)
-
--- booted memory, threads before their first step, and an empty heap that has these limits
-abbrev pub launched : PartsRow → List ℕ → Seen
-launched p limits = record {
-  granules = (boot_state p).granules;
-  threads = first_threads p 0 p.threads;
-  running = None;
-  region = region_of (image_of p);
-  areas = areas_of p;
-  objects = [];
-  tokens = [];
-  next = 1;
-  front = None;
-  heap_base = p.heap;
-  heap_end = p.ram + p.size;
-  limits = limits;
-}
-
--- ---- what it starts with
+-- ---- the threads before their first step
 
 -- a thread that starts so, with its area
 abbrev pub fresh_by : First → Area → Fresh
@@ -79,3 +49,26 @@ fresh_from p n at (t ∷ ts) =
 
 abbrev pub fresh_of : PartsRow → List Fresh
 fresh_of p = fresh_from p 0 (areas_begin p) p.threads
+
+-- ---- the engine
+
+-- RAM from the heap's begin on
+abbrev pub heap_range : PartsRow → Range
+heap_range p = range_of p.ram p.heap (p.ram + p.size - p.heap)
+
+-- booted memory, threads before their first step, and an empty heap that has these limits
+abbrev pub launched : PartsRow → List ℕ → Seen
+launched p limits = record {
+  granules = (boot_state p).granules;
+  threads = first_threads p 0 p.threads;
+  running = None;
+  region = region_of (image_of p);
+  areas = map (λ (f : Fresh). f.area) (fresh_of p);
+  objects = [];
+  tokens = [];
+  next = 1;
+  front = None;
+  heap_base = p.heap;
+  heap_end = p.ram + p.size;
+  limits = limits;
+}

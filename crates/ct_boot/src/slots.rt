@@ -30,7 +30,7 @@ use def_profile::native::{NATIVE_BASE, NATIVE_LENGTH, NATIVE_UNIT};
 use def_profile::seals::{EXPORT_TYPE, QUOTA_TYPE, SENTRY_DISABLE, SENTRY_ENABLE, SENTRY_INHERIT};
 
 /// The rights that a row's six bits spell.
-#[tactic(auto, using(crate::proofs::Low::low))]
+#[tactic(auto, using(ct_entries::proofs::Spelled::six_bits))]
 fn rights_of(row: ImportRow) -> u32
     ensures { result ≡ rights.rights_of row }
 {

@@ -42,6 +42,15 @@ frame_numbers b j k some from to low =
     let r : k - (b + 20) ≡ k - (b + 20 + 8 * j) + 8 * j = omega (arith, from) in
     omega (arith, r, from, to, low)
 
+-- what holds of five places one after another
+five : (P : ℕ → Type 0) (p n : ℕ) → n < 5 → P p → P (p + 1) → P (p + 2) → P (p + 3) → P (p + 4) → P (p + n)
+five P p zero lt a b c d e = subst P (omega arith) a
+five P p (suc zero) lt a b c d e = b
+five P p (suc (suc zero)) lt a b c d e = c
+five P p (suc (suc (suc zero))) lt a b c d e = d
+five P p (suc (suc (suc (suc zero)))) lt a b c d e = e
+five P p (suc (suc (suc (suc (suc n))))) lt a b c d e = absurd (omega (arith, lt))
+
 from_clean : (objects : List Object) (gs : List Granule) (a actor top : ℕ) (handling : Bool) (depth : ℕ) → Each (SavedClean objects) (frames_from gs a actor top handling depth)
     → (k : ℕ) → a + 20 ≤ k → k < frame_place a depth → (k - (a + 20)) % 8 < 5 → NotStale objects (cap_in gs k)
 from_clean objects gs a actor top handling zero each k from to low = absurd (omega (arith, from, to))
@@ -49,19 +58,8 @@ from_clean objects gs a actor top handling (suc j) each k from to low = elim (lt
   | inl x ↦ from_clean objects gs a (caller_actor gs (frame_place a j)) (caller_top gs (frame_place a j)) (caller_handling gs (frame_place a j)) j each.1 k from x.1 low
   | inr x ↦ (let le = x.1 in
       let few = frame_numbers a j k from (omega (arith, le)) (omega (arith, to)) low in
-      elim (lt_tells k (frame_place a j + 1)) [
-        | inl b ↦ (let lt = b.1 in there objects gs k (frame_place a j) (omega (arith, le, lt)) each.0.c1)
-        | inr b ↦ (let le1 = b.1 in elim (lt_tells k (frame_place a j + 2)) [
-          | inl c ↦ (let lt = c.1 in there objects gs k (frame_place a j + 1) (omega (arith, le1, lt)) each.0.c2)
-          | inr c ↦ (let le2 = c.1 in elim (lt_tells k (frame_place a j + 3)) [
-            | inl d ↦ (let lt = d.1 in there objects gs k (frame_place a j + 2) (omega (arith, le2, lt)) each.0.c3)
-            | inr d ↦ (let le3 = d.1 in elim (lt_tells k (frame_place a j + 4)) [
-              | inl e ↦ (let lt = e.1 in there objects gs k (frame_place a j + 3) (omega (arith, le3, lt)) each.0.c8)
-              | inr e ↦ (let le4 = e.1 in there objects gs k (frame_place a j + 4) (omega (arith, le4, few)) each.0.c9)
-            ])
-          ])
-        ])
-      ])
+      there objects gs k (frame_place a j + (k - frame_place a j)) (omega (arith, le))
+      (five (λ m. NotStale objects (cap_in gs m)) (frame_place a j) (k - frame_place a j) (omega (arith, le, few)) each.0.c1 each.0.c2 each.0.c3 each.0.c8 each.0.c9))
 ]
 
 frames_clean : (objects : List Object) (gs : List Granule) (a actor top : ℕ) (handling : Bool) (depth : ℕ) → Each (SavedClean objects) (frames_in gs a actor top handling depth)
@@ -102,17 +100,13 @@ saved_clean objects gs runs t frames stopped k from (inr f) =
 
 -- ---- all areas, and what stands between them
 
-begin_numbers : (ram trusted k : ℕ) → ram ≤ trusted → trusted ≤ ram + 8 * k → (trusted - ram) / 8 ≤ k
-begin_numbers ram trusted k low le = omega (arith, low, le)
+area_numbers : (ram trusted len most k : ℕ) → ram % 16 ≡ 0 → trusted % 16 ≡ 0 → ram ≤ trusted → len ≡ area_length most → trusted ≤ ram + 8 * k → ram + 8 * k < trusted + len
+    → ((trusted - ram) / 8 ≤ k) × (k < (trusted + len - ram) / 8)
+area_numbers ram trusted len most k r t low is from to = (omega (arith, low, from), omega (arith, r, t, low, is, to))
 
-end_numbers : (ram trusted len most k : ℕ) → ram % 16 ≡ 0 → trusted % 16 ≡ 0 → ram ≤ trusted → len ≡ area_length most → ram + 8 * k < trusted + len → k < (trusted + len - ram) / 8
-end_numbers ram trusted len most k r t low is lt = omega (arith, r, t, low, is, lt)
-
-begins_by : (size : ℕ) (a : Area) (k : ℕ) → HasArea size a → a.trusted ≤ a.ram + 8 * k → area_begin a ≤ k
-begins_by size a k has le = begin_numbers a.ram a.trusted k has.low le
-
-ends_by : (size : ℕ) (a : Area) (k : ℕ) → HasArea size a → a.ram + 8 * k < a.trusted + a.trusted_length → k < area_end a
-ends_by size a k has lt = end_numbers a.ram a.trusted a.trusted_length (frames_most a) k has.ram has.even has.low has.whole lt
+-- what lies in an area is one of its granules
+inside : (size : ℕ) (a : Area) (k : ℕ) → HasArea size a → a.trusted ≤ a.ram + 8 * k → a.ram + 8 * k < a.trusted + a.trusted_length → (area_begin a ≤ k) × (k < area_end a)
+inside size a k has from to = area_numbers a.ram a.trusted a.trusted_length (frames_most a) k has.ram has.even has.low has.whole from to
 
 areas_clean : (objects : List Object) (ram : ℕ) (gs : List Granule) (standing : List Bool) (n from to : ℕ) (ts : List row.Thread) → AreasFrom ram gs standing n from to ts
     → ((t : ℕ) → Each (SavedClean objects) (get_or (threads_of gs standing n ts) t nobody).frames)
@@ -127,10 +121,9 @@ areas_clean objects ram gs standing n from to (t ∷ ts) areas frames stopped k 
         let kept : IsKept gs (stands standing n) t = areas.2 in
         let low = a.1 in
         let high = b.1 in
-        let begins = begins_by (8 * length gs) t.area k kept.area (omega (arith, low, base)) in
-        let ends = ends_by (8 * length gs) t.area k kept.area (omega (arith, high, base)) in
-        elim (kept.clean k begins ends) [
-          | inl s ↦ saved_clean objects gs (stands standing n) t (frames zero) (λ off. stopped zero (rw here off)) k begins s
+        let lies = inside (8 * length gs) t.area k kept.area (omega (arith, low, base)) (omega (arith, high, base)) in
+        elim (kept.clean k lies.0 lies.1) [
+          | inl s ↦ saved_clean objects gs (stands standing n) t (frames zero) (λ off. stopped zero (rw here off)) k lies.0 s
           | inr p ↦ plain_clean objects (cap_in gs k) p
         ])
     | inr b ↦ areas_clean objects ram gs standing (n + 1) (t.area.trusted + t.area.trusted_length) to ts areas.3 (λ u. frames (suc u))

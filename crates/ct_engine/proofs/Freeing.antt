@@ -1,10 +1,11 @@
 -- A free, over all that is seen: the object is zeroed and marked, and the running thread's registers pass the load
 -- filter.
-use Rattle.std.proofs.Common.{ℕ, zero, suc, ◌≡◌, ◌+◌, ◌-◌, ◌*◌, ◌≤◌, ◌<◌, ◌==◌, ◌&&◌, ◌||◌, ◌⊎◌, inl, inr, Bool, true, false, nat_eq, List, [], ◌∷◌, map, Some, None, refl, sym, ap, ◌∙◌, subst, arith}
+use Rattle.std.proofs.Common.{ℕ, zero, suc, ◌≡◌, ◌+◌, ◌-◌, ◌*◌, ◌≤◌, ◌<◌, ◌==◌, ◌&&◌, ◌||◌, ◌⊎◌, inl, inr, Bool, true, false, nat_eq, List, [], ◌∷◌, map, Some, None, refl, sym, ap, ◌∙◌, subst, eq-eqb, arith}
 use Rattle.std.specs.Prelude.{find}
 use Rattle.std.proofs.Math.ListN.{get_or, set}
-use Rattle.std.proofs.lemmas.Bool.{and_parts, eqb-true, le-leb, lt-ltb}
-use Rattle.law_lists.proofs.Tests.{bool_tells, le_tells, lt_tells, eq_tells}
+use Rattle.std.proofs.lemmas.Bool.{and_parts, eqb-true, false_from_ne_true, le-leb, lt-ltb, ne_eqb}
+use Rattle.law_lists.proofs.Finds.{find_tells}
+use Rattle.law_lists.proofs.Tests.{bool_tells, le_tells, lt_tells}
 use Rattle.def_words.specs.declared.Cap.{Cap}
 use Rattle.def_memory.specs.declared.Granule.{Granule}
 use Rattle.def_memory.specs.Ranges.{is_tagged, zeroed_from, marked_from}
@@ -32,9 +33,9 @@ use Rattle.ct_token.specs.Table.{Table}
 use Rattle.ct_engine.specs.declared.rows.Rows.{Rows}
 use Rattle.ct_engine.specs.Seen.{Seen, region_hides, engine_view, after_filter}
 use Rattle.ct_engine.specs.Kept.{IsClear, IsEngine}
-use Rattle.ct_engine.specs.Grants.{WasWhole, whole_in, quarantined, let_go, freed, freed_by}
+use Rattle.ct_engine.specs.Grants.{WasWhole, quarantined, let_go, freed, freed_by}
 use Rattle.ct_engine.specs.Written.{state_with}
-use Rattle.ct_engine.proofs.Clear.{zero_clear}
+use Rattle.ct_engine.proofs.Clear.{tag_clear}
 use Rattle.ct_engine.proofs.HiddenTwice.{seen_both}
 use Rattle.ct_engine.proofs.HeapTurns.{with_heap, HeapTurns, turned_holds, turned_seen}
 use Rattle.ct_engine.proofs.Granted.{hides_by, hide_by}
@@ -47,9 +48,9 @@ pub record Whole (quota base top : ℕ) (r : Object) : Type 0 where
   pub base_is : r.base ≡ base
   pub top_is : r.base + r.length ≡ top
 
-spans_tells : (quota base top : ℕ) (r : Object) → spans_of quota base top r ≡ true → Whole quota base top r
-spans_tells quota base top r e =
-    let last = and_parts (r.live && (r.quota == quota) && (r.base == base)) (r.base + r.length == top) e in
+pub whole_says : (quota base top : ℕ) (os : List Object) (r : Object) → whole_of quota base top os ≡ Some r → Whole quota base top r
+whole_says quota base top os r e =
+    let last = and_parts (r.live && (r.quota == quota) && (r.base == base)) (r.base + r.length == top) (find_tells (spans_of quota base top) os r e).passes in
     let two = and_parts (r.live && (r.quota == quota)) (r.base == base) last.0 in
     let one = and_parts r.live (r.quota == quota) two.0 in
     record { quota_is = eqb-true r.quota quota one.1; base_is = eqb-true r.base base two.1; top_is = eqb-true (r.base + r.length) top last.1 }
@@ -61,13 +62,6 @@ found_first p q r os is_it e = let is : Some q ≡ Some r = rw is_it at e in cc
 pub found_later : (p : Object → Bool) (q r : Object) (os : List Object) → p q ≡ false → find p (q ∷ os) ≡ Some r → find p os ≡ Some r
 found_later p q r os isnt e = rw isnt at e
 
-pub found_passes : (p : Object → Bool) (r : Object) (os : List Object) → find p os ≡ Some r → p r ≡ true
-found_passes p r [] e = absurd (let clash : None ≡ Some r = e in cc)
-found_passes p r (q ∷ os) e = elim (bool_tells (p q)) [
-  | inl is_it ↦ subst (λ x. p x ≡ true) (found_first p q r os is_it e) is_it
-  | inr isnt ↦ found_passes p r os (found_later p q r os isnt e)
-]
-
 -- what each is, it is
 found_each : (P : Object → Type 0) (p : Object → Bool) (r : Object) (os : List Object) → Each P os → find p os ≡ Some r → P r
 found_each P p r [] each e = absurd (let clash : None ≡ Some r = e in cc)
@@ -76,16 +70,11 @@ found_each P p r (q ∷ os) each e = elim (bool_tells (p q)) [
   | inr isnt ↦ found_each P p r os each.1 (found_later p q r os isnt e)
 ]
 
-pub whole_says : (quota base top : ℕ) (os : List Object) (r : Object) → whole_of quota base top os ≡ Some r → Whole quota base top r
-whole_says quota base top os r e = spans_tells quota base top r (found_passes (spans_of quota base top) r os e)
-
 -- ---- what is live
 
 uncovered : (q : Object) (x : ℕ) → (x < q.base) ⊎ (q.base + q.length ≤ x) → covers x q ≡ false
-uncovered q x out = elim (bool_tells (covers x q)) [
-  | inl e ↦ absurd (let in_ = covers_tells q x e in elim out [ inl a ↦ (let b = in_.0 in omega (arith, a, b)) | inr a ↦ (let b = in_.1 in omega (arith, a, b)) ])
-  | inr e ↦ e
-]
+uncovered q x out = false_from_ne_true (covers x q)
+    (λ e. let in_ = covers_tells q x e in elim out [ inl a ↦ (let b = in_.0 in omega (arith, a, b)) | inr a ↦ (let b = in_.1 in omega (arith, a, b)) ])
 
 -- none before an address
 dead_before : (os : List Object) (x : ℕ) → Each (λ q. x < q.base) os → is_live_at os x ≡ false
@@ -113,16 +102,14 @@ live_outside p r [] x one e out = refl
 live_outside p r (q ∷ os) x one e out = elim (bool_tells (p q)) [
   | inl is_it ↦
       let same : q ≡ r = found_first p q r os is_it e in
-      let number : nat_eq q.number r.number ≡ true = elim (eq_tells q.number r.number) [ inl a ↦ a.0 | inr a ↦ absurd (a.1 (ap (λ (o : Object). o.number) same)) ] in
+      let number : nat_eq q.number r.number ≡ true = eq-eqb q.number r.number (ap (λ (o : Object). o.number) same) in
       let others = quarantine_others r.number os (each_more (λ z. z.number ≡ q.number → ⊥) (λ z. z.number ≡ r.number → ⊥) os (λ z ne is. ne (is ∙ ap (λ (o : Object). o.number) (sym same))) one.0) in
       let off : covers x q ≡ false = subst (λ (o : Object). covers x o ≡ false) (sym same) (uncovered r x out) in
       rw (number, others, off) refl
   | inr isnt ↦
       let rest = found_later p q r os isnt e in
-      let number : nat_eq q.number r.number ≡ false = elim (eq_tells q.number r.number) [
-        | inl a ↦ absurd (found_each (λ z. z.number ≡ q.number → ⊥) p r os one.0 rest (sym a.1))
-        | inr a ↦ a.0
-      ] in
+      let number : nat_eq q.number r.number ≡ false =
+      ne_eqb q.number r.number (λ same. found_each (λ z. z.number ≡ q.number → ⊥) p r os one.0 rest (sym same)) in
       rw number (ap (λ b. covers x q || b) (live_outside p r os x one.1 rest out))
 ]
 
@@ -170,7 +157,7 @@ module _ {h n : HeapRow} {gs hs : List Granule} {quota base top number place lon
   freed_clear : IsClear h gs → IsClear n hs
   freed_clear clear k hid = elim (le_tells base (h.range.ram + 8 * k)) [
     | inl low ↦ elim (lt_tells (h.range.ram + 8 * k) top) [
-      | inl high ↦ zero_clear hs k (f.zero k low.1 high.1)
+      | inl high ↦ ap (λ (c : Cap). c.tag) (f.zero k low.1 high.1)
       | inr high ↦ stays (inr high.1)
     ]
     | inr low ↦ stays (inl low.1)
@@ -180,10 +167,7 @@ module _ {h n : HeapRow} {gs hs : List Granule} {quota base top number place lon
       stays out =
           let was : heap_hides h gs k ≡ true = rw (← same_live (h.range.ram + 8 * k) out)
           (sym (hides_by h n hs (quarantine f.object.number (objects_of h gs)) k f.same f.objects) ∙ hid) in
-          elim (bool_tells (is_tagged hs k)) [
-            | inl on ↦ absurd (let clash : true ≡ false = sym on ∙ ap (λ (c : Cap). c.tag) (f.tags k on) ∙ clear k was in cc)
-            | inr off ↦ off
-          ]
+          tag_clear gs hs k f.tags (clear k was)
 
 module _ {gs hs : List Granule} {rows : Rows} {n : HeapRow} {quota base top number place long live : ℕ} (holds : IsEngine gs rows)
     (f : Frees rows.heap n gs hs quota base top number place long live) where
@@ -220,13 +204,13 @@ module _ {gs hs : List Granule} {rows : Rows} {n : HeapRow} {quota base top numb
         (turned_holds gs hs rows n rows.front holds freed_turns laid (freed_clear holds.heap.laid f holds.heap.clear) holds.heap.within) same
 
     pub free_is : {v z : Seen} (t : ℕ) → engine_view gs rows ≡ v → k.rows ≡ without_row number rows.tokens.rows
-        → z ≡ after_filter (engine_view hs (with_table (with_heap rows n rows.front) k)) t → z ≡ freed_by v t (whole_in v quota base top)
+        → z ≡ after_filter (engine_view hs (with_table (with_heap rows n rows.front) k)) t → z ≡ freed_by v t (whole_of quota base top v.objects)
     free_is {v} {z} t is gone filtered =
         let with_rows : Seen → List Token → Seen = λ x ks. record x { tokens = ks } in
         let without : engine_view hs (with_table (with_heap rows n rows.front) k) ≡ let_go (engine_view gs rows) f.object =
         ap (λ x. with_rows x k.rows) freed_seen ∙ rw (gone, f.number_is) refl in
         filtered ∙ ap (λ x. after_filter x t) without ∙ ap (freed_by (engine_view gs rows) t) (sym f.is)
-        ∙ ap (λ x. freed_by x t (whole_in x quota base top)) is
+        ∙ ap (λ x. freed_by x t (whole_of quota base top x.objects)) is
 
     pub free_told : {v z : Seen} (t : ℕ) (o : told.Object) → o ≡ record { number = number; base = place; length = long; live = live }
         → engine_view gs rows ≡ v → z ≡ after_filter (engine_view hs (with_table (with_heap rows n rows.front) k)) t
@@ -244,15 +228,17 @@ module _ {gs hs : List Granule} {rows : Rows} {n : HeapRow} {quota base top numb
 
 -- ---- a state of the machine where this is seen
 
--- a thread's registers change, whatever the statuses are
-registers_with : (f : List Cap → List Cap) (ts : List Thread) (ss : List Status) (t : ℕ)
-    → set (with_statuses ts ss) t (record (get_or (with_statuses ts ss) t nobody) { registers = f (get_or (with_statuses ts ss) t nobody).registers })
-    ≡ with_statuses (set ts t (record (get_or ts t nobody) { registers = f (get_or ts t nobody).registers })) ss
-registers_with f [] ss t = refl
-registers_with f (x ∷ ts) [] zero = refl
-registers_with f (x ∷ ts) [] (suc t) = refl
-registers_with f (x ∷ ts) (s ∷ ss) zero = refl
-registers_with f (x ∷ ts) (s ∷ ss) (suc t) = ap (λ us. with_status x s ∷ us) (registers_with f ts ss t)
+-- a thread changes by other parts than its status, whatever the statuses are
+pub changed_with : (f : Thread → Thread) → ((x : Thread) (s : Status) → f (with_status x s) ≡ with_status (f x) s)
+    → (ts : List Thread) (ss : List Status) (t : ℕ)
+    → set (with_statuses ts ss) t (f (get_or (with_statuses ts ss) t nobody))
+    ≡ with_statuses (set ts t (f (get_or ts t nobody))) ss
+changed_with f same [] ss t = refl
+changed_with f same (x ∷ ts) [] zero = refl
+changed_with f same (x ∷ ts) [] (suc t) = refl
+changed_with f same (x ∷ ts) (s ∷ ss) zero = ap (λ (y : Thread). y ∷ with_statuses ts ss) (same x s)
+changed_with f same (x ∷ ts) (s ∷ ss) (suc t) =
+    ap (λ (us : List Thread). with_status x s ∷ us) (changed_with f same ts ss t)
 
 pub freed_shown : (i : Image) (m : State) (s : Seen) (statuses : List Status) (t : ℕ) (r : Object) → s.region.ram ≡ i.ram
     → quotas.let_go i (state_with m s statuses) t r ≡ state_with m (freed s t r) statuses
@@ -263,4 +249,4 @@ freed_shown i m s statuses t r ram =
     let put : List Granule → List Thread → State = λ gs ts. record here { granules = gs; objects = quarantine r.number s.objects; tokens = without_row r.number s.tokens; threads = ts } in
     let old : Thread = get_or (with_statuses s.threads statuses) t nobody in
     ap (λ n. put (wiped n) (set (with_statuses s.threads statuses) t (record old { registers = filters n old.registers }))) (sym ram)
-    ∙ ap (put (wiped s.region.ram)) (registers_with (filters s.region.ram) s.threads statuses t)
+    ∙ ap (put (wiped s.region.ram)) (changed_with (λ (x : Thread). record x { registers = filters s.region.ram x.registers }) (λ x q. refl) s.threads statuses t)

@@ -1,7 +1,7 @@
 -- An allocation, over all that is seen: objects and memory, and the answer, which is the written one.
-use Rattle.std.proofs.Common.{ℕ, ◌⊎◌, Result, Ok, Err, MatchResult, OnErr, Option, ◌/◌, ◌≡◌, ◌+◌, ◌-◌, ◌*◌, ◌≤◌, ◌<◌, ◌==◌, ◌||◌, inl, inr, Bool, true, false, cond, nat_lt, List, Some, None, refl, sym, ap, ◌∙◌, subst, arith}
-use Rattle.std.proofs.lemmas.Bool.{lt-ltb, le-ltb}
-use Rattle.law_lists.proofs.Tests.{bool_tells, lt_tells, eq_tells}
+use Rattle.std.proofs.Common.{ℕ, ◌⊎◌, Result, Ok, Err, MatchResult, OnErr, ◌/◌, ◌≡◌, ◌+◌, ◌-◌, ◌*◌, ◌≤◌, ◌<◌, ◌==◌, ◌&&◌, ◌||◌, not, nat_le, inl, inr, Bool, true, false, nat_lt, List, Some, None, refl, sym, ap, ◌∙◌, subst, arith}
+use Rattle.std.proofs.lemmas.Bool.{and_parts, false_from_ne_true, lt-ltb, le-ltb, ne_eqb}
+use Rattle.law_lists.proofs.Tests.{lt_tells}
 use Rattle.def_memory.specs.declared.Granule.{Granule}
 use Rattle.def_machine.specs.Image.{Image, root}
 use Rattle.def_machine.specs.State as state
@@ -9,7 +9,7 @@ use Rattle.def_machine.specs.State.{State}
 use Rattle.def_machine.specs.Objects.{charges, placed_among, has_quarantined}
 use Rattle.def_machine.specs.Heap.{length_for, charge_for, Fits, IsPlaceFor, place_of}
 use Rattle.def_hidden.specs.Hidden.{is_live_at}
-use Rattle.def_step.specs.Quotas.{Allocation, Refused, Made, at_place, allocation}
+use Rattle.def_step.specs.Quotas.{Refused, Made, allocation}
 use Rattle.def_hidden.specs.Hiding.{with_hidden}
 use Rattle.def_chunks.specs.Heaps.{HeapRow, objects_of, account, Laid, IsHeapOf}
 use Rattle.law_routines.proofs.Places.{place_found, place_none}
@@ -17,8 +17,8 @@ use Rattle.law_routines.proofs.Leaving.{option_tells}
 use Rattle.law_words.proofs.Leasts.{ceil_above}
 use Rattle.def_words.specs.LeastBounds.{exponent_for}
 use Rattle.def_chunks.specs.Hides.{hides_heap, heap_hides}
-use Rattle.def_chunks.specs.LiveObjects.{SeenAt, Appears}
-use Rattle.law_hidden.proofs.Objects.{covers_tells, among_live, placed_live, seen_place, place_seen, object_appears}
+use Rattle.def_chunks.specs.LiveObjects.{Appears}
+use Rattle.law_hidden.proofs.Objects.{covers_tells, among_live, placed_live, object_appears}
 use Rattle.ct_heap.specs.declared.rows.Object as told
 use Rattle.ct_heap.specs.declared.rows.HeapRefusal.{HeapRefusal}
 use Rattle.ct_heap.specs.declared.rows.HeapRefusal.TheVariants.{Size, Quota, NoGap}
@@ -26,8 +26,8 @@ use Rattle.ct_heap.specs.Effects.{Same, Allocates, RefusesSize, made}
 use Rattle.ct_engine.specs.declared.rows.Rows.{Rows}
 use Rattle.ct_engine.specs.Seen.{Seen, region_hides, engine_view, limit_at}
 use Rattle.ct_engine.specs.Kept.{IsClear, IsEngine}
-use Rattle.ct_engine.specs.Grants.{new_object, with_object, after_allocation, heap_alone, at_place_in, allocation_in, refused_as, allocation_told}
-use Rattle.ct_engine.specs.Written.{HasHeap, SharesObjects}
+use Rattle.ct_engine.specs.Grants.{new_object, with_object, after_allocation, refusal_code, allocation_told}
+use Rattle.ct_engine.specs.Written.{HasHeap, HasQuota, SharesObjects}
 use Rattle.ct_engine.proofs.Clear.{clear_tags}
 use Rattle.ct_engine.proofs.HiddenTwice.{seen_both}
 use Rattle.ct_engine.proofs.HeapTurns.{with_heap, limit_of, HeapTurns, turned_holds, turned_seen}
@@ -41,15 +41,10 @@ hides_by h n hs new k same is = rw (is, same.range) refl
 
 -- where more is live, less is hidden
 less_hidden : (ram base end : ℕ) (old new : List state.Object) (k : ℕ) → (is_live_at old (ram + 8 * k) ≡ true → is_live_at new (ram + 8 * k) ≡ true) → hides_heap ram base end new k ≡ true → hides_heap ram base end old k ≡ true
-less_hidden ram base end old new k stays hid = elim (bool_tells (hides_heap ram base end old k)) [
-  | inl is ↦ is
-  | inr shown ↦
-      let there : SeenAt base end new (ram + 8 * k) = elim (seen_place ram base end old k shown) [
-        | inl a ↦ inl a
-        | inr r ↦ elim r [ inl a ↦ inr (inl a) | inr a ↦ inr (inr (stays a)) ]
-      ] in
-      absurd (let clash : true ≡ false = sym hid ∙ place_seen ram base end new k there in cc)
-]
+less_hidden ram base end old new k stays hid =
+    let all = and_parts (nat_le base (ram + 8 * k) && nat_lt (ram + 8 * k) end) (not (is_live_at new (ram + 8 * k))) hid in
+    let dead : is_live_at old (ram + 8 * k) ≡ false = false_from_ne_true _ (λ on. let clash : false ≡ true = rw (stays on) at all.1 in cc) in
+    rw (all.0, dead) refl
 
 -- ---- what is seen
 
@@ -114,9 +109,6 @@ fits_in i ram os long base f = record { eight = f.eight; aligned = f.aligned; lo
 fits_out : (i : Image) (ram : ℕ) (os : List state.Object) (long base : ℕ) → Fits (record i { ram = ram }) os long base → Fits i os long base
 fits_out i ram os long base f = record { eight = f.eight; aligned = f.aligned; low = f.low; high = f.high; apart = f.apart }
 
-heap_here : (gs : List Granule) (rows : Rows) → IsHeapOf (record (heap_alone (engine_view gs rows)) { ram = rows.heap.range.ram }) rows.heap.range
-heap_here gs rows = record { ram = refl; base = refl; end = refl }
-
 -- the least lawful place is the one that is written
 place_is : (i : Image) (os : List state.Object) (long base : ℕ) → 0 < long → IsPlaceFor i os long base → place_of i os long ≡ Some base
 place_is i os long base some p = elim (option_tells (place_of i os long)) [
@@ -139,98 +131,74 @@ no_place_is i os long some none = elim (option_tells (place_of i os long)) [
   | inr found ↦ absurd (none found.0 (place_found i os long found.0 some found.1).fits)
 ]
 
--- ---- the answer, from what it asks in turn
+-- ---- the answer, as the written allocation asks in turn
 
--- the size is neither zero nor above the heap's length
-sized : (base long size : ℕ) → 0 < size → size ≤ long → ((size == 0) || nat_lt (base + long - base) size) ≡ false
-sized base long size some most =
-    let inside : nat_lt (base + long - base) size ≡ false = le-ltb (base + long - base) size (omega (arith, most)) in
-    elim (eq_tells size 0) [ inl a ↦ absurd (let z = a.1 in omega (arith, z, some)) | inr a ↦ rw (a.0, inside) refl ]
+module _ (gs : List Granule) (rows : Rows) (quota size : ℕ) (i : Image) (m : State)
+    (has : HasQuota i (engine_view gs rows) quota) (shares : SharesObjects m (engine_view gs rows)) where
+  abbrev own : List state.Object
+  own = objects_of rows.heap gs
 
-unsized : (base long size : ℕ) → (size ≡ 0) ⊎ (long < size) → ((size == 0) || nat_lt (base + long - base) size) ≡ true
-unsized base long size (inl zero_) = elim (eq_tells size 0) [ inl a ↦ rw a.0 refl | inr a ↦ absurd (a.1 zero_) ]
-unsized base long size (inr over) =
-    let past : nat_lt (base + long - base) size ≡ true = lt-ltb (base + long - base) size (omega (arith, over)) in
-    elim (eq_tells size 0) [ inl a ↦ rw a.0 refl | inr a ↦ rw (a.0, past) refl ]
+  -- the image whose RAM begins where the heap's does
+  abbrev here : Image
+  here = record i { ram = rows.heap.range.ram }
 
--- the quota's limit is passed, or not
-within_limit : (limit own taken : ℕ) → limit ≡ own → taken ≤ own → nat_lt limit taken ≡ false
-within_limit limit own taken same le = le-ltb limit taken (omega (arith, le, same))
+  heap_here : IsHeapOf here rows.heap.range
+  heap_here = record { ram = refl; base = has.base; end = has.end }
 
-over_limit : (limit own taken : ℕ) → limit ≡ own → own < taken → nat_lt limit taken ≡ true
-over_limit limit own taken same over = lt-ltb limit taken (omega (arith, over, same))
+  abbrev past_heap : Bool
+  past_heap = nat_lt (rows.heap.range.base + rows.heap.range.length - rows.heap.range.base) size
 
--- the tests, one after another
-after_tests : (size_ limit_ : Bool) (last : Allocation) → size_ ≡ false → limit_ ≡ false → cond size_ (Refused 4) (cond limit_ (Refused 2) last) ≡ last
-after_tests size_ limit_ last a b = rw (a, b) refl
+  -- the size is neither zero nor above the heap's length, or it is
+  sized : 0 < size → size ≤ rows.heap.range.length → ((size == 0) || nat_lt (i.heap_end - i.heap_base) size) ≡ false
+  sized some most =
+      let inside : past_heap ≡ false = le-ltb _ size (omega (arith, most)) in
+      rw (has.base, has.end, ne_eqb size 0 (λ z. omega (arith, z, some)), inside) refl
 
-second_test : (size_ limit_ : Bool) (last : Allocation) → size_ ≡ false → limit_ ≡ true → cond size_ (Refused 4) (cond limit_ (Refused 2) last) ≡ Refused 2
-second_test size_ limit_ last a b = rw (a, b) refl
+  unsized : (size ≡ 0) ⊎ (rows.heap.range.length < size) → ((size == 0) || nat_lt (i.heap_end - i.heap_base) size) ≡ true
+  unsized (inl none) = rw none refl
+  unsized (inr over) =
+      let past : past_heap ≡ true = lt-ltb _ size (omega (arith, over)) in
+      rw (has.base, has.end, past, ne_eqb size 0 (λ z. omega (arith, z, over))) refl
 
-module _ (gs : List Granule) (rows : Rows) (quota size : ℕ) where
-  abbrev shown : Seen
-  shown = engine_view gs rows
+  limit_is : (root i quota).limit ≡ (account rows.heap quota).limit
+  limit_is = has.limit ∙ limit_of rows.heap.accounts quota
 
-  abbrev over_size : Bool
-  over_size = (size == 0) || nat_lt (shown.heap_end - shown.heap_base) size
-
-  abbrev past_limit : Bool
-  past_limit = nat_lt (limit_at shown quota) (charges quota shown.objects + charge_for size)
-
-  abbrev at_last : Allocation
-  at_last = at_place_in shown quota size (place_of (heap_alone shown) shown.objects (length_for size))
+  within : charges quota own + charge_for size ≤ (account rows.heap quota).limit
+      → nat_lt (root i quota).limit (charges quota m.objects + charge_for size) ≡ false
+  within le = rw (limit_is, shares.objects) (le-ltb _ _ le)
 
   answer_made : (hs : List Granule) (n : HeapRow) (number base long live : ℕ) → Allocates rows.heap n gs hs quota size number base long live
-      → allocation_in shown quota size ≡ Made (new_object shown quota size base)
+      → allocation i m quota size ≡ Made (new_object (engine_view gs rows) quota size base)
   answer_made hs n number base long live a =
-      let ram : ℕ = rows.heap.range.ram in
-      let p = a.place (record (heap_alone shown) { ram = ram }) (heap_here gs rows) in
-      let at : IsPlaceFor (heap_alone shown) shown.objects (length_for size) base = record {
-        fits = fits_out (heap_alone shown) ram shown.objects (length_for size) base p.fits;
-        least = λ b lt fits. p.least b lt (fits_in (heap_alone shown) ram shown.objects (length_for size) b fits);
+      let p = a.place here heap_here in
+      let at : IsPlaceFor i own (length_for size) base = record {
+        fits = fits_out i rows.heap.range.ram own (length_for size) base p.fits;
+        least = λ b lt fits. p.least b lt (fits_in i rows.heap.range.ram own (length_for size) b fits);
       } in
-      after_tests over_size past_limit at_last (sized rows.heap.range.base rows.heap.range.length size a.some a.most)
-      (within_limit (limit_at shown quota) (account rows.heap quota).limit (charges quota shown.objects + charge_for size) (limit_of rows.heap.accounts quota) a.within)
-      ∙ ap (at_place_in shown quota size) (place_is (heap_alone shown) shown.objects (length_for size) base (long_enough size a.some) at)
+      let place : place_of i m.objects (length_for size) ≡ Some base =
+      rw shares.objects (place_is i own (length_for size) base (long_enough size a.some) at) in
+      rw (sized a.some a.most, within a.within, place, shares.next) refl
 
-  answer_refused : (why : HeapRefusal) → RefusesSize rows.heap gs quota size why → allocation_in shown quota size ≡ refused_as shown why
-  answer_refused Size r = rw (unsized rows.heap.range.base rows.heap.range.length size r) refl
+  answer_refused : (why : HeapRefusal) → RefusesSize rows.heap gs quota size why
+      → allocation i m quota size ≡ Refused (refusal_code why (has_quarantined own))
+  answer_refused Size r = rw (unsized r) refl
   answer_refused Quota r =
-      second_test over_size past_limit at_last (sized rows.heap.range.base rows.heap.range.length size r.0 r.1)
-      (over_limit (limit_at shown quota) (account rows.heap quota).limit (charges quota shown.objects + charge_for size) (limit_of rows.heap.accounts quota) r.2)
+      let over : nat_lt (root i quota).limit (charges quota m.objects + charge_for size) ≡ true = rw (limit_is, shares.objects) (lt-ltb _ _ r.2) in
+      rw (sized r.0 r.1, over) refl
   answer_refused NoGap r =
-      let ram : ℕ = rows.heap.range.ram in
-      let none : (b : ℕ) → Fits (heap_alone shown) shown.objects (length_for size) b → ⊥ =
-      λ b fits. r.3 (record (heap_alone shown) { ram = ram }) (heap_here gs rows) b (fits_in (heap_alone shown) ram shown.objects (length_for size) b fits) in
-      after_tests over_size past_limit at_last (sized rows.heap.range.base rows.heap.range.length size r.0 r.1)
-      (within_limit (limit_at shown quota) (account rows.heap quota).limit (charges quota shown.objects + charge_for size) (limit_of rows.heap.accounts quota) r.2)
-      ∙ ap (at_place_in shown quota size) (no_place_is (heap_alone shown) shown.objects (length_for size) (long_enough size r.0) none)
-
--- ---- the written allocation
-
-placed_as : (m : State) (s : Seen) (quota size : ℕ) (place : Option ℕ) → SharesObjects m s → at_place_in s quota size place ≡ at_place m quota size place
-placed_as m s quota size None shares = rw shares.objects refl
-placed_as m s quota size (Some base) shares = rw shares.next refl
-
-pub allocation_same : (i : Image) (m : State) (s : Seen) (quota size : ℕ) → HasHeap i s → SharesObjects m s → allocation_in s quota size ≡ allocation i m quota size
-allocation_same i m s quota size has shares =
-    let at : ℕ → ℕ → Image = λ base end. record (heap_alone s) { heap_base = base; heap_end = end } in
-    let place : place_of (heap_alone s) s.objects (length_for size) ≡ place_of i m.objects (length_for size) =
-    ap (λ base. place_of (at base s.heap_end) s.objects (length_for size)) (sym has.base)
-    ∙ ap (λ end. place_of (at i.heap_base end) s.objects (length_for size)) (sym has.end)
-    ∙ ap (λ os. place_of i os (length_for size)) (sym shares.objects) in
-    let last : at_place_in s quota size (place_of (heap_alone s) s.objects (length_for size)) ≡ at_place m quota size (place_of i m.objects (length_for size)) =
-    ap (at_place_in s quota size) place ∙ placed_as m s quota size (place_of i m.objects (length_for size)) shares in
-    rw (last, has.base, has.end, has.limits quota, shares.objects) refl
+      let none : place_of i m.objects (length_for size) ≡ None =
+      rw shares.objects (no_place_is i own (length_for size) (long_enough size r.0)
+      (λ b fits. r.3 here heap_here b (fits_in i rows.heap.range.ram own (length_for size) b fits))) in
+      rw (sized r.0 r.1, within r.2, none, shares.objects) refl
 
 -- ---- the call
 
 -- what was answered, and that a refusal changed nothing
-abbrev pub Answers : HeapRow → HeapRow → List Granule → List Granule → ℕ → ℕ → Result told.Object HeapRefusal → Type 0
+abbrev Answers : HeapRow → HeapRow → List Granule → List Granule → ℕ → ℕ → Result told.Object HeapRefusal → Type 0
 Answers h n gs hs quota size result =
     MatchResult result (λ o. Allocates h n gs hs quota size o.number o.base o.length o.live) (λ why. RefusesSize h gs quota size why)
 
-abbrev pub NothingNew : HeapRow → HeapRow → List Granule → List Granule → Result told.Object HeapRefusal → Type 0
+abbrev NothingNew : HeapRow → HeapRow → List Granule → List Granule → Result told.Object HeapRefusal → Type 0
 NothingNew h n gs hs result = OnErr result ((n ≡ h) × (hs ≡ gs))
 
 pub holds_after : (gs hs : List Granule) (rows : Rows) (n : HeapRow) (quota size : ℕ) (result : Result told.Object HeapRefusal) → IsEngine gs rows → Laid n hs
@@ -247,22 +215,15 @@ seen_after gs hs rows n s quota size (Ok o) is holds a same =
 seen_after gs hs rows n s quota size (Err why) is holds a same = ap (λ x. engine_view hs (with_heap rows x rows.front)) same.0 ∙ ap (λ x. engine_view x rows) same.1 ∙ is
 
 pub answer_after : (gs hs : List Granule) (rows : Rows) (n : HeapRow) (s : Seen) (quota size : ℕ) (result : Result told.Object HeapRefusal) → engine_view gs rows ≡ s → Answers rows.heap n gs hs quota size result
-    → allocation_in s quota size ≡ allocation_told s quota size result
-answer_after gs hs rows n s quota size (Ok o) is a =
-    subst (λ x. allocation_in x quota size ≡ Made (new_object x quota size o.base)) is (answer_made gs rows quota size hs n o.number o.base o.length o.live a)
-answer_after gs hs rows n s quota size (Err why) is a =
-    subst (λ x. allocation_in x quota size ≡ refused_as x why) is (answer_refused gs rows quota size why a)
+    → (i : Image) (m : State) → HasQuota i s quota → SharesObjects m s → allocation i m quota size ≡ allocation_told s quota size result
+answer_after gs hs rows n s quota size result is a i m = subst (λ x. HasQuota i x quota → SharesObjects m x → allocation i m quota size ≡ allocation_told x quota size result) is (told_so result a)
+  where
+    told_so : (r : Result told.Object HeapRefusal) → Answers rows.heap n gs hs quota size r
+        → HasQuota i (engine_view gs rows) quota → SharesObjects m (engine_view gs rows) → allocation i m quota size ≡ allocation_told (engine_view gs rows) quota size r
+    told_so (Ok o) a has shares = answer_made gs rows quota size i m has shares hs n o.number o.base o.length o.live a
+    told_so (Err why) a has shares = answer_refused gs rows quota size i m has shares why a
 
--- ---- what is left of a quota, and whether something is quarantined
-
-pub remaining_seen : (gs : List Granule) (rows : Rows) (s : Seen) (quota result : ℕ) → engine_view gs rows ≡ s → IsEngine gs rows
-    → ((xs : List Granule) → Laid rows.heap xs → result ≡ (account rows.heap quota).limit - charges quota (objects_of rows.heap xs)) → result ≡ limit_at s quota - charges quota s.objects
-remaining_seen gs rows s quota result is holds told =
-    told gs holds.heap.laid ∙ ap (λ n. n - charges quota (objects_of rows.heap gs)) (sym (limit_of rows.heap.accounts quota)) ∙ ap (λ (x : Seen). limit_at x quota - charges quota x.objects) is
-
-pub quarantined_seen : (gs : List Granule) (rows : Rows) (s : Seen) (result : Bool) → engine_view gs rows ≡ s → IsEngine gs rows
-    → ((xs : List Granule) → Laid rows.heap xs → result ≡ has_quarantined (objects_of rows.heap xs)) → result ≡ has_quarantined s.objects
-quarantined_seen gs rows s result is holds told = told gs holds.heap.laid ∙ ap (λ (x : Seen). has_quarantined x.objects) is
+-- ---- what is left of a quota
 
 -- of a state that holds what is seen
 pub remains_shown : (i : Image) (m : State) (s : Seen) (quota : ℕ) → HasHeap i s → SharesObjects m s → (root i quota).limit - charges quota m.objects ≡ limit_at s quota - charges quota s.objects

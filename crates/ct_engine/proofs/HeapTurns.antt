@@ -30,12 +30,11 @@ limit_of accounts q = get_or-map (λ (a : Account). a.limit) accounts q no_accou
 limits_length : (accounts : List Account) → length (limits_in accounts) ≡ length accounts
 limits_length accounts = length-map accounts (λ (a : Account). a.limit)
 
-limits_same : (a b : List Account) → length b ≡ length a → ((q : ℕ) → (get_or b q no_account).limit ≡ (get_or a q no_account).limit) → limits_in b ≡ limits_in a
-limits_same a b size same =
-    ext_get_or 0 (limits_in b) (limits_in a) (limits_length b ∙ size ∙ sym (limits_length a)) (λ q lt. limit_of b q ∙ same q ∙ sym (limit_of a q))
-
 pub limits_stay : (h n : HeapRow) → Same h n → limits_in n.accounts ≡ limits_in h.accounts
-limits_stay h n same = limits_same h.accounts n.accounts same.quotas same.limits
+limits_stay h n same =
+    ext_get_or 0 (limits_in n.accounts) (limits_in h.accounts)
+    (limits_length n.accounts ∙ same.quotas ∙ sym (limits_length h.accounts))
+    (λ q lt. limit_of n.accounts q ∙ same.limits q ∙ sym (limit_of h.accounts q))
 
 -- a quota is one of the accounts
 pub quota_there : (gs : List Granule) (rows : Rows) (s : Seen) (quota : ℕ) → engine_view gs rows ≡ s → quota < length s.limits → quota < length rows.heap.accounts

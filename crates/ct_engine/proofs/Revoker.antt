@@ -1,7 +1,7 @@
 -- The revoker: what is kept and what is seen as a sweep begins, passes granules and ends.
 use Rattle.std.proofs.Common.{ℕ, zero, suc, ◌≡◌, ◌+◌, ◌-◌, ◌*◌, ◌<◌, ◌≤◌, inl, inr, ◌&&◌, ◌||◌, Bool, true, false, not, cond, nat_eq, nat_le, nat_lt, List, [], ◌∷◌, length, Option, Some, None, is_some, min, unwrap_or, refl, sym, ap, ◌∙◌, arith, subst}
-use Rattle.std.proofs.lemmas.Bool.{or_parts, not-false, le-leb, lt-leb}
-use Rattle.law_lists.proofs.Tests.{bool_tells, chosen, eq_tells, lt_tells}
+use Rattle.std.proofs.lemmas.Bool.{or_parts, not-false, le-leb, leb-true}
+use Rattle.law_lists.proofs.Tests.{bool_tells, chosen, eq_tells}
 use Rattle.def_words.specs.declared.Cap.{Cap}
 use Rattle.def_memory.specs.declared.Granule.{Granule}
 use Rattle.def_memory.specs.Granules.{plain, granule_at}
@@ -262,41 +262,31 @@ front_is gs rows v is = ap (λ (s : Seen). s.front) (sym is)
 size_slice : (v : Seen) (low high : ℕ) → size_of (with_slice v low high) ≡ size_of v
 size_slice v low high = ap (λ n. 8 * n) (kept_length (passes v low high) 0 v.granules)
 
-pub pass_ends : (v : Seen) (rate low : ℕ) → v.front ≡ Some low → size_of v ≤ slice_end v rate low → over (with_slice v low (slice_end v rate low)) ≡ passed_on v rate v.front
-pass_ends v rate low front le =
-    let size = size_slice v low (slice_end v rate low) in
-    let test = le-leb (size_of (with_slice v low (slice_end v rate low))) (slice_end v rate low) (omega (arith, le, size)) in
-    rw (front, test) refl
+-- by whether it came to RAM's end
+pub passed_is : (v : Seen) (rate low : ℕ) (b : Bool) → v.front ≡ Some low → nat_le (size_of (with_slice v low (slice_end v rate low))) (slice_end v rate low) ≡ b
+    → (let w : Seen = with_slice v low (slice_end v rate low) in cond b (over w) w ≡ passed_on v rate v.front)
+passed_is v rate low b front test = rw (front, test) refl
 
-pub pass_goes : (v : Seen) (rate low : ℕ) → v.front ≡ Some low → slice_end v rate low < size_of v → with_slice v low (slice_end v rate low) ≡ passed_on v rate v.front
-pass_goes v rate low front lt =
-    let size = size_slice v low (slice_end v rate low) in
-    let test = lt-leb (size_of (with_slice v low (slice_end v rate low))) (slice_end v rate low) (omega (arith, lt, size)) in
-    rw (front, test) refl
+mid_size : (hs : List Granule) (rows : Rows) (v : Seen) (low high : ℕ) → Mid hs rows v low high → 8 * length hs ≡ size_of (with_slice v low high)
+mid_size hs rows v low high m = ap (λ n. 8 * n) (sym (with_hidden_length (hidden hs rows) hs)) ∙ ap (λ (s : Seen). size_of s) m.is
 
-mid_size : (hs : List Granule) (rows : Rows) (v : Seen) (low high : ℕ) → Mid hs rows v low high → 8 * length hs ≡ size_of v
-mid_size hs rows v low high m =
-    ap (λ n. 8 * n) (sym (with_hidden_length (hidden hs rows) hs)) ∙ ap (λ (s : Seen). size_of s) m.is ∙ size_slice v low high
-
-mid_front : (hs : List Granule) (rows : Rows) (v : Seen) (low high : ℕ) → Mid hs rows v low high → rows.front ≡ Some high
-mid_front hs rows v low high m = ap (λ (s : Seen). s.front) m.is
-
--- it came to RAM's end, or not
-pub mid_ends : (hs : List Granule) (rows : Rows) (v : Seen) (low high size : ℕ) → Mid hs rows v low high → size ≡ 8 * length hs → rows.front ≡ Some size → size_of v ≤ high
-mid_ends hs rows v low high size m is finished =
-    let all = mid_size hs rows v low high m in
-    let same = some_is high size (sym (mid_front hs rows v low high m) ∙ finished) in
-    omega (arith, all, same, is)
-
-pub mid_goes : (hs : List Granule) (rows : Rows) (v : Seen) (low rate size : ℕ) → Mid hs rows v low (slice_end v rate low) → size ≡ 8 * length hs → (rows.front ≡ Some size → ⊥)
-    → slice_end v rate low < size_of v
-mid_goes hs rows v low rate size m is not_finished =
-    let high : ℕ = slice_end v rate low in
-    let all = mid_size hs rows v low high m in
-    elim (lt_tells high (size_of v)) [
-      | inl a ↦ a.1
-      | inr a ↦ absurd (not_finished (mid_front hs rows v low high m ∙ ap (λ n. let x : Option ℕ = Some n in x) (let le = a.1 in at_end high (low + 8 * rate) (size_of v) size (8 * length hs) refl le all is)))
+pub mid_over : (hs : List Granule) (rows : Rows) (v : Seen) (low rate size : ℕ) (b : Bool) → Mid hs rows v low (slice_end v rate low) → size ≡ 8 * length hs
+    → (b ≡ true → rows.front ≡ Some size) → (rows.front ≡ Some size → b ≡ true) → nat_le (size_of (with_slice v low (slice_end v rate low))) (slice_end v rate low) ≡ b
+mid_over hs rows v low rate size true m is ends_ goes =
+    let same = some_is (slice_end v rate low) size (sym (ap (λ (s : Seen). s.front) m.is) ∙ ends_ refl) in
+    let all = mid_size hs rows v low (slice_end v rate low) m in
+    le-leb _ _ (omega (arith, same, all, is))
+mid_over hs rows v low rate size false m is ends_ goes =
+    let all = mid_size hs rows v low (slice_end v rate low) m in
+    let long = size_slice v low (slice_end v rate low) in
+    elim (bool_tells (nat_le (size_of (with_slice v low (slice_end v rate low))) (slice_end v rate low))) [
+      | inl le ↦ absurd (let clash : false ≡ true = goes (ap (λ (s : Seen). s.front) m.is ∙ ap (λ n. let x : Option ℕ = Some n in x)
+          (at_end (slice_end v rate low) (low + 8 * rate) (size_of v) size refl (leb-true _ _ le) (omega (arith, all, is)) long)) in cc)
+      | inr more ↦ more
     ]
   where
-    at_end : (high sum most size long : ℕ) → high ≡ min sum most → most ≤ high → long ≡ most → size ≡ long → high ≡ size
-    at_end high sum most size long a b c d = omega (arith, a, b, c, d)
+    at_end : (high sum most size : ℕ) → {long : ℕ} → high ≡ min sum most → long ≤ high → size ≡ long → long ≡ most → high ≡ size
+    at_end high sum most size a b c d = omega (arith, a, b, c, d)
+
+pub passed_all : (v : Seen) (low high : ℕ) → nat_le (size_of (with_slice v low high)) high ≡ true → size_of v ≤ high
+passed_all v low high test = let le = leb-true _ _ test in let long = size_slice v low high in omega (arith, le, long)

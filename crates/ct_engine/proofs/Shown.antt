@@ -17,11 +17,11 @@ use Rattle.ct_engine.proofs.Sliced.{slice_written}
 begun_shown : (i : Image) (m : State) (s : Seen) (ss : List Status) → machine.begun_sweep (state_with m s ss) ≡ state_with m (begun s) ss
 begun_shown i m s ss = elim (bool_tells (has_quarantined s.objects)) [ inl e ↦ rw e refl | inr e ↦ rw e refl ]
 
-began_shown : (i : Image) (m : State) (s : Seen) (ss : List Status) (front : Option ℕ) → machine.sweep_began (state_with m s ss) front ≡ state_with m (began s front) ss
+pub began_shown : (i : Image) (m : State) (s : Seen) (ss : List Status) (front : Option ℕ) → machine.sweep_began (state_with m s ss) front ≡ state_with m (began s front) ss
 began_shown i m s ss None = begun_shown i m s ss
 began_shown i m s ss (Some front) = refl
 
-began_areas : (i : Image) (s : Seen) (front : Option ℕ) → HasAreas i s → HasAreas i (began s front)
+pub began_areas : (i : Image) (s : Seen) (front : Option ℕ) → HasAreas i s → HasAreas i (began s front)
 began_areas i s None h =
     chosen (λ (x : Seen). HasAreas i x) (has_quarantined s.objects) (record s { objects = painted s.objects; front = Some 0 }) s
     (λ e. record { ram = h.ram; count = h.count; begins = h.begins }) (λ e. h)

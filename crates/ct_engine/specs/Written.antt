@@ -66,6 +66,12 @@ pub record HasHeap (i : Image) (s : Seen) : Type 0 where
   pub end : i.heap_end ≡ s.heap_end
   pub limits : (q : ℕ) → (root i q).limit ≡ limit_at s q
 
+-- the heap lies where the image has it, and this quota may take what its entry says
+pub record HasQuota (i : Image) (s : Seen) (quota : ℕ) : Type 0 where
+  pub base : i.heap_base ≡ s.heap_base
+  pub end : i.heap_end ≡ s.heap_end
+  pub limit : (root i quota).limit ≡ limit_at s quota
+
 -- the state's objects are those that are seen
 pub record SharesObjects (m : State) (s : Seen) : Type 0 where
   pub objects : m.objects ≡ s.objects

@@ -25,9 +25,7 @@ use ct_entry::Entries;
 use ct_loadstore::Moved;
 use ct_mem::Memory;
 use ct_switch::Called;
-use ct_threads::{
-    access, call_row, end_row, handle_row, jump_row, next, read, return_row, value_of,
-};
+use ct_threads::{access, handle_row, jump_row, next, read, value_of};
 use def_instr::Instr;
 use def_profile::answers::UNWOUND;
 use def_step::Next;
@@ -165,7 +163,7 @@ impl<M: Memory + Drop> Engine<M> {
             ≡ call_outcome (register (thread self.old t) 6) (switch_at self.old e.now t) }
         ensures is { self.new ≡ after_call self.old e.now t (switch_at self.old e.now t) }
     {
-        call_row(&mut self.rows.list[t as usize], &mut self.mem, e)
+        ct_switch::call(&mut self.rows.list[t as usize], &mut self.mem, e)
     }
 
     /// The running thread returns to its caller, with c10 and c11, untagged where the frame's export passes plain
@@ -178,7 +176,7 @@ impl<M: Memory + Drop> Engine<M> {
         ensures result { result ≡ nat_lt 1 (length (thread self.old t).frames) }
         ensures is { self.new ≡ returned self.old e.now t }
     {
-        let back = return_row(&mut self.rows.list[t as usize], &mut self.mem, e);
+        let back = ct_switch::return_to_caller(&mut self.rows.list[t as usize], &mut self.mem, e);
         self.rows.go_on_or_end(t, back)
     }
 
@@ -189,7 +187,7 @@ impl<M: Memory + Drop> Engine<M> {
         ensures result { result ≡ nat_lt 1 (length (thread self.old t).frames) }
         ensures is { self.new ≡ ended_with self.old t value }
     {
-        let more = end_row(&mut self.rows.list[t as usize], &mut self.mem, value);
+        let more = ct_switch::end_with(&mut self.rows.list[t as usize], &mut self.mem, value);
         self.rows.go_on_or_end(t, more)
     }
 

@@ -4,7 +4,12 @@
 ghost use Rattle.std.specs.Prelude.{◌≡◌, ◌-◌, ◌≤◌, ◌<◌, Some, None, length, IfOk, MatchResult};
 ghost use Rattle.def_profile.specs.declared.limits.TheConstants.{MOST_STEPS};
 ghost use Rattle.def_machine.specs.Objects.{charges, has_quarantined};
-ghost use Rattle.ct_engine.specs.Grants.{new_object, after_allocation, allocation_in, allocation_told, IsTold, WasWhole, whole_in, freed_by};
+ghost use Rattle.ct_heap.specs.Lookups.{whole_of};
+ghost use Rattle.def_machine.specs.Image.{Image};
+ghost use Rattle.def_machine.specs.State.{State};
+ghost use Rattle.def_step.specs.Quotas.{allocation};
+ghost use Rattle.ct_engine.specs.Written.{HasQuota, SharesObjects};
+ghost use Rattle.ct_engine.specs.Grants.{new_object, after_allocation, allocation_told, IsTold, WasWhole, freed_by};
 ghost use Rattle.ct_engine.specs.Seen.{limit_at};
 
 use crate::engine::Engine;
@@ -16,14 +21,16 @@ impl<M: Memory + Drop> Engine<M> {
     /// An object of so many bytes, charged to a quota, at the least lawful place. Memory is seen as before: the
     /// object reads as zero.
     ///
+    /// It comes to what the written allocation does, of each image with this heap and this quota, in each state of the
+    /// machine with these objects.
     /// `Size` comes exactly where the size is zero or above the heap's length; else `Quota` exactly where the
     /// quota's limit would be passed; else `NoGap` exactly where no place is lawful. A refusal changes nothing.
     pub fn allocate(&mut self, quota: u32, size: u32) -> Result<Object, HeapRefusal>
         requires quota { quota < length self.old.limits }
         requires few { self.old.next ≤ MOST_STEPS }
         ensures is { self.new ≡ after_allocation self.old quota size result }
-        ensures answer { allocation_in self.old quota size
-            ≡ allocation_told self.old quota size result }
+        ensures answer { (i : Image) (m : State) → HasQuota i self.old quota → SharesObjects m self.old
+            → allocation i m quota size ≡ allocation_told self.old quota size result }
         ensures told { IfOk result
             (λ o. IsTold self.new o (new_object self.old quota size o.base)) }
     {
@@ -36,10 +43,10 @@ impl<M: Memory + Drop> Engine<M> {
     pub fn free(&mut self, t: u32, quota: u32, base: u32, top: u64) -> Result<Object, NotWhole>
         requires runs { self.old.running ≡ Some t }
         requires quota { quota < length self.old.limits }
-        ensures is { self.new ≡ freed_by self.old t (whole_in self.old quota base top) }
+        ensures is { self.new ≡ freed_by self.old t (whole_of quota base top self.old.objects) }
         ensures told { MatchResult result
             (λ o. WasWhole self.old self.new quota base top o)
-            (λ why. whole_in self.old quota base top ≡ None) }
+            (λ why. whole_of quota base top self.old.objects ≡ None) }
     {
         let object = self.rows.heap.free(&mut self.mem, quota, base, top)?;
         self.rows.tokens.drop_row(object.number);

@@ -1,4 +1,5 @@
 //! Keys and tokens.
+#![tactic(auto, using(crate::proofs::Tables::tokens_seen))]
 
 ghost use Rattle.std.specs.Prelude.{◌≡◌, ◌≤◌, ◌<◌, ◌&&◌, length, IfOk};
 ghost use Rattle.std.specs.List.{list_any};
@@ -6,7 +7,11 @@ ghost use Rattle.def_profile.specs.declared.limits.TheConstants.{MOST_STEPS};
 ghost use Rattle.def_machine.specs.Rows.{RowsFit};
 ghost use Rattle.def_step.specs.Tokens.{is_key_row, is_row_of};
 ghost use Rattle.ct_heap.specs.Lookups.{found_as, whole_at};
-ghost use Rattle.ct_engine.specs.Grants.{new_object, after_sealing, allocation_in, allocation_told, IsTold};
+ghost use Rattle.def_machine.specs.Image.{Image};
+ghost use Rattle.def_machine.specs.State.{State};
+ghost use Rattle.def_step.specs.Quotas.{allocation};
+ghost use Rattle.ct_engine.specs.Written.{HasQuota, SharesObjects};
+ghost use Rattle.ct_engine.specs.Grants.{new_object, after_sealing, allocation_told, IsTold};
 
 use crate::engine::Engine;
 use ct_heap::{Found, HeapRefusal, Object};
@@ -52,17 +57,13 @@ impl<M: Memory + Drop> Engine<M> {
         requires few { self.old.next ≤ MOST_STEPS }
         requires rows { RowsFit self.old.objects self.old.tokens }
         ensures is { self.new ≡ after_sealing self.old quota size key result }
-        ensures answer { allocation_in self.old quota size
-            ≡ allocation_told self.old quota size result }
+        ensures answer { (i : Image) (m : State) → HasQuota i self.old quota → SharesObjects m self.old
+            → allocation i m quota size ≡ allocation_told self.old quota size result }
         ensures told { IfOk result
             (λ o. IsTold self.new o (new_object self.old quota size o.base)) }
     {
-        match self.rows.heap.allocate(&mut self.mem, quota, size) {
-            Ok(object) => {
-                self.rows.tokens.add(object.number, key);
-                Ok(object)
-            }
-            Err(why) => Err(why),
-        }
+        let object = self.allocate(quota, size)?;
+        self.rows.tokens.add(object.number, key);
+        Ok(object)
     }
 }

@@ -8,7 +8,7 @@ ghost use Rattle.def_machine.specs.Image.{Image, root, handler_entry, stack_base
 ghost use Rattle.def_machine.specs.State.{State, Frame, Object, Status, nobody, thread};
 ghost use Rattle.def_machine.specs.Objects.{charges};
 ghost use Rattle.def_machine.specs.Heap as machine;
-ghost use Rattle.def_step.specs.Quotas.{allocation, let_go};
+ghost use Rattle.def_step.specs.Quotas.{let_go};
 ghost use Rattle.def_step.specs.Tokens as tokens;
 ghost use Rattle.def_machine.specs.Heap.{swept};
 ghost use Rattle.def_machine.specs.Frames.{answer, left_by};
@@ -18,7 +18,7 @@ ghost use Rattle.ct_switch.specs.Exports.{callee_of};
 ghost use Rattle.ct_engine.specs.Seen.{Seen, limit_at};
 ghost use Rattle.ct_engine.specs.Calls.{HeadStands, switch_at, after_call, returned, ended_with};
 ghost use Rattle.ct_engine.specs.Handling.{is_handled_at, after_trap};
-ghost use Rattle.ct_engine.specs.Grants.{with_object, with_row, allocation_in, freed};
+ghost use Rattle.ct_engine.specs.Grants.{with_object, with_row, freed};
 ghost use Rattle.ct_engine.specs.Sweeps.{swept_by};
 ghost use Rattle.ct_engine.specs.Written.{Shows, written, callee_thread, handler_seen, HasAreas, HasHeap, SharesObjects, state_with};
 
@@ -81,7 +81,7 @@ pub fn handlers_written()
 
 /// Of a state of the machine that holds what is seen, whatever the statuses of its threads, the written changes of an
 /// allocation, of a row that comes with it and of a free leave what `allocate`, `allocate_sealed` and `free` leave of
-/// that; the written allocation comes to what `allocate` comes to; and a quota may still take what `remaining` says.
+/// that; and a quota may still take what `remaining` says.
 pub fn grants_written()
     ensures allocates { (m : State) (s : Seen) (statuses : List Status) (r : Object)
         → machine.with_object (state_with m s statuses) r
@@ -92,8 +92,6 @@ pub fn grants_written()
     ensures frees { (i : Image) (m : State) (s : Seen) (statuses : List Status) (t : ℕ)
         (r : Object) → s.region.ram ≡ i.ram
         → let_go i (state_with m s statuses) t r ≡ state_with m (freed s t r) statuses }
-    ensures comes { (i : Image) (m : State) (s : Seen) (quota size : ℕ) → HasHeap i s
-        → SharesObjects m s → allocation_in s quota size ≡ allocation i m quota size }
     ensures remains { (i : Image) (m : State) (s : Seen) (quota : ℕ) → HasHeap i s
         → SharesObjects m s → (root i quota).limit - charges quota m.objects
         ≡ limit_at s quota - charges quota s.objects }

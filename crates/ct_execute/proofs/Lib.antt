@@ -1,4 +1,4 @@
-pub mod Bursting
-pub mod Ends
 pub mod Executed
 pub mod Opens
+pub mod Quiet
+pub mod Statuses

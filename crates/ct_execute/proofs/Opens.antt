@@ -1,5 +1,5 @@
 -- In a confined state of a shut image the running thread is open to an engine whose region and heap are the image's.
-use Rattle.std.proofs.Common.{ℕ, ◌≡◌, ◌-◌, ◌/◌, ◌≤◌, ◌<◌, ◌⊎◌, ◌||◌, Bool, true, false, List, ap, ◌∙◌, subst}
+use Rattle.std.proofs.Common.{ℕ, ◌≡◌, ◌-◌, ◌/◌, ◌≤◌, ◌<◌, ◌⊎◌, true, false, List, ap, ◌∙◌, refl, subst}
 use Rattle.std.proofs.Math.ListN.{get_or}
 use Rattle.def_words.specs.declared.Cap.{Cap}
 use Rattle.def_words.specs.Authority.{cap_base, cap_top}
@@ -11,22 +11,14 @@ use Rattle.def_machine.specs.State as state
 use Rattle.def_confined.specs.Confined.{Confined}
 use Rattle.def_hidden.specs.Hidden.{Shut, is_hidden}
 use Rattle.law_events.proofs.Seeing.{register_sees, counter_sees}
-use Rattle.def_chunks.specs.Hides.{hides_heap}
 use Rattle.ct_engine.specs.declared.rows.Region.{Region}
-use Rattle.ct_engine.specs.Seen.{Seen, region_hides, hides, thread, region_of}
+use Rattle.ct_engine.specs.Seen.{Seen, hides, thread}
 use Rattle.ct_engine.specs.Bursts.{IsOpen}
 use Rattle.ct_execute.specs.Opening.{Runs}
 
-abbrev hides_at : Region → ℕ → ℕ → List Object → ℕ → Bool
-hides_at g base end objects k = region_hides g k || hides_heap g.ram base end objects k
-
 -- region and heap hide what the image does
 hides_is : (i : Image) (s : State) (v : Seen) (t k : ℕ) → Runs i s v t → hides v k ≡ is_hidden i s.objects k
-hides_is i s v t k r =
-    ap (λ g. hides_at g v.heap_base v.heap_end v.objects k) r.region
-    ∙ ap (λ b. hides_at (region_of i) b v.heap_end v.objects k) r.heap_base
-    ∙ ap (λ e. hides_at (region_of i) i.heap_base e v.objects k) r.heap_end
-    ∙ ap (λ os. hides_at (region_of i) i.heap_base i.heap_end os k) r.objects
+hides_is i s v t k r = rw (r.region, r.heap_base, r.heap_end, r.objects) refl
 
 at_place : (i : Image) (s : State) (v : Seen) (t x : ℕ) → Runs i s v t → (i.ram ≤ x → is_hidden i s.objects (granule_of i x) ≡ false)
     → v.region.ram ≤ x → hides v ((x - v.region.ram) / 8) ≡ false

@@ -7,8 +7,10 @@ ghost use Rattle.def_step.specs.declared.Class.TheVariants as kinds;
 ghost use Rattle.def_step.specs.Devices.{DeviceStates};
 ghost use Rattle.def_step.specs.Operands.{class_of};
 ghost use Rattle.ct_engine.specs.Seen.{thread, advanced};
-ghost use Rattle.ct_engine.specs.Steps.{space_in};
-ghost use Rattle.ct_execute.specs.Deciding.{act_by, decide_by, decide_instruction, Decided, HasOperands, Stays};
+ghost use Rattle.def_reach.specs.Roots.{root_of};
+ghost use Rattle.def_step.specs.Operands.{operands_of};
+ghost use Rattle.def_machine.specs.State.{register};
+ghost use Rattle.ct_execute.specs.Deciding.{act_by, HasOperands, IsCarriedOut, Stays};
 ghost use Rattle.ct_execute.specs.Opening.{MayGo};
 
 use crate::ran::{ActBy, Ran};
@@ -61,10 +63,10 @@ fn execute_jump<M: Memory + Drop>(
     requires has { HasOperands instruction operands }
     requires class { class_of instruction ≡ kinds.Jump }
     requires jump { is_jump instruction ≡ true }
-    ensures is { (k : DeviceStates) (time : ℕ) → Decided
-        (decide_instruction entries.now (thread engine.old t)
-        (space_in engine.old k time) instruction)
-        t engine.old k engine.new k result }
+    ensures is { (k : DeviceStates) (time : ℕ) → IsCarriedOut
+        (root_of entries.now
+        (register (thread engine.old t) (operands_of instruction).first).shadow.root).of
+        t time instruction engine.old k engine.new k result }
     ensures stays { Stays engine.old engine.new }
 {
     let x = engine.register(t, operands.first);
@@ -94,10 +96,8 @@ fn execute_access<M: Memory + Drop>(
     requires has { HasOperands instruction operands }
     requires class { class_of instruction ≡ kinds.Access }
     requires access { is_access instruction ≡ true }
-    ensures is { (named : ℕ) → Decided
-        (decide_by named (thread engine.old t)
-        (space_in engine.old bus.old time) instruction)
-        t engine.old bus.old engine.new bus.new result }
+    ensures is { (named : ℕ) → IsCarriedOut named t time instruction
+        engine.old bus.old engine.new bus.new result }
     ensures stays { Stays engine.old engine.new }
     ensures bases { bus.new.bases ≡ bus.old.bases }
 {
@@ -131,10 +131,8 @@ fn execute_value<M: Memory + Drop>(
     requires integer { class ≡ kinds.Integer → is_integer instruction ≡ true }
     requires capability { class ≡ kinds.Capability
         → (is_capability instruction ≡ true) × (is_system instruction ≡ false) }
-    ensures is { (named : ℕ) (k : DeviceStates) (time : ℕ) → Decided
-        (decide_by named (thread engine.old t)
-        (space_in engine.old k time) instruction)
-        t engine.old k engine.new k result }
+    ensures is { (named : ℕ) (k : DeviceStates) (time : ℕ) → IsCarriedOut named t time instruction
+        engine.old k engine.new k result }
     ensures stays { Stays engine.old engine.new }
 {
     let x = engine.register(t, operands.first);
@@ -182,10 +180,10 @@ pub(crate) fn execute_instruction<M: Memory + Drop>(
 ) -> Ran
     requires may { MayGo engine.old t heap }
     requires ranged { InRange instruction }
-    ensures is { Decided
-        (decide_instruction entries.now (thread engine.old t)
-        (space_in engine.old bus.old time) instruction)
-        t engine.old bus.old engine.new bus.new result }
+    ensures is { IsCarriedOut
+        (root_of entries.now
+        (register (thread engine.old t) (operands_of instruction).first).shadow.root).of
+        t time instruction engine.old bus.old engine.new bus.new result }
     ensures stays { Stays engine.old engine.new }
     ensures bases { bus.new.bases ≡ bus.old.bases }
 {

@@ -1,7 +1,6 @@
 //! One instruction, from its fetch on.
 
-ghost use Rattle.std.specs.Prelude.{◌≡◌};
-ghost use Rattle.ct_execute.specs.Deciding.{decision, Decided, IfUnfinished, RanInRange, Stays};
+ghost use Rattle.ct_execute.specs.Deciding.{ExecutesAsWritten, RanInRange};
 ghost use Rattle.ct_execute.specs.Opening.{MayGo};
 
 use crate::classes::execute_instruction;
@@ -28,12 +27,9 @@ pub fn execute<M: Memory + Drop>(
     time: u64,
 ) -> Ran
     requires { MayGo engine.old t heap }
-    ensures is { Decided (decision entries.now engine.old t bus.old time) t
+    ensures executes { ExecutesAsWritten entries.now t time
         engine.old bus.old engine.new bus.new result }
-    ensures unfinished { IfUnfinished result ((engine.new ≡ engine.old) × (bus.new ≡ bus.old)) }
     ensures ranged { RanInRange result }
-    ensures stays { Stays engine.old engine.new }
-    ensures bases { bus.new.bases ≡ bus.old.bases }
 {
     let pcc = engine.pcc(t);
     if let Some(trap) = fetch_trap(pcc) {

@@ -2,7 +2,7 @@
 use Rattle.std.proofs.Common.{ℕ, zero, suc, ◌+◌, ◌-◌, ◌≡◌, ◌<◌, inl, inr, None, List, [], ◌∷◌, ◌++◌, refl, sym, ap, ◌∙◌, subst, arith}
 use Rattle.std.proofs.lemmas.Bool.{cases_order}
 use Rattle.ct_entry.specs.declared.acts.Happened.{Happened}
-use Rattle.def_machine.specs.Platform.{Platform, MachineRow}
+use Rattle.def_machine.specs.Platform.{MachineRow}
 use Rattle.def_machine.specs.State.{State}
 use Rattle.def_events.specs.Kinds.{Kinds, kinds, all_more}
 use Rattle.def_step.specs.declared.Event.{Event}
@@ -11,6 +11,7 @@ use Rattle.def_step.specs.Events.{happens, run, happenings_of, end_of}
 use Rattle.law_routines.proofs.Appended.{run_append, told_append}
 use Rattle.law_routines.proofs.Counted.{run_kinds}
 use Rattle.ct_machine.specs.Going.{silence}
+use Rattle.ct_machine.proofs.Guards.{same_machine}
 use Rattle.ct_machine.specs.Onward.{after_rounds, rounds, told_last, RanOn}
 
 -- ---- lists of rounds
@@ -38,11 +39,8 @@ told_both (suc (suc a)) b h some =
 
 -- ---- machines
 
-pub same_machine : (m n : MachineRow) → m.board ≡ n.board → m.state ≡ n.state → m ≡ n
-same_machine m n board state = ap (λ (b : Platform). machine b m.state) board ∙ ap (λ (s : State). machine n.board s) state
-  where
-    machine : Platform → State → MachineRow
-    machine b s = record { board = b; state = s }
+abbrev pub with_silence : State → State × Happened
+with_silence s = (s, silence)
 
 pub none_ran : (m : MachineRow) (h : Happened) → RanOn m m 0 h
 unfolding run happenings_of
@@ -83,16 +81,17 @@ both_ran first m n a b h before going some more =
 
 -- ---- one round
 
-pub round_ran : (m mid n : MachineRow) (h : Happened) → mid.board ≡ m.board → mid.state ≡ (happens m.board m.state Sweep).0 → (happens m.board m.state Sweep).1 ≡ silence
-    → n.board ≡ mid.board → (n.state, h) ≡ happens mid.board mid.state Step → RanOn m n 1 h
+pub round_ran : {m mid n : MachineRow} {h : Happened} → (mid.state, silence) ≡ happens m.board m.state Sweep → mid.board ≡ m.board
+    → (n.state, h) ≡ happens mid.board mid.state Step → n.board ≡ mid.board → RanOn m n 1 h
 unfolding run happenings_of
-round_ran m mid n h board state silent next is =
-    let there : mid ≡ record { board = m.board; state = (happens m.board m.state Sweep).0 } = same_machine mid (record { board = m.board; state = (happens m.board m.state Sweep).0 }) board state in
+round_ran {m} {mid} {n} {h} swept board is next =
+    let there : mid ≡ record { board = m.board; state = (happens m.board m.state Sweep).0 } =
+    same_machine mid (record { board = m.board; state = (happens m.board m.state Sweep).0 }) board (ap (λ (p : State × Happened). p.0) swept) in
     let whole : (n.state, h) ≡ happens m.board (happens m.board m.state Sweep).0 Step = is ∙ ap (λ (x : MachineRow). happens x.board x.state Step) there in
     record {
       board = next ∙ board;
       state = ap (λ (p : State × Happened). p.0) whole;
-      told = ap (λ (x : Happened). x ∷ (happens m.board (happens m.board m.state Sweep).0 Step).1 ∷ []) silent
+      told = ap (λ (x : Happened). x ∷ (happens m.board (happens m.board m.state Sweep).0 Step).1 ∷ []) (sym (ap (λ (p : State × Happened). p.1) swept))
           ∙ ap (λ (p : State × Happened). silence ∷ p.1 ∷ []) (sym whole);
       going = λ k some few. absurd (omega (arith, some, few));
     }
@@ -108,5 +107,7 @@ more_kinds (suc n) k =
     more_kinds n (record k { steps = k.steps + 1; sweeps = k.sweeps + 1 })
     ∙ ap (λ x. record k { steps = x; sweeps = k.sweeps + 1 + n }) (next k.steps) ∙ ap (λ x. record k { steps = k.steps + suc n; sweeps = x }) (next k.sweeps)
 
-pub ran_kinds : (m n : MachineRow) (count : ℕ) (h : Happened) → RanOn m n count h → kinds n.state.counts ≡ record (kinds m.state.counts) { steps = m.state.counts.steps + count; sweeps = m.state.counts.sweeps + count }
-ran_kinds m n count h r = ap (λ (s : State). kinds s.counts) r.state ∙ run_kinds m.board m.state (rounds count) ∙ more_kinds count (kinds m.state.counts)
+pub ran_counts : {m n : MachineRow} {count : ℕ} {h : Happened} → RanOn m n count h → (n.state.counts.steps ≡ m.state.counts.steps + count) × (n.state.counts.sweeps ≡ m.state.counts.sweeps + count)
+ran_counts {m} {count = count} r =
+    let is = ap (λ (s : State). kinds s.counts) r.state ∙ run_kinds m.board m.state (rounds count) ∙ more_kinds count (kinds m.state.counts) in
+    (ap (λ (k : Kinds). k.steps) is, ap (λ (k : Kinds). k.sweeps) is)

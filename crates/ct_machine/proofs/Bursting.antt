@@ -1,29 +1,28 @@
 -- A burst: its instructions are steps that tell nothing, and where no sweep has work each is one with a slice before
 -- it.
-use Rattle.std.proofs.Common.{ℕ, zero, suc, ◌+◌, ◌==◌, ◌≡◌, ◌≤◌, Bool, true, false, List, Some, refl, sym, ap, ◌∙◌, subst, arith}
+use Rattle.std.proofs.Common.{ℕ, zero, suc, ◌==◌, ◌≡◌, ◌≤◌, Bool, true, false, List, Some, refl, sym, ap, ◌∙◌, subst, arith}
 use Rattle.std.proofs.lemmas.Bool.{eqb-true}
 use Rattle.def_events.specs.Guarded.{Guarded}
 use Rattle.def_machine.specs.Image.{Image}
 use Rattle.def_machine.specs.Platform.{MachineRow}
 use Rattle.def_confined.specs.Confined.{Confined}
 use Rattle.def_hidden.specs.Hidden.{Shut}
-use Rattle.def_machine.specs.State.{Counts, DeviceState}
+use Rattle.def_machine.specs.State.{State, Counts, DeviceState}
 use Rattle.def_step.specs.Devices.{DeviceStates}
 use Rattle.ct_sched.specs.Sched.{SchedRow}
 use Rattle.ct_engine.specs.Bursts.{GoesFor, GoesOnce, IsOpen, StaysOpen}
 use Rattle.ct_engine.specs.Seen.{Seen}
 use Rattle.ct_execute.specs.Deciding.{Stays}
-use Rattle.ct_execute.proofs.Bursting.{goes_stays}
-use Rattle.ct_execute.proofs.Ends.{stays_same}
+use Rattle.ct_execute.proofs.Quiet.{goes_stays}
 use Rattle.ct_machine.specs.Parts.{state_by, IsCounted, IsKept}
-use Rattle.ct_machine.specs.Going.{silence}
+use Rattle.ct_machine.specs.Going.{one_more_sweep}
 use Rattle.ct_machine.specs.Quiet.{has_sweep, with_rounds, WentRounds}
-use Rattle.ct_machine.proofs.Appending.{same_machine}
-use Rattle.ct_machine.proofs.Guards.{step_guarded}
+use Rattle.ct_machine.proofs.Appending.{with_silence}
+use Rattle.ct_machine.proofs.Guards.{same_machine}
 use Rattle.ct_machine.proofs.Keeping.{counted_so, machine_by}
 use Rattle.ct_machine.proofs.Opened.{is_open}
 use Rattle.ct_machine.proofs.Quietly.{none_ended, once_kept, quietly_is, sweep_stays}
-use Rattle.ct_machine.proofs.Rounding.{none_went, one_more_went, with_silence, WentRound}
+use Rattle.ct_machine.proofs.Rounding.{no_rounds, none_went, one_more_round, one_more_went}
 
 -- ---- a burst of one at most
 
@@ -53,12 +52,13 @@ both_stay : (e mid new : Seen) → Stays e mid → Stays mid new → Stays e new
 both_stay e mid new a b = record {
   beside = b.beside ∙ ap (λ (x : Seen). record x { granules = new.granules; threads = new.threads }) a.beside;
   size = b.size ∙ a.size;
+  threads = b.threads ∙ a.threads;
 }
 
 module _ (i : Image) (e : Seen) (r : SchedRow) (t : ℕ) (kept : IsKept i e r) where
   -- what stands beside thread and memory
   pub burst_kept : (n : ℕ) (new : Seen) → GoesFor t n e new → IsKept i new r × Stays e new
-  burst_kept zero new goes = subst (λ (x : Seen). IsKept i x r × Stays e x) (sym goes) (kept, stays_same e)
+  burst_kept zero new goes = subst (λ (x : Seen). IsKept i x r × Stays e x) (sym goes) (kept, record { beside = refl; size = refl; threads = refl })
   burst_kept (suc n) new goes =
       let before = burst_kept n goes.0 goes.1 in
       (once_kept i goes.0 new r t before.0 goes.2, both_stay e goes.0 new before.1 (goes_stays goes.0 new t goes.2))
@@ -80,55 +80,37 @@ module _ (i : Image) (e : Seen) (r : SchedRow) (t : ℕ) (kept : IsKept i e r) w
     still_runs : (n : ℕ) (new : Seen) → GoesFor t n e new → new.running ≡ Some t
     still_runs n new goes = ap (λ (x : Seen). x.running) (burst_kept n new goes).1.beside ∙ runs
 
-    -- with so many steps and sweeps counted
-    abbrev counted : Seen → ℕ → ℕ → MachineRow
-    counted x steps sweeps = machine_by i x r k pending time (record c { steps = steps; sweeps = sweeps })
-
-    -- steps without slices
-    burst_guarded : (n steps : ℕ) (new : Seen) → GoesFor t n e new → steps ≡ c.steps + n → Guarded (counted new steps c.sweeps)
-    burst_guarded zero steps new goes is =
-        let none_more : c.steps ≡ steps = omega (arith, is) in
-        subst (λ (x : Seen). Guarded (counted x steps c.sweeps)) (sym goes) (subst (λ m. Guarded (counted e m c.sweeps)) none_more guarded)
-    burst_guarded (suc n) steps new goes is =
-        let mid : MachineRow = counted goes.0 (c.steps + n) c.sweeps in
-        let one_more : steps ≡ c.steps + n + 1 = omega (arith, is) in
-        step_guarded mid (counted new steps c.sweeps) silence (burst_guarded n (c.steps + n) goes.0 goes.1 refl)
-        (ap (λ m. with_silence (counted new m c.sweeps).state) one_more
-        ∙ quietly_is i goes.0 new r k pending time mid.state.counts t (burst_kept n goes.0 goes.1).0 (still_runs n goes.0 goes.1) none goes.2) refl
-
-    pub stays_open : (most : ℕ) → StaysOpen t most e
-    stays_open most n new few goes =
-        let g = burst_guarded n (c.steps + n) new goes refl in
-        is_open i new r pending k.states time (counted new (c.steps + n) c.sweeps).state.counts t (burst_kept n new goes).0 g.shut g.keeps.confined (still_runs n new goes)
-
     module _ (idle : has_sweep (machine_by i e r k pending time c).state ≡ false) where
-      pub burst_went : (n steps sweeps : ℕ) (new : Seen) → GoesFor t n e new → steps ≡ c.steps + n → sweeps ≡ c.sweeps + n
-          → WentRounds (machine_by i e r k pending time c) (counted new steps sweeps) n × Guarded (counted new steps sweeps)
-      burst_went zero steps sweeps new goes more_steps more_sweeps =
-          let same_steps : c.steps ≡ steps = omega (arith, more_steps) in
-          let same_sweeps : c.sweeps ≡ sweeps = omega (arith, more_sweeps) in
+      -- so many rounds of the machine counted
+      abbrev rounds_of : Seen → ℕ → MachineRow
+      rounds_of x n = record { board = (machine_by i x r k pending time c).board; state = with_rounds (machine_by i x r k pending time c).state n }
+
+      burst_went : (n : ℕ) (new : Seen) → GoesFor t n e new → WentRounds (machine_by i e r k pending time c) (rounds_of new n) n
+      burst_went zero new goes =
           let first : MachineRow = machine_by i e r k pending time c in
-          let here : first ≡ counted new steps sweeps = ap (λ (x : Seen). counted x c.steps c.sweeps) (sym goes) ∙ ap (λ m. counted new m c.sweeps) same_steps ∙ ap (λ m. counted new steps m) same_sweeps in
-          subst (λ (n : MachineRow). WentRounds first n 0 × Guarded n) here (none_went first, guarded)
-      burst_went (suc n) steps sweeps new goes more_steps more_sweeps =
-          let mid : MachineRow = counted goes.0 (c.steps + n) (c.sweeps + n) in
-          let one_step : steps ≡ c.steps + n + 1 = omega (arith, more_steps) in
-          let one_sweep : sweeps ≡ c.sweeps + n + 1 = omega (arith, more_sweeps) in
+          subst (λ (x : Seen). WentRounds first (rounds_of x 0) 0) (sym goes)
+          (subst (λ (s : State). WentRounds first (record { board = first.board; state = s }) 0) (no_rounds first.state) (none_went first guarded))
+      burst_went (suc n) new goes =
+          let mid : MachineRow = rounds_of goes.0 n in
           let there = burst_kept n goes.0 goes.1 in
           let still : goes.0.running ≡ Some t = still_runs n goes.0 goes.1 in
-          let w : WentRound mid (counted new steps sweeps) = record {
-            is = ap (λ m. with_silence (counted new m sweeps).state) one_step
-                ∙ ap (λ m. with_silence (counted new (c.steps + n + 1) m).state) one_sweep
-                ∙ quietly_is i goes.0 new r k pending time (record mid.state.counts { sweeps = c.sweeps + n + 1 }) t there.0 still none goes.2;
+          one_more_went (machine_by i e r k pending time c) mid (rounds_of new (suc n)) n (burst_went n goes.0 goes.1)
+          (sweep_stays e goes.0 r pending k.states time mid.state.counts there.1 ∙ idle)
+          (record {
+            is = ap with_silence (one_more_round (machine_by i new r k pending time c).state n)
+                ∙ quietly_is i goes.0 new r k pending time (one_more_sweep mid.state).counts t there.0 still none goes.2;
             board = refl;
             going = none_ended i goes.0 r pending k.states time mid.state.counts t there.0 still;
-          } in
-          one_more_went (machine_by i e r k pending time c) mid (counted new steps sweeps) n (burst_went n (c.steps + n) (c.sweeps + n) goes.0 goes.1 refl refl)
-          (sweep_stays e goes.0 r pending k.states time mid.state.counts there.1 ∙ idle) w
+          })
+
+      -- each is guarded, and so nothing is hidden that the thread may reach
+      pub stays_open : (most : ℕ) → StaysOpen t most e
+      stays_open most n new few goes =
+          let g = (burst_went n new goes).guarded in
+          is_open i new r pending k.states time (rounds_of new n).state.counts t (burst_kept n new goes).0 g.shut g.keeps.confined (still_runs n new goes)
 
       -- they count, and the machine is this
       pub rounds_went : (made : ℕ) (new : Seen) (n : MachineRow) → GoesFor t made e new → n.state ≡ with_rounds (machine_by i new r k pending time c).state made
-          → n.board ≡ (machine_by i new r k pending time c).board → WentRounds (machine_by i e r k pending time c) n made × Guarded n
+          → n.board ≡ (machine_by i new r k pending time c).board → WentRounds (machine_by i e r k pending time c) n made
       rounds_went made new n goes state board =
-          subst (λ (m : MachineRow). WentRounds (machine_by i e r k pending time c) m made × Guarded m) (sym (same_machine n (counted new (c.steps + made) (c.sweeps + made)) board state))
-          (burst_went made (c.steps + made) (c.sweeps + made) new goes refl refl)
+          subst (λ (m : MachineRow). WentRounds (machine_by i e r k pending time c) m made) (sym (same_machine n (rounds_of new made) board state)) (burst_went made new goes)

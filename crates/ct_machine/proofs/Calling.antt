@@ -33,7 +33,7 @@ use Rattle.law_callable.proofs.Showing.{ShowsCaller}
 use Rattle.ct_machine.specs.Parts.{state_by, IsKept}
 use Rattle.ct_machine.specs.Starting.{IsOfSound}
 use Rattle.ct_machine.specs.Going.{ran_by_call, CameTo}
-use Rattle.ct_services.proofs.Statuses.{changed_with, like_with}
+use Rattle.ct_execute.proofs.Statuses.{changed_with, like_with}
 use Rattle.ct_machine.proofs.Taking.{ram_is, frames_with}
 use Rattle.ct_machine.proofs.Keeping.{machine_by, same_kept}
 use Rattle.ct_machine.proofs.Opened.{placed_at}

@@ -1,11 +1,10 @@
 -- A machine that starts is guarded, and every event keeps it so.
-use Rattle.std.proofs.Common.{◌≡◌, ap, subst, sym}
+use Rattle.std.proofs.Common.{◌≡◌, ◌∙◌, ap, subst, sym}
 use Rattle.ct_entry.specs.declared.acts.Happened.{Happened}
 use Rattle.def_events.specs.Guarded.{Guarded}
 use Rattle.def_confined.specs.Telling.{IsLicensedEvent}
 use Rattle.def_machine.specs.State.{State}
 use Rattle.def_step.specs.declared.Event.{Event}
-use Rattle.def_step.specs.declared.Event.TheVariants.{Step}
 use Rattle.def_machine.specs.Platform.{Platform, MachineRow}
 use Rattle.def_step.specs.Events.{happens}
 use Rattle.def_image.specs.Parts.{PartsRow}
@@ -69,11 +68,12 @@ event_licensed m e g = record {
   off = λ o is. span_licensed m.board m.state e o g.partitioned g.facts g.wired g.keeps is;
 }
 
+pub same_machine : (m n : MachineRow) → m.board ≡ n.board → m.state ≡ n.state → m ≡ n
+same_machine m n board state =
+    ap (λ (b : Platform). let x : MachineRow = record { board = b; state = m.state } in x) board ∙ ap (λ (s : State). let x : MachineRow = record { board = n.board; state = s } in x) state
+
 pub kept_by : (m n : MachineRow) (e : Event) → Guarded m → n.state ≡ (happens m.board m.state e).0 → n.board ≡ m.board → Guarded n
-kept_by m n e g state board = whole n.board n.state board state
-  where
-    whole : (b : Platform) (s : State) → b ≡ m.board → s ≡ (happens m.board m.state e).0 → Guarded (record { board = b; state = s })
-    whole b s is_board is_state = rw (is_board, is_state) (after_event m e g)
+kept_by m n e g state board = subst Guarded (sym (same_machine n (record { board = m.board; state = (happens m.board m.state e).0 }) board state)) (after_event m e g)
 
 pub told_by : (m n : MachineRow) (e : Event) (h : Happened) → Guarded m → m ≡ n → h ≡ (happens m.board m.state e).1 → IsLicensedEvent n.board.image.entries h
 told_by m n e h g same told =
@@ -83,13 +83,8 @@ told_by m n e h g same told =
 pub booted_by : (p : PartsRow) (m : MachineRow) → Sound p → m ≡ booted_machine p → Guarded m
 booted_by p m s is = subst Guarded (sym is) (at_boot p s)
 
--- ---- nothing, or a step
+pub told_guarded : {m n : MachineRow} (e : Event) {h : Happened} → Guarded m → (n.state, h) ≡ happens m.board m.state e → n.board ≡ m.board → Guarded n
+told_guarded {m} {n} e g is board = kept_by m n e g (ap (λ (r : State × Happened). r.0) is) board
 
 pub same_by : (m n : MachineRow) → n.state ≡ m.state → n.board ≡ m.board → Guarded m → Guarded n
-same_by m n state board h = whole n.board n.state board state
-  where
-    whole : (b : Platform) (s : State) → b ≡ m.board → s ≡ m.state → Guarded (record { board = b; state = s })
-    whole b s is_board is_state = rw (is_board, is_state) h
-
-pub step_guarded : (m n : MachineRow) (h : Happened) → Guarded m → (n.state, h) ≡ happens m.board m.state Step → n.board ≡ m.board → Guarded n
-step_guarded m n h g is board = kept_by m n Step g (ap (λ (r : State × Happened). r.0) is) board
+same_by m n state board h = subst Guarded (sym (same_machine n m board state)) h

@@ -1,12 +1,9 @@
 -- What is kept beside the state is kept by a step.
-use Rattle.std.proofs.Common.{ℕ, zero, suc, ◌*◌, ◌≡◌, ◌<◌, Bool, true, false, cond, inl, inr, nat_lt, map, List, [], ◌∷◌, length, Option, Some, None, refl, sym, ap, ◌∙◌, subst, slice_index_or, arith}
-use Rattle.std.proofs.Math.ListN.{set}
+use Rattle.std.proofs.Common.{ℕ, zero, suc, ◌*◌, ◌≡◌, ◌<◌, Bool, true, false, inl, inr, nat_lt, map, List, [], ◌∷◌, length, Option, Some, None, refl, sym, ap, ◌∙◌, subst, slice_index_or, arith}
 use Rattle.std.proofs.lemmas.List.{length-set, length-map}
-use Rattle.law_lists.proofs.Tests.{lt_tells, chosen, both_left}
+use Rattle.law_lists.proofs.Tests.{lt_tells, both_left}
 use Rattle.law_lists.proofs.Finds.{find_tells}
 use Rattle.ct_entry.specs.Listed.{Listed}
-use Rattle.def_words.specs.declared.Cap.{Cap}
-use Rattle.def_profile.specs.declared.answers.TheConstants.{UNWOUND}
 use Rattle.def_memory.specs.Granules.{plain}
 use Rattle.law_areas.proofs.Writes.{all_length}
 use Rattle.law_granules.proofs.Lists.{zeroed_length}
@@ -15,12 +12,10 @@ use Rattle.def_sched.specs.declared.Status.TheVariants.{Ready, Sleeping, Waiting
 use Rattle.def_sched.specs.Statuses.{status_of, is_ready, after_tick}
 use Rattle.def_sched.specs.Picks.{pick, is_foremost}
 use Rattle.def_machine.specs.Image.{Image}
-use Rattle.def_machine.specs.State.{State, Thread, Frame, Counts, nobody, register}
-use Rattle.def_machine.specs.Memory.{filtered_in}
-use Rattle.def_machine.specs.Frames.{left_with}
+use Rattle.def_machine.specs.State.{State, Thread, Frame, Counts, register}
 use Rattle.def_words.specs.declared.Trap.{Trap}
 use Rattle.def_step.specs.Devices.{DeviceStates}
-use Rattle.def_step.specs.Handlers.{handler_value, record_words}
+use Rattle.def_step.specs.Handlers.{record_words}
 use Rattle.def_step.specs.Switch.{Switched, Trapped as NotMade, TooDeep, NoStack, Enters}
 use Rattle.def_machine.specs.Platform.{MachineRow}
 use Rattle.ct_entry.specs.declared.acts.Deed.{Deed}
@@ -31,16 +26,16 @@ use Rattle.ct_threads.specs.Handling.{record_place}
 use Rattle.ct_engine.specs.Seen as engine
 use Rattle.ct_engine.specs.Seen.{area_at, resumed, with_running, Seen}
 use Rattle.ct_engine.specs.Written.{StaysBeside, HasHeap}
-use Rattle.ct_engine.specs.Calls.{switched, ended_by, ended_with, returned}
-use Rattle.ct_engine.specs.Handling.{is_marked, is_handled_at, handler_begun}
+use Rattle.ct_engine.specs.Calls.{switched}
+use Rattle.ct_engine.specs.Handling.{handler_begun}
 use Rattle.ct_execute.specs.declared.ran.Ran.{Ran}
 use Rattle.ct_execute.specs.declared.ran.Ran.TheVariants.{Went, Returned, Native, Trapped}
-use Rattle.ct_execute.specs.Deciding.{Decision, Goes, Returns, Serves, Traps, Decided, IfUnfinished, Stays}
+use Rattle.ct_execute.specs.Deciding.{IfUnfinished, Stays}
 use Rattle.ct_services.specs.Answering.{switched_in}
 use Rattle.ct_services.specs.Serves.{RunsReady}
 use Rattle.ct_boot.specs.Placed.{ArePlaced}
 use Rattle.ct_machine.specs.Parts.{state_by, IsKept, IsCounted}
-use Rattle.ct_machine.specs.Going.{left_after, goes_after, status_after, CameTo}
+use Rattle.ct_machine.specs.Going.{CameTo}
 
 -- the machine that these parts make
 abbrev pub machine_by : Image → Seen → SchedRow → DeviceStates → Bool → ℕ → Counts → MachineRow
@@ -75,9 +70,10 @@ stays_kept i e new r ss kept stays many ready = record {
   ready = ready;
 }
 
--- all else than memory, threads and who runs is as it was
+-- all else than memory, threads, who runs, and what a sweep changes of objects is as it was
 abbrev pub StaysElse : Seen → Seen → Type 0
-StaysElse e new = new ≡ record e { granules = new.granules; threads = new.threads; running = new.running }
+StaysElse e new = new
+    ≡ record e { granules = new.granules; threads = new.threads; running = new.running; objects = new.objects; front = new.front }
 
 pub kept_so : (i : Image) (e new : Seen) (r : SchedRow) (ss : List Status) → IsKept i e r → StaysElse e new → length new.granules ≡ length e.granules → length new.threads ≡ length e.threads
     → length ss ≡ length r.statuses → RunsReady new ss → IsKept i new (with_statuses r ss)
@@ -115,85 +111,24 @@ switched_next e entries t TooDeep = refl
 switched_next e entries t NoStack = refl
 switched_next e entries t (Enters export high) = refl
 
-ended_next : (e : Seen) (t : ℕ) (first second : Frame → Cap) (fs : List Frame) → (ended_by e t first second fs).next ≡ e.next
-ended_next e t first second [] = refl
-ended_next e t first second (f ∷ []) = refl
-ended_next e t first second (f ∷ g ∷ fs) = refl
-
-begun_next : (e : Seen) (entries : Listed) (t handler : ℕ) (why : Trap) (fs : List Frame) → (handler_begun e entries t handler why fs).next ≡ e.next
-begun_next e entries t handler why [] = refl
-begun_next e entries t handler why (f ∷ fs) = refl
-
-either_next : (e x y : Seen) (b : Bool) → x.next ≡ e.next → y.next ≡ e.next → (cond b x y).next ≡ e.next
-either_next e x y b one two = chosen (λ (z : Seen). z.next ≡ e.next) b x y (λ is. one) (λ not_. two)
-
-pub left_next : (ran : Ran) (e : Seen) (entries : Listed) (t handler : ℕ) → (left_after ran e entries t handler).next ≡ e.next
-left_next (Went acted) e entries t handler = refl
-left_next Returned e entries t handler =
-    either_next e (ended_with e t (handler_value (engine.thread e t))) (returned e entries t) (is_marked (engine.thread e t).frames)
-    (ended_next e t _ _ (engine.thread e t).frames) (ended_next e t _ _ (engine.thread e t).frames)
-left_next (Native number) e entries t handler = refl
-left_next (Trapped why) e entries t handler =
-    either_next e (handler_begun e entries t handler why (engine.thread e t).frames) (ended_with e t UNWOUND) (is_handled_at e t handler)
-    (begun_next e entries t handler why (engine.thread e t).frames) (ended_next e t _ _ (engine.thread e t).frames)
-
 -- ---- an instruction
 
--- one instruction leaves as many threads as there were
-as_many : (D : Decision) (t : ℕ) (e new : Seen) (k bank : DeviceStates) (ran : Ran) → Decided D t e k new bank ran → length new.threads ≡ length e.threads
-as_many (Goes d entry) t e new k bank ran h = ap (λ (x : Seen). length x.threads) h.0 ∙ length-set e.threads t _
-as_many Returns t e new k bank ran h = ap (λ (x : Seen). length x.threads) h.0
-as_many (Serves number) t e new k bank ran h = ap (λ (x : Seen). length x.threads) h.0
-as_many (Traps why) t e new k bank ran h = ap (λ (x : Seen). length x.threads) h.0
-
-pub ran_else : (e new : Seen) → Stays e new → StaysElse e new
-ran_else e new stays =
-    stays.beside ∙ ap (λ (o : Option ℕ). let x : Seen = record e { granules = new.granules; threads = new.threads; running = o } in x) (sym (ap (λ (x : Seen). x.running) stays.beside))
-
-pub ran_kept : (i : Image) (D : Decision) (t : ℕ) (e new : Seen) (r : SchedRow) (k bank : DeviceStates) (ran : Ran) → IsKept i e r → Decided D t e k new bank ran → Stays e new → IsKept i new r
-ran_kept i D t e new r k bank ran kept h stays =
-    same_kept i e new r kept (ran_else e new stays) stays.size (as_many D t e new k bank ran h) (still_ready e new r.statuses kept.ready (ap (λ (x : Seen). x.running) stays.beside))
+pub ran_kept : (i : Image) (e new : Seen) (r : SchedRow) → IsKept i e r → Stays e new → IsKept i new r
+ran_kept i e new r kept stays =
+    same_kept i e new r kept (subst (StaysElse e) (sym stays.beside) refl) stays.size stays.threads (still_ready e new r.statuses kept.ready (ap (λ (x : Seen). x.running) stays.beside))
 
 -- ---- a frame ends
 
-switched_kept : (i : Image) (e : Seen) (r : SchedRow) (t high : ℕ) (x : Thread) (run : Option ℕ) (ss : List Status) → IsKept i e r → length ss ≡ length r.statuses
+pub switched_kept : (i : Image) (e : Seen) (r : SchedRow) (t high : ℕ) (x : Thread) (run : Option ℕ) (ss : List Status) → IsKept i e r → length ss ≡ length r.statuses
     → RunsReady (switched e t high x run) ss → IsKept i (switched e t high x run) (with_statuses r ss)
 switched_kept i e r t high x run ss kept many ready =
     kept_so i e (switched e t high x run) r ss kept refl (zeroed_length (area_at e t).stack high e.region.ram e.granules) (length-set e.threads t x) many ready
 
--- by how many frames there are
-ended_kept : (i : Image) (e : Seen) (r : SchedRow) (t : ℕ) (first second : Frame → Cap) (fs : List Frame) → IsKept i e r → 0 < length fs
-    → IsKept i (ended_by e t first second fs) (status_after (nat_lt 1 (length fs)) r t)
-ended_kept i e r t first second [] kept some = absurd (omega (arith, some))
-ended_kept i e r t first second (f ∷ []) kept some =
-    switched_kept i e r t f.top nobody None (set r.statuses t Ended) kept (length-set r.statuses t Ended) (none_runs (switched e t f.top nobody None) (set r.statuses t Ended) refl)
-ended_kept i e r t first second (f ∷ g ∷ fs) kept some =
-    rw (two_more (length fs))
-    (switched_kept i e r t f.top (left_with (filtered_in e.region.ram e.granules) (engine.thread e t) f (g ∷ fs) (first f) (second f)) e.running r.statuses kept refl kept.ready)
-
 -- a handler is entered
-begun_kept : (i : Image) (e : Seen) (r : SchedRow) (entries : Listed) (t handler : ℕ) (why : Trap) (fs : List Frame) → IsKept i e r → IsKept i (handler_begun e entries t handler why fs) r
-begun_kept i e r entries t handler why [] kept = kept
-begun_kept i e r entries t handler why (f ∷ fs) kept =
+pub begun_kept : (i : Image) (e : Seen) (r : SchedRow) (entries : Listed) (t handler : ℕ) (why : Trap) (f : Frame) (fs : List Frame) → IsKept i e r → IsKept i (handler_begun e entries t handler why (f ∷ fs)) r
+begun_kept i e r entries t handler why f fs kept =
     same_kept i e (handler_begun e entries t handler why (f ∷ fs)) r kept refl
     (all_length e.granules (record_place e.region.ram (register (engine.thread e t) 2)) (map plain (record_words (engine.thread e t) why))) (length-set e.threads t _) kept.ready
-
--- by whether it is
-trap_kept : (i : Image) (r : SchedRow) (t : ℕ) (x y : Seen) (b more : Bool) → IsKept i x r → IsKept i y (status_after more r t) → IsKept i (cond b x y) (status_after (cond b true more) r t)
-trap_kept i r t x y true more one two = one
-trap_kept i r t x y false more one two = two
-
-pub left_kept : (i : Image) (e : Seen) (r : SchedRow) (entries : Listed) (t handler : ℕ) (ran : Ran) → IsKept i e r → IfUnfinished ran (0 < length (engine.thread e t).frames)
-    → IsKept i (left_after ran e entries t handler) (status_after (goes_after ran e t handler) r t)
-left_kept i e r entries t handler (Went acted) kept some = kept
-left_kept i e r entries t handler Returned kept some =
-    chosen (λ (x : Seen). IsKept i x (status_after (nat_lt 1 (length (engine.thread e t).frames)) r t)) (is_marked (engine.thread e t).frames)
-    (ended_with e t (handler_value (engine.thread e t))) (returned e entries t)
-    (λ is. ended_kept i e r t _ _ (engine.thread e t).frames kept some) (λ not_. ended_kept i e r t _ _ (engine.thread e t).frames kept some)
-left_kept i e r entries t handler (Native number) kept some = kept
-left_kept i e r entries t handler (Trapped why) kept some =
-    trap_kept i r t (handler_begun e entries t handler why (engine.thread e t).frames) (ended_with e t UNWOUND) (is_handled_at e t handler) (nat_lt 1 (length (engine.thread e t).frames))
-    (begun_kept i e r entries t handler why (engine.thread e t).frames kept) (ended_kept i e r t _ _ (engine.thread e t).frames kept some)
 
 -- ---- of what is to be done, where something is
 

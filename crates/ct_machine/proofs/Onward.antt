@@ -9,12 +9,11 @@ use Rattle.def_confined.specs.Telling.{AllLicensed, IsLicensedEvent}
 use Rattle.law_events.proofs.Running.{told_licensed}
 use Rattle.ct_entry.specs.declared.acts.Owned.{Owned}
 use Rattle.def_events.specs.Guarded.{Guarded}
-use Rattle.def_events.specs.Kinds.{Kinds}
 use Rattle.def_machine.specs.Platform.{MachineRow}
 use Rattle.def_step.specs.Events.{end_of}
 use Rattle.ct_machine.specs.Going.{silence}
 use Rattle.ct_machine.specs.Onward.{rounds, tells, told_last, RanOn}
-use Rattle.ct_machine.proofs.Appending.{both_ran, none_ran, ran_kinds}
+use Rattle.ct_machine.proofs.Appending.{both_ran, none_ran, ran_counts}
 
 -- after so many rounds of a machine that was so first, which told nothing
 pub record Onward (first m : MachineRow) (most count : ℕ) : Type 0 where
@@ -28,16 +27,10 @@ starts m most g = record { within = omega arith; ran = none_ran m silence; going
 
 -- what was counted leaves room for the rest
 pub steps_left : (first m : MachineRow) (most count all : ℕ) → Onward first m most count → first.state.counts.steps + most ≤ all → m.state.counts.steps + (most - count) ≤ all
-steps_left first m most count all o room =
-    let within = o.within in
-    let is : m.state.counts.steps ≡ first.state.counts.steps + count = ap (λ (k : Kinds). k.steps) (ran_kinds first m count silence o.ran) in
-    omega (arith, within, is, room)
+steps_left first m most count all o room = omega (arith, o.within, (ran_counts o.ran).0, room)
 
 pub sweeps_left : (first m : MachineRow) (most count all : ℕ) → Onward first m most count → first.state.counts.sweeps + most ≤ all → m.state.counts.sweeps + (most - count) ≤ all
-sweeps_left first m most count all o room =
-    let within = o.within in
-    let is : m.state.counts.sweeps ≡ first.state.counts.sweeps + count = ap (λ (k : Kinds). k.sweeps) (ran_kinds first m count silence o.ran) in
-    omega (arith, within, is, room)
+sweeps_left first m most count all o room = omega (arith, o.within, (ran_counts o.ran).1, room)
 
 pub more_ran : (first m n : MachineRow) (most count more : ℕ) (h : Happened) → Onward first m most count → 1 ≤ more → RanOn m n more h → RanOn first n (count + more) h
 more_ran first m n most count more h o some r = both_ran first m n count more h o.ran o.going some r

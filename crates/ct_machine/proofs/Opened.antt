@@ -13,9 +13,9 @@ use Rattle.ct_engine.specs.Calls.{TopLies}
 use Rattle.ct_engine.specs.Bursts.{IsOpen}
 use Rattle.ct_execute.proofs.Opens.{running_open}
 use Rattle.ct_boot.specs.Placed.{IsPlaced}
-use Rattle.law_callable.proofs.Tops.{top_lies}
+use Rattle.law_callable.proofs.Showing.{top_lies}
 use Rattle.ct_machine.specs.Parts.{state_by, IsKept}
-use Rattle.ct_services.proofs.Statuses.{like_with}
+use Rattle.ct_execute.proofs.Statuses.{like_with}
 use Rattle.ct_machine.proofs.Taking.{frames_with}
 
 some_within : (ts : List Thread) (t : ℕ) → 0 < length (get_or ts t nobody).frames → t < length ts

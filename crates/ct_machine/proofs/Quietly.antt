@@ -1,20 +1,16 @@
 -- A step that tells nothing: what the code leaves of it is what the written step leaves.
-use Rattle.std.proofs.Common.{ℕ, zero, suc, ◌+◌, ◌*◌, ◌≡◌, ◌||◌, is_some, Bool, true, false, if◌then◌else◌, cond, List, [], ◌∷◌, length, Option, Some, None, option_map, refl, sym, ap, ◌∙◌, subst}
+use Rattle.std.proofs.Common.{ℕ, zero, suc, ◌+◌, ◌*◌, ◌≡◌, ◌||◌, is_some, Bool, true, false, if◌then◌else◌, cond, List, [], ◌∷◌, length, Option, Some, None, refl, sym, ap, ◌∙◌, subst}
 use Rattle.std.proofs.Math.ListN.{get_or, set}
 use Rattle.std.proofs.lemmas.Bool.{eq-eqb}
-use Rattle.std.proofs.lemmas.List.{length-set}
-use Rattle.ct_entry.specs.declared.acts.Act.{Act}
 use Rattle.ct_entry.specs.declared.acts.Owned.{Owned}
 use Rattle.def_words.specs.declared.Posture.{Posture}
 use Rattle.def_machine.specs.Image.{Image}
 use Rattle.def_machine.specs.State.{State, Thread, DeviceState, Counts, thread, nobody}
 use Rattle.def_machine.specs.Objects.{has_quarantined}
-use Rattle.def_machine.specs.Threads.{jumped}
 use Rattle.def_step.specs.declared.Event.TheVariants.{Step}
 use Rattle.def_step.specs.Devices.{DeviceStates}
-use Rattle.def_step.specs.Instructions.{actor_of}
 use Rattle.def_machine.specs.Platform.{Platform, MachineRow}
-use Rattle.def_step.specs.Events.{holder_by, holder, begun_since, begun, preempted, scheduled, one_more_step, run_on, told_of, happens, end_of}
+use Rattle.def_step.specs.Events.{holder_by, holder, begun_since, begun, preempted, scheduled, one_more_step, run_on, continued, noted, told_of, happens, end_of}
 use Rattle.ct_sched.specs.Sched.{SchedRow}
 use Rattle.ct_engine.specs.Seen as engine
 use Rattle.ct_engine.specs.Seen.{Seen}
@@ -22,39 +18,28 @@ use Rattle.ct_engine.specs.Bursts.{GoesOnce}
 use Rattle.ct_engine.specs.Steps.{HasWindow}
 use Rattle.ct_threads.specs.declared.window.Window.{Window}
 use Rattle.ct_threads.specs.Windows.{IsWindow}
-use Rattle.ct_execute.specs.declared.ran.Ran.{Ran}
-use Rattle.ct_execute.specs.declared.ran.Ran.TheVariants.{Went}
-use Rattle.ct_execute.specs.Deciding.{act_by, Decision, Goes, Returns, Serves, Traps, decision, Decided, Stays, WentQuietly}
-use Rattle.ct_execute.proofs.Bursting.{goes_quietly, goes_stays}
+use Rattle.ct_engine.proofs.Outcomes.{once_gone}
+use Rattle.ct_execute.specs.Deciding.{Stays}
+use Rattle.ct_execute.proofs.Quiet.{executes_quietly, goes_stays}
 use Rattle.ct_machine.specs.Parts.{state_by, IsKept}
 use Rattle.ct_machine.specs.Going.{silence}
 use Rattle.ct_machine.specs.Quiet.{has_sweep, undisturbed, IsThreadWindow}
-use Rattle.ct_machine.proofs.Carried.{came}
-use Rattle.ct_machine.proofs.Keeping.{machine_by, ran_else, same_kept, still_ready}
+use Rattle.ct_machine.proofs.Keeping.{machine_by, ran_kept}
 use Rattle.ct_machine.proofs.Statuses.{ready_goes, end_none}
-use Rattle.ct_machine.proofs.Stepping.{carried_so, quietly_left}
 use Rattle.ct_machine.proofs.Taking.{ram_is, posture_with, not_pending, runs_scheduled}
 use Rattle.law_events.proofs.Waiting.{given_status}
 
--- ---- what was decided
-
-quietly_decided : (D : Decision) (t : ℕ) (s : Seen) (k : DeviceStates) (new : Seen) → WentQuietly D t s k new → Decided D t s k new k (Went None)
-quietly_decided (Goes d entry) t s k new h = (h.0, h.1, ap (λ (o : Option Act). Went (option_map (act_by entry) o)) (sym h.2))
-quietly_decided Returns t s k new h = absurd h
-quietly_decided (Serves number) t s k new h = absurd h
-quietly_decided (Traps why) t s k new h = absurd h
+-- ---- the posture stays
 
 set_posture : (ts : List Thread) (t : ℕ) (x : Thread) → x.posture ≡ (get_or ts t nobody).posture → (get_or (set ts t x) t nobody).posture ≡ (get_or ts t nobody).posture
 set_posture [] t x is = refl
 set_posture (y ∷ ts) zero x is = is
 set_posture (y ∷ ts) (suc t) x is = set_posture ts t x is
 
-same_posture : (D : Decision) (t : ℕ) (s : Seen) (k : DeviceStates) (new : Seen) → WentQuietly D t s k new → (engine.thread new t).posture ≡ (engine.thread s t).posture
-same_posture (Goes d entry) t s k new h =
-    ap (λ (x : Seen). (engine.thread x t).posture) h.0 ∙ set_posture s.threads t (jumped (get_or s.threads t nobody) d.pcc d.posture d.to d.value) h.3
-same_posture Returns t s k new h = absurd h
-same_posture (Serves number) t s k new h = absurd h
-same_posture (Traps why) t s k new h = absurd h
+same_posture : (t : ℕ) (s new : Seen) → GoesOnce t s new → (engine.thread new t).posture ≡ (engine.thread s t).posture
+same_posture t s new g =
+    ap (λ (x : Seen). (engine.thread x t).posture) g.is
+    ∙ set_posture s.threads t g.to (ap (λ (u : Thread). u.posture) (once_gone s.region.ram (engine.thread s t) s.granules g.to g.after g.goes).is)
 
 -- ---- no span with interrupts off begins
 
@@ -111,10 +96,7 @@ undisturbed_parts s t is = parts_of s.pending s.running t is
 -- ---- an instruction of a burst
 
 pub once_kept : (i : Image) (e new : Seen) (r : SchedRow) (t : ℕ) → IsKept i e r → GoesOnce t e new → IsKept i new r
-once_kept i e new r t kept goes =
-    let stays = goes_stays e new t goes in
-    same_kept i e new r kept (ran_else e new stays) stays.size (ap (λ (x : Seen). length x.threads) goes.is ∙ length-set e.threads t goes.to)
-    (still_ready e new r.statuses kept.ready (ap (λ (x : Seen). x.running) stays.beside))
+once_kept i e new r t kept goes = ran_kept i e new r kept (goes_stays e new t goes)
 
 module _ (i : Image) (e new : Seen) (r : SchedRow) (k : DeviceStates) (pending : Bool) (time : ℕ) (c : Counts) (t : ℕ)
     (kept : IsKept i e r) (runs : e.running ≡ Some t) (goes : GoesOnce t e new) where
@@ -124,24 +106,15 @@ module _ (i : Image) (e new : Seen) (r : SchedRow) (k : DeviceStates) (pending :
   abbrev stood : Seen → State
   stood x = state_by x r pending k.states time c
 
-  quiet : WentQuietly (decision i.entries e t k time) t e k new
-  quiet = goes_quietly e new t goes i.entries k time
-
   -- the thread carries on so
   pub quietly_run : (stood new, None) ≡ run_on board (stood e)
   quietly_run =
-      let ran : Ran = Went None in
-      let m : MachineRow = record { board = board; state = stood e } in
-      let n : MachineRow = record { board = board; state = stood new } in
-      carried_so m n t (actor_of (thread (stood e) t).frames) ran (stood new) None runs refl
-      (came i i.entries e r k pending time c t kept refl new k ran (quietly_decided (decision i.entries e t k time) t e k new quiet) refl tt)
-      (quietly_left n t (actor_of (thread (stood e) t).frames) ran refl)
+      ap noted ((executes_quietly i.entries t time e new k goes).comes i (stood e) r.statuses (ram_is i e r kept) refl)
+      ∙ ap (continued board (stood e)) (sym runs)
 
   pub still_posture : (thread (stood new) t).posture ≡ (thread (stood e) t).posture
   still_posture =
-      posture_with new.threads r.statuses t
-      ∙ same_posture (decision i.entries e t k time) t e k new quiet
-      ∙ sym (posture_with e.threads r.statuses t)
+      posture_with new.threads r.statuses t ∙ same_posture t e new goes ∙ sym (posture_with e.threads r.statuses t)
 
 -- its step, which counts first, tells nothing where no tick is pending
 pub quietly_is : (i : Image) (e new : Seen) (r : SchedRow) (k : DeviceStates) (pending : Bool) (time : ℕ) (c : Counts) (t : ℕ) → IsKept i e r → e.running ≡ Some t → pending ≡ false → GoesOnce t e new

@@ -26,7 +26,7 @@ use Rattle.ct_execute.specs.declared.ran.Ran.TheVariants.{Went, Returned, Native
 use Rattle.ct_execute.specs.Deciding.{IfUnfinished}
 use Rattle.ct_services.specs.Conditions.{MayServe}
 use Rattle.ct_services.specs.Arguments.{NamesQuota}
-use Rattle.ct_services.specs.Serves.{ComesTo, ServesAsWritten, routine_or_trap}
+use Rattle.ct_services.specs.Serves.{ComesTo, IsServed, routine_or_trap}
 use Rattle.ct_services.proofs.Serving.{register_alike}
 use Rattle.ct_machine.specs.Parts.{state_by, IsKept, IsCounted}
 use Rattle.ct_machine.specs.Going.{CameTo, IsDone, MayGoOn, Runs}
@@ -110,7 +110,7 @@ module _ (i : Image) (e : Seen) (r : SchedRow) (k : DeviceStates) (pending : Boo
   came_ran m (Native number) x board_is counts is same = absurd is
 
   module _ (number : ℕ) (new : Seen) (row : SchedRow) (q : Ran) (turn : row ≡ sched.with_statuses r row.statuses)
-      (h : ServesAsWritten e r.statuses new row.statuses q (λ j m. routine_or_trap (native j m t number))) where
+      (h : IsServed e r.statuses new row.statuses q (λ j m. routine_or_trap (native j m t number))) where
     -- the machine that it left, and what the written routine comes to
     abbrev left : MachineRow
     left = machine new (sched.with_statuses r row.statuses)

@@ -62,25 +62,20 @@ unfolding image_of
 priorities_are p = refl
 
 -- the heap lies in RAM
-heap_placed : (p : PartsRow) → Sound p → IsHeapPlaced p.ram p.heap (granules_in p)
-heap_placed p s =
-    let even = s.ram.base in
+heap_of : (p : PartsRow) → Sound p → IsHeapPlaced (image_of p).ram (image_of p).heap_base (granules_in p)
+unfolding image_of
+heap_of p s =
     let size = s.ram.size in
     let end = s.ram.end in
-    let heap = s.heap.even in
     let below = s.heap.below in
     let inside = s.heap.inside in
     record {
-      even = even;
+      even = s.ram.base;
       fits = omega (arith, size, end);
-      whole = (heap, omega (arith, size));
+      whole = (s.heap.even, omega (arith, size));
       low = omega (arith, below);
       high = omega (arith, size, inside);
     }
-
-heap_of : (p : PartsRow) → Sound p → IsHeapPlaced (image_of p).ram (image_of p).heap_base (granules_in p)
-unfolding image_of
-heap_of p s = heap_placed p s
 
 statuses_count : (p : PartsRow) → length (rows_of p).statuses ≡ length p.threads
 statuses_count p = length-replicate (length p.threads) Ready
@@ -112,17 +107,13 @@ quota_listed e (suc n) is =
     let count = length-map e.rows (λ (r : Entry). r.limit) in
     omega (arith, within, count)
 
-rows_are : (p : PartsRow) → (entries_of p).rows ≡ listed.entry_rows p
-unfolding entries_of
-rows_are p = refl
-
 -- a heap has a quota for each
 pub few_limits : (p : PartsRow) → Sound p → length (limits_of (entries_of p)) ≤ 32767
+unfolding entries_of
 few_limits p s =
     let few = few_entries p s in
-    let rows = ap length (rows_are p) in
-    let count = length-map (entries_of p).rows (λ (r : Entry). r.limit) in
-    omega (arith, few, rows, count)
+    let count = length-map (listed.entry_rows p) (λ (r : Entry). r.limit) in
+    omega (arith, few, count)
 
 -- what each may take is told by the entries that the plan keeps
 pub limits_are : (p : PartsRow) (i : Image) (entries : Listed) (xs : List ℕ) → i ≡ image_of p → entries ≡ i.entries → xs ≡ limits_of entries → xs ≡ limits_of (entries_of p)
@@ -161,12 +152,9 @@ kept p s placed =
 
 pub started_kept : (p : PartsRow) (i : Image) (e : Seen) (r : SchedRow) → Sound p → i ≡ image_of p → e ≡ launched p (limits_of (entries_of p)) → ArePlaced (image_of p) (8 * length e.granules) e.areas → r ≡ rows_of p
     → IsKept i e r × IsCounted no_counts 0 e.next
-started_kept p i e r s image engine placed rows = (
-  subst (λ (j : Image). IsKept j e r) (sym image)
-      (subst (λ (x : SchedRow). IsKept (image_of p) e x) (sym rows)
-      (subst (λ (x : Seen). IsKept (image_of p) x (rows_of p)) (sym engine)
-      (kept p s (subst (λ (x : Seen). ArePlaced (image_of p) (8 * length x.granules) x.areas) engine placed)))),
-  subst (λ (x : Seen). IsCounted no_counts 0 x.next) (sym engine) (record { steps = omega arith; ticks = omega arith; sweeps = omega arith; inputs = omega arith; deeds = omega arith; clock = omega arith; made = omega arith }),
+started_kept p i e r s image engine placed rows = rw (image, rows, engine) (
+  kept p s (subst (λ (x : Seen). ArePlaced (image_of p) (8 * length x.granules) x.areas) engine placed),
+  record { steps = omega arith; ticks = omega arith; sweeps = omega arith; inputs = omega arith; deeds = omega arith; clock = omega arith; made = omega arith },
 )
 
 -- what is kept of a sound image

@@ -1,5 +1,5 @@
 -- A step of the running thread, from what its instruction came to and what was left to do.
-use Rattle.std.proofs.Common.{ℕ, ◌≡◌, ◌<◌, Bool, true, false, List, length, Option, Some, None, refl, sym, ap, ◌∙◌, subst}
+use Rattle.std.proofs.Common.{ℕ, ◌≡◌, ◌<◌, Bool, List, length, Option, Some, sym, ap, ◌∙◌, subst}
 use Rattle.ct_entry.specs.declared.acts.Deed.{Deed}
 use Rattle.def_machine.specs.Image.{Image}
 use Rattle.def_machine.specs.State.{State, Frame, Counts, thread}
@@ -11,9 +11,8 @@ use Rattle.ct_sched.specs.Sched.{SchedRow}
 use Rattle.ct_engine.specs.Seen as engine
 use Rattle.ct_engine.specs.Seen.{Seen}
 use Rattle.ct_execute.specs.declared.ran.Ran.{Ran}
-use Rattle.ct_execute.specs.declared.ran.Ran.TheVariants.{Went, Returned, Native, Trapped}
-use Rattle.ct_execute.specs.Deciding.{IfUnfinished}
-use Rattle.ct_machine.specs.Going.{MayGoOn, Runs, MayEnd, CameTo, finished, is_quiet}
+use Rattle.ct_execute.specs.Deciding.{finished, IfUnfinished}
+use Rattle.ct_machine.specs.Going.{MayGoOn, Runs, MayEnd, CameTo}
 use Rattle.ct_machine.proofs.Keeping.{machine_by, unfinished_map}
 use Rattle.ct_machine.proofs.Taking.{frames_with}
 
@@ -30,17 +29,6 @@ module _ (i : Image) (e : Seen) (r : SchedRow) (k : DeviceStates) (pending : Boo
 pub ends_by : (m n : MachineRow) (t actor : ℕ) (ran : Ran) (whole : State × Option Deed) → MayGoOn m → Runs m t → actor ≡ actor_of (thread m.state t).frames → CameTo m n t ran whole → IfUnfinished ran (MayEnd n t actor)
 ends_by m n t actor ran whole may runs acts came =
     unfinished_map ran (n ≡ m) (MayEnd n t actor) (λ same. subst (λ (x : MachineRow). MayEnd x t actor) (sym same) (record { may = may; runs = runs; acts = acts })) came.unfinished
-
-quiet_finished : (b : Platform) (t actor : ℕ) (s : State) (ran : Ran) → is_quiet ran ≡ true → finished b t actor s ran ≡ (s, None)
-quiet_finished b t actor s (Went None) quiet = refl
-quiet_finished b t actor s (Went (Some acted)) quiet = absurd (let clash : false ≡ true = quiet in cc)
-quiet_finished b t actor s Returned quiet = absurd (let clash : false ≡ true = quiet in cc)
-quiet_finished b t actor s (Native number) quiet = absurd (let clash : false ≡ true = quiet in cc)
-quiet_finished b t actor s (Trapped why) quiet = absurd (let clash : false ≡ true = quiet in cc)
-
--- nothing is left to do where nothing is told
-pub quietly_left : (n : MachineRow) (t actor : ℕ) (ran : Ran) → is_quiet ran ≡ true → (n.state, None) ≡ noted (finished n.board t actor n.state ran)
-quietly_left n t actor ran quiet = ap noted (sym (quiet_finished n.board t actor n.state ran quiet))
 
 pub carried_so : (m n : MachineRow) (t actor : ℕ) (ran : Ran) (after : State) (d : Option Deed) → m.state.running ≡ Some t → actor ≡ actor_of (thread m.state t).frames
     → CameTo m n t ran (executed m.board m.state t) → (after, d) ≡ noted (finished n.board t actor n.state ran) → (after, d) ≡ run_on m.board m.state

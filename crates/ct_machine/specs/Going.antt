@@ -1,11 +1,11 @@
 -- The running thread carries on: what that asks, what an instruction or a native routine came to, and what is left
 -- where its frame ends, or where its error handler is entered.
-use Rattle.std.specs.Prelude.{ℕ, ◌+◌, ◌≡◌, ◌<◌, Bool, true, false, length, map, nat_lt, Option, Some, None, option_map, slice_set, cond}
+use Rattle.std.specs.Prelude.{ℕ, ◌+◌, ◌≡◌, ◌<◌, Bool, true, length, map, nat_lt, Option, Some, None, slice_set, cond}
 use Rattle.def_profile.specs.declared.answers.TheConstants.{UNWOUND}
 use Rattle.ct_entry.specs.Listed.{Listed}
 use Rattle.ct_entry.specs.declared.acts.Deed.{Deed}
 use Rattle.ct_entry.specs.declared.acts.Happened.{Happened}
-use Rattle.ct_entry.specs.declared.acts.Act.TheVariants.{Call, Trap}
+use Rattle.ct_entry.specs.declared.acts.Act.TheVariants.{Call}
 use Rattle.def_words.specs.declared.Trap as words
 use Rattle.def_machine.specs.Rows.{RowsFit}
 use Rattle.def_confined.specs.Keeps.{Keeps}
@@ -16,20 +16,18 @@ use Rattle.def_machine.specs.State as state
 use Rattle.def_machine.specs.State.{State}
 use Rattle.def_machine.specs.Threads.{timed}
 use Rattle.def_sched.specs.declared.Status.TheVariants.{Ended}
-use Rattle.def_machine.specs.Platform.{MachineRow, Platform}
-use Rattle.def_step.specs.Handlers.{handler_value, return_taken}
-use Rattle.def_step.specs.Instructions.{actor_of, trapped, served}
-use Rattle.def_step.specs.Native.{native}
+use Rattle.def_machine.specs.Platform.{MachineRow}
+use Rattle.def_step.specs.Handlers.{handler_value}
+use Rattle.def_step.specs.Instructions.{actor_of}
 use Rattle.ct_sched.specs.Sched.{SchedRow, with_statuses}
 use Rattle.ct_switch.specs.declared.calls.Called.{Called}
 use Rattle.ct_switch.specs.declared.calls.Called.TheVariants as called
 use Rattle.ct_engine.specs.Seen.{Seen, thread}
 use Rattle.ct_engine.specs.Calls.{returned, ended_with}
 use Rattle.ct_engine.specs.Handling.{is_marked, is_handled_at, handler_begun}
-use Rattle.ct_execute.specs.declared.ran.ActBy.{ActBy}
 use Rattle.ct_execute.specs.declared.ran.Ran.{Ran}
 use Rattle.ct_execute.specs.declared.ran.Ran.TheVariants.{Went, Returned, Native, Trapped}
-use Rattle.ct_execute.specs.Deciding.{act_by, IfUnfinished}
+use Rattle.ct_execute.specs.Deciding.{act_by, finished, IfUnfinished}
 
 -- No entry reaches what is hidden, capabilities of boot are what their entries say, the state is confined, with what
 -- stands beside, and each row of a key or a token is of a live object.
@@ -122,37 +120,7 @@ abbrev pub status_after : Bool → SchedRow → ℕ → SchedRow
 status_after goes r t =
     cond goes r (with_statuses r (slice_set r.statuses t Ended))
 
--- ---- the deed of what one instruction came to
-
-abbrev pub deed_by : ℕ → ℕ → Ran → Option Deed
-deed_by t actor (Went acted) =
-    option_map
-    (λ (d : ActBy). record { thread = t; actor = actor; entry = d.entry; act = d.act })
-    acted
-deed_by t actor Returned = None
-deed_by t actor (Native number) = None
-deed_by t actor (Trapped why) =
-    Some (record {
-      thread = t;
-      actor = actor;
-      entry = 0;
-      act = Trap why.cause why.code why.register;
-    })
-
 -- ---- the written step, from what its instruction came to
-
--- What is left to do in this state, where `actor` was the innermost frame's compartment before the instruction: a frame
--- ends, or its error handler is entered, or a native routine runs; and the deed is told.
-abbrev pub finished : Platform → ℕ → ℕ → State → Ran → State × Option Deed
-finished b t actor s (Went acted) = (s, deed_by t actor (Went acted))
-finished b t actor s Returned = (return_taken b.image s t (state.thread s t).frames, None)
-finished b t actor s (Native number) = served b s t (native b.image s t number)
-finished b t actor s (Trapped why) = trapped b s t why
-
--- the thread went on, and did nothing that is told
-abbrev pub is_quiet : Ran → Bool
-is_quiet (Went None) = true
-is_quiet _ = false
 
 -- of a step after its instruction and its native routine
 abbrev pub IsDone : Ran → Type 0

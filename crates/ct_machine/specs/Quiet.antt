@@ -53,10 +53,12 @@ pub record StaysAside (m n : MachineRow) : Type 0 where
   pub pending : n.state.pending ≡ m.state.pending
   pub running : n.state.running ≡ m.state.running
 
--- So many rounds of machine m left machine n. They told nothing; and where there are any, m had come to no end.
+-- So many rounds of machine m left machine n, guarded. They told nothing; and where there are any, m had come to no
+-- end.
 pub record WentRounds (m n : MachineRow) (count : ℕ) : Type 0 where
   pub ran : RanOn m n count silence
   pub going : 0 < count → end_of m.state ≡ None
+  pub guarded : Guarded n
 
 -- Where the machine's running thread carries on and that tells nothing, what is left is guarded.
 pub record GuardsNext (m : MachineRow) : Type 0 where
@@ -71,4 +73,3 @@ pub record CarriedOn (m n : MachineRow) (count : ℕ) : Type 0 where
   pub on : holder after ≡ None
   pub going : end_of after ≡ None
   pub rest : WentRounds (record { board = m.board; state = after }) n (count - 1)
-  pub guarded : Guarded n

@@ -98,23 +98,13 @@ impl<M: Memory + Drop> Parts<M> {
     pub(crate) fn sweep(&mut self)
         requires guarded { Guarded self.old }
         requires lawful { IsTrue (is_lawful self.old.state event.Sweep) }
-        ensures state { self.new.state ≡ (happens self.old.board self.old.state event.Sweep).0 }
-        ensures silent { (happens self.old.board self.old.state event.Sweep).1 ≡ silence }
+        ensures is { (self.new.state, silence)
+            ≡ happens self.old.board self.old.state event.Sweep }
         ensures board { self.new.board ≡ self.old.board }
+        ensures guarded { Guarded self.new }
     {
         self.count_sweep();
         self.slice();
-    }
-
-    /// The same with what it tells.
-    fn told_sweep(&mut self) -> Happened
-        requires guarded { Guarded self.old }
-        requires lawful { IsTrue (is_lawful self.old.state event.Sweep) }
-        ensures is { (self.new.state, result) ≡ happens self.old.board self.old.state event.Sweep }
-        ensures board { self.new.board ≡ self.old.board }
-    {
-        self.sweep();
-        silence()
     }
 
     /// One byte comes at a device.
@@ -142,7 +132,10 @@ impl<M: Memory + Drop> Parts<M> {
         match event {
             Event::Step => self.step(),
             Event::Tick => self.tick(),
-            Event::Sweep => self.told_sweep(),
+            Event::Sweep => {
+                self.sweep();
+                silence()
+            }
             Event::Input { device, byte } => self.input(device, byte),
         }
     }

@@ -6,11 +6,10 @@ ghost use Rattle.def_step.specs.Instructions.{executed};
 ghost use Rattle.ct_engine.specs.Seen.{thread};
 ghost use Rattle.ct_engine.specs.Calls.{TopLies};
 ghost use Rattle.ct_engine.specs.Handling.{MayHandle};
-ghost use Rattle.ct_execute.specs.Deciding.{IfUnfinished, RanInRange};
+ghost use Rattle.ct_execute.specs.Deciding.{deed_by, finished, IfUnfinished, RanInRange};
 ghost use Rattle.ct_switch.specs.Exports.{AreSorted};
-ghost use Rattle.ct_machine.specs.Going.{MayGoOn, Runs, MayEnd, CameTo, IsDone, finished};
+ghost use Rattle.ct_machine.specs.Going.{MayGoOn, Runs, MayEnd, CameTo, IsDone};
 ghost use Rattle.ct_machine.specs.Going.{return_at, trap_at, goes_trapped, left_after, goes_after, status_after};
-ghost use Rattle.ct_machine.specs.Going.{deed_by, is_quiet};
 ghost use Rattle.ct_machine.specs.Parts.{deeds_of};
 
 use crate::parts::Parts;
@@ -114,13 +113,6 @@ fn deed_of(thread: u32, actor: u32, ran: Ran) -> Option<Deed>
     }
 }
 
-/// Whether the thread went on and did nothing that is told: then nothing is left to do.
-fn is_quiet(ran: Ran) -> bool
-    ensures { result ≡ is_quiet ran }
-{
-    matches!(ran, Ran::Went { done: None })
-}
-
 impl<M: Memory + Drop> Parts<M> {
     /// One instruction of the running thread.
     fn execute(&mut self, t: u32) -> Ran
@@ -219,10 +211,10 @@ impl<M: Memory + Drop> Parts<M> {
             Some(t) => {
                 let actor = self.engine.actor(t);
                 let ran = self.run(t);
-                if is_quiet(ran) {
-                    return None;
+                match ran {
+                    Ran::Went { done: None } => None,
+                    _ => self.finish(t, actor, ran),
                 }
-                self.finish(t, actor, ran)
             }
             None => None,
         }

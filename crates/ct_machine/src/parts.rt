@@ -94,6 +94,7 @@ impl<M: Memory + Drop> Parts<M> {
     }
 
     /// The running thread where it holds interrupts off, and the source by which it does.
+    #[inline(always)]
     pub(crate) fn holder(&self) -> Option<(u32, u32)>
         ensures { result ≡ holder self.now.state }
     {
@@ -113,19 +114,15 @@ impl<M: Memory + Drop> Parts<M> {
     pub(crate) fn begun(&self, before: Option<(u32, u32)>) -> Option<Owned>
         ensures { result ≡ begun_since before self.now.state (holder self.now.state) }
     {
-        match self.engine.running() {
-            Some(thread) => {
-                let posture = self.engine.posture(thread);
-                if !posture.off {
-                    return None;
-                }
-                if is_holder(before, thread, posture.source) {
+        match self.holder() {
+            Some(held) => {
+                if is_holder(before, held.0, held.1) {
                     return None;
                 }
                 Some(Owned {
-                    thread,
-                    actor: self.engine.actor(thread),
-                    export: posture.source,
+                    thread: held.0,
+                    actor: self.engine.actor(held.0),
+                    export: held.1,
                 })
             }
             None => None,

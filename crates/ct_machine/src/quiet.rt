@@ -75,9 +75,8 @@ impl<M: Memory + Drop> Parts<M> {
         requires sweeps { self.old.state.counts.sweeps + most ≤ MOST_STEPS }
         ensures most { result ≤ most }
         ensures went { WentRounds self.old self.new result }
-        ensures guarded { Guarded self.new }
     {
-        let mut window = self.window(t);
+        let mut window = self.engine.window(t);
         let made = self.engine.burst(t, &mut self.decoded, &mut window, most);
         self.count_rounds(made);
         made
@@ -103,7 +102,7 @@ impl<M: Memory + Drop> Parts<M> {
     {
         if let Some(t) = self.engine.running() {
             if !self.engine.posture(t).off {
-                let mut window = self.window(t);
+                let mut window = self.engine.window(t);
                 let carried = self.engine.burst(t, &mut self.decoded, &mut window, most);
                 if carried > 0 {
                     self.count_rounds(carried - 1);
@@ -156,7 +155,6 @@ impl<M: Memory + Drop> Parts<M> {
         requires sweeps { self.old.state.counts.sweeps + most ≤ MOST_STEPS }
         ensures most { result ≤ most }
         ensures went { WentRounds self.old self.new result }
-        ensures guarded { Guarded self.new }
     {
         if self.is_dormant() {
             self.count_rounds(most);
@@ -173,7 +171,6 @@ impl<M: Memory + Drop> Parts<M> {
         requires sweeps { self.old.state.counts.sweeps + most ≤ MOST_STEPS }
         ensures most { result ≤ most }
         ensures went { WentRounds self.old self.new result }
-        ensures guarded { Guarded self.new }
     {
         if self.has_sweep() {
             return 0;

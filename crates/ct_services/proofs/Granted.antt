@@ -20,47 +20,42 @@ use Rattle.def_step.specs.Routines.{Ran, Leaves, answers, tells, code}
 use Rattle.def_step.specs.Quotas.{Allocation, Refused, Made, allocation, hands_out, freed_as}
 use Rattle.ct_heap.specs.declared.rows.Object as heap
 use Rattle.ct_heap.specs.declared.rows.HeapRefusal.{HeapRefusal}
-use Rattle.ct_heap.specs.declared.rows.HeapRefusal.TheVariants.{Size, Quota, NoGap}
-use Rattle.ct_heap.specs.Lookups.{spans_of}
+use Rattle.ct_heap.specs.Lookups.{spans_of, whole_of}
 use Rattle.ct_engine.specs.Seen.{Seen}
-use Rattle.ct_engine.specs.Grants.{IsTold, new_object, with_object, allocation_in, refused_as}
-use Rattle.ct_engine.specs.Grants.{WasWhole, whole_in, freed, freed_by}
-use Rattle.ct_engine.specs.Written.{HasLayout, SharesObjects, state_with}
+use Rattle.ct_engine.specs.Grants.{IsTold, new_object, with_object, refusal_code}
+use Rattle.ct_engine.specs.Grants.{WasWhole, freed, freed_by}
+use Rattle.ct_engine.specs.Written.{HasQuota, HasLayout, SharesObjects, state_with}
 use Rattle.ct_engine.proofs.Freeing.{whole_says, freed_shown}
-use Rattle.ct_engine.proofs.Granted.{allocation_same}
 use Rattle.ct_execute.specs.declared.ran.Ran as engine
 use Rattle.ct_execute.specs.declared.ran.Ran.TheVariants.{Went}
 use Rattle.ct_execute.specs.Deciding.{act_by}
-use Rattle.ct_services.specs.Arguments.{refusal_code}
 use Rattle.ct_services.specs.Answering.{answered_in}
 use Rattle.ct_services.specs.Serves.{ServesAlone}
 use Rattle.ct_services.proofs.Serving.{Becomes, serves_answer, serves_as}
 
 -- ---- an allocation
 
-refused_so : (s : Seen) (why : HeapRefusal) → refused_as s why ≡ Refused (refusal_code why (has_quarantined s.objects))
-refused_so s Size = refl
-refused_so s Quota = refl
-refused_so s NoGap = refl
-
 -- what comes of an allocation, as of a token
 module _ (s u new : Seen) (t quota size : ℕ) (comes : State → Allocation → Ran) where
-  -- the written one comes to this
-  by_allocation : (a : Allocation) (i : Image) (m : State) (ss : List Status) → allocation_in s quota size ≡ a
-      → HasLayout i s ss
+  -- where the written one comes to this
+  abbrev CameTo : Allocation → Type 0
+  CameTo a = (i : Image) (m : State) → HasQuota i s quota → SharesObjects m s → allocation i m quota size ≡ a
+
+  by_allocation : (a : Allocation) (i : Image) (m : State) (ss : List Status) → CameTo a → HasLayout i s ss
       → comes (state_with m s ss) (allocation i (state_with m s ss) quota size) ≡ comes (state_with m s ss) a
   by_allocation a i m ss is h =
-      let shares : SharesObjects (state_with m s ss) s = record { objects = refl; next = refl } in
-      ap (comes (state_with m s ss)) (sym (allocation_same i (state_with m s ss) s quota size h.heap shares) ∙ is)
+      ap (comes (state_with m s ss))
+      (is i (state_with m s ss) (record { base = h.heap.base; end = h.heap.end; limit = h.heap.limits quota })
+      (record { objects = refl; next = refl }))
 
-  pub serves_refused : (ran : engine.Ran) (why : HeapRefusal) → allocation_in s quota size ≡ refused_as s why → u ≡ s
+  pub serves_refused : (ran : engine.Ran) (why : HeapRefusal) → CameTo (Refused (refusal_code why (has_quarantined s.objects))) → u ≡ s
       → ((m : State) (n : ℕ) → comes m (Refused n) ≡ tells m t (code n))
       → ServesAlone u new ran (λ i m. tells m t (code (refusal_code why (has_quarantined m.objects))))
       → ServesAlone s new ran (λ i m. comes m (allocation i m quota size))
   serves_refused ran why is same refuses serves =
       serves_as (rw same at serves)
       (λ i m ss h.
-      by_allocation (Refused (refusal_code why (has_quarantined s.objects))) i m ss (is ∙ refused_so s why) h
+      by_allocation (Refused (refusal_code why (has_quarantined s.objects))) i m ss is h
       ∙ refuses (state_with m s ss) (refusal_code why (has_quarantined s.objects)))
 
   abbrev made_at : ℕ → Object
@@ -74,7 +69,7 @@ module _ (s u new : Seen) (t quota size : ℕ) (comes : State → Allocation →
   -- an object is handed out, with these rows of tokens
   pub serves_made : (o : heap.Object) (ran : engine.Ran) (v : Cap) (kind : ℕ) (rows : List Token)
       → u ≡ with_object (record s { tokens = rows }) (made_at o.base)
-      → allocation_in s quota size ≡ Made (made_at o.base) → IsTold u o (made_at o.base) → v ≡ cap_at kind o.number o.base o.length → new ≡ answered_in u t v
+      → CameTo (Made (made_at o.base)) → IsTold u o (made_at o.base) → v ≡ cap_at kind o.number o.base o.length → new ≡ answered_in u t v
       → ran ≡ Went (Some (act_by quota (Allocate o.number o.base o.length o.live)))
       → ((m : State) (ss : List Status) → comes (state_with m s ss) (Made (made_at o.base))
       ≡ hands_out (record (state_with m s ss) { tokens = rows }) t (made_at o.base)
@@ -91,7 +86,7 @@ module _ (s u new : Seen) (t quota size : ℕ) (comes : State → Allocation →
 
 -- ---- a free
 
-pub serves_freed : (s u new : Seen) (t quota base top : ℕ) → u ≡ freed_by s t (whole_in s quota base top)
+pub serves_freed : (s u new : Seen) (t quota base top : ℕ) → u ≡ freed_by s t (whole_of quota base top s.objects)
     → (o : heap.Object) (v : Cap) → WasWhole s u quota base top o → v ≡ integer 0 → new ≡ answered_in u t v
     → ServesAlone s new (Went (Some (act_by quota (Free o.number o.base o.length o.live))))
     (λ i m. freed_as i m t (find (spans_of quota base top) m.objects))

@@ -1,7 +1,6 @@
 pub mod Answers
 pub mod Switching
 pub mod Held
-pub mod Statuses
 pub mod Serving
 pub mod Granted
 pub mod Sealed

@@ -16,8 +16,9 @@ use Rattle.ct_engine.specs.Seen.{Seen, thread, with_thread, with_running}
 use Rattle.ct_engine.specs.Written.{HasLayout, state_with}
 use Rattle.ct_execute.specs.declared.ran.Ran.TheVariants.{Went}
 use Rattle.ct_services.specs.Answering.{answered_in, rested}
-use Rattle.ct_services.specs.Serves.{Routine, RunsReady, ServesAsWritten}
-use Rattle.ct_services.proofs.Statuses.{like_with, changed_with, set_both, twice_with, statuses_with}
+use Rattle.ct_services.specs.Serves.{Routine, RunsReady, IsServed}
+use Rattle.ct_engine.proofs.Freeing.{changed_with}
+use Rattle.ct_execute.proofs.Statuses.{like_with, set_both, twice_with, statuses_with}
 
 -- ---- whom a wake leaves ready
 
@@ -42,7 +43,7 @@ module _ (s : Seen) (ss : List Status) (t : ℕ) where
       → ((i : Image) (m : State) → HasLayout i s ss
       → x i (state_with m s ss) ≡ Leaves (state_with m (becomes u run) after) None)
       → length after ≡ length ss → (RunsReady s ss → RunsReady (becomes u run) after)
-      → ServesAsWritten s ss (becomes u run) after (Went None) x
+      → IsServed s ss (becomes u run) after (Went None) x
   serves_went u run after x is many ready = record {
     comes = is;
     same = tt;
@@ -63,7 +64,7 @@ module _ (s : Seen) (ss : List Status) (t : ℕ) where
   -- ---- it stops
 
   pub serves_stops : (status : Status)
-      → ServesAsWritten s ss (rested s t) (set ss t status) (Went None) (λ i m. stops m t status)
+      → IsServed s ss (rested s t) (set ss t status) (Went None) (λ i m. stops m t status)
   serves_stops status =
       serves_went (answered (thread s t) (integer 0)) None (set ss t status) (λ i m. stops m t status)
       (λ i m h.
@@ -76,7 +77,7 @@ module _ (s : Seen) (ss : List Status) (t : ℕ) where
   -- ---- it wakes others
 
   pub serves_woken : (address most : ℕ)
-      → ServesAsWritten s ss (answered_in s t (integer (woken_count address most ss))) (woken address most ss) (Went None)
+      → IsServed s ss (answered_in s t (integer (woken_count address most ss))) (woken address most ss) (Went None)
       (λ i m. Leaves (threads_woken m t address most) None)
   serves_woken address most =
       let gives : Thread → Thread = λ u. answered u (integer (woken_count address most ss)) in

@@ -1,9 +1,8 @@
 -- What is found by a capability that is sealed as a key or a token, and what a routine of them comes to.
-use Rattle.std.proofs.Common.{ℕ, ◌≡◌, ◌+◌, ◌==◌, ◌&&◌, ◌∙◌, Bool, true, false, inl, inr, List, Option, Some, None, refl, ap, eq-eqb}
+use Rattle.std.proofs.Common.{ℕ, ◌≡◌, ◌+◌, ◌==◌, ◌&&◌, Bool, true, false, List, Option, Some, None, refl, ap, eq-eqb}
 use Rattle.std.specs.Prelude.{find}
 use Rattle.std.proofs.Math.ListN.{get_or}
 use Rattle.law_lists.proofs.Finds.{find_is, find_tells}
-use Rattle.law_lists.proofs.Tests.{eq_tells}
 use Rattle.def_profile.specs.declared.rights.TheConstants.{HEAP_RIGHTS}
 use Rattle.def_profile.specs.declared.seals.TheConstants.{TOKEN_TYPE}
 use Rattle.def_words.specs.declared.Cap.{Cap}
@@ -69,7 +68,3 @@ of_quota os c r quota base top charged base_is top_is whole =
           no_more x.live (x.quota == quota) (x.base == cap_base c) (x.base + x.length == cap_top c)
           (first.before k lt);
     }))
-
--- it is charged to another quota
-pub charged_else : (a b quota : ℕ) → a ≡ b → (a ≡ quota → ⊥) → (b == quota) ≡ false
-charged_else a b quota same other = elim (eq_tells b quota) [ inl e ↦ absurd (other (same ∙ e.1)) | inr e ↦ e.0 ]

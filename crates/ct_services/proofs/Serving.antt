@@ -1,5 +1,5 @@
 -- What routines share, in each state of the machine that holds what is seen: an answer, and a trap.
-use Rattle.std.proofs.Common.{ℕ, ◌+◌, ◌≡◌, ◌≤◌, ◌∙◌, List, length, Option, None, refl, sym, ap, subst, arith}
+use Rattle.std.proofs.Common.{ℕ, ◌+◌, ◌≡◌, ◌≤◌, ◌∙◌, List, length, Option, Some, None, refl, sym, ap, subst, arith}
 use Rattle.std.specs.Prelude.{option_map}
 use Rattle.std.proofs.lemmas.List.{length-set}
 use Rattle.def_words.specs.declared.Cap.{Cap}
@@ -9,15 +9,23 @@ use Rattle.def_sched.specs.declared.Status.TheVariants.{Ended}
 use Rattle.def_machine.specs.Image.{Image}
 use Rattle.def_machine.specs.State as state
 use Rattle.def_machine.specs.State.{State, Thread, register}
-use Rattle.def_step.specs.Routines.{Traps, Leaves, answered, answers, tells}
+use Rattle.def_step.specs.Checks.{first_failed}
+use Rattle.def_step.specs.Quotas.{by_quota}
+use Rattle.def_step.specs.Routines as routine
+use Rattle.def_step.specs.Routines.{Traps, Leaves, answered, answers, tells, checked, code}
+use Rattle.def_step.specs.Switch.{return_checks}
+use Rattle.def_step.specs.Tokens.{as_key, by_key, key_of, sealed_object}
+use Rattle.def_profile.specs.declared.answers.TheConstants.{NO_KEY}
 use Rattle.ct_engine.specs.Seen.{Seen, thread}
 use Rattle.ct_engine.specs.Written.{HasLayout, StaysBeside, state_with}
 use Rattle.ct_execute.specs.declared.ran.ActBy.{ActBy}
 use Rattle.ct_execute.specs.declared.ran.Ran.{Ran}
 use Rattle.ct_execute.specs.declared.ran.Ran.TheVariants.{Went, Trapped}
 use Rattle.ct_services.specs.Answering.{answered_in}
-use Rattle.ct_services.specs.Serves.{ComesTo, Routine, ServesAsWritten, ServesAlone, act_row}
-use Rattle.ct_services.proofs.Statuses.{like_with, changed_with}
+use Rattle.ct_services.specs.Arguments.{NamesThisQuota, NamesThisKey}
+use Rattle.ct_services.specs.Serves.{ComesTo, Routine, IsServed, ServesAlone, act_row}
+use Rattle.ct_engine.proofs.Freeing.{changed_with}
+use Rattle.ct_execute.proofs.Statuses.{like_with}
 
 -- ---- the running thread in a state that holds what is seen
 
@@ -88,9 +96,9 @@ serves_tell s new t v is =
 -- ---- what comes to the same
 
 pub serves_alike : {s new : Seen} {ss after : List Status} {ran : Ran} {x y : Routine}
-    → ServesAsWritten s ss new after ran x
+    → IsServed s ss new after ran x
     → ((i : Image) (m : State) → HasLayout i s ss → y i (state_with m s ss) ≡ x i (state_with m s ss))
-    → ServesAsWritten s ss new after ran y
+    → IsServed s ss new after ran y
 serves_alike {new = new} {after = after} {ran = ran} h alike = record {
   comes = λ i m holds. subst (ComesTo (state_with m new after) ran) (sym (alike i m holds)) (h.comes i m holds);
   same = h.same;
@@ -110,6 +118,35 @@ serves_as serves alike ss = serves_alike (serves ss) (λ i m h. alike i m ss h)
 -- where the routine traps nothing has changed
 pub serves_trapped : (s : Seen) (ss : List Status) (why : Trap) (x : Routine)
     → ((i : Image) (m : State) → HasLayout i s ss → x i (state_with m s ss) ≡ Traps why)
-    → ServesAsWritten s ss s ss (Trapped why) x
+    → IsServed s ss s ss (Trapped why) x
 serves_trapped s ss why x is =
     record { comes = is; same = (refl, refl); beside = same_beside s; made = omega arith; many = refl; ready = λ r. r }
+
+-- as it does where c1 doesn't lead back
+pub serves_no_return : {s : Seen} {t : ℕ} {c : Cap} {why : Trap} {x : Routine} (ss : List Status) → c ≡ register (thread s t) 1
+    → Some why ≡ first_failed (return_checks c)
+    → IsServed s ss s ss (Trapped why) (λ i m. checked (return_checks (register (state.thread m t) 1)) (x i m))
+serves_no_return {s} {t} {c} {why} {x} ss is fails =
+    serves_trapped s ss why _ (λ i m h. rw (registers_alike m s ss t, ← is, ← fails) refl)
+
+-- ---- a quota
+
+pub serves_by_quota : {s u new : Seen} {t quota : ℕ} {ran : Ran} {x y : Routine} → NamesThisQuota s u t quota → ServesAlone u new ran x
+    → ((i : Image) (m : State) (ss : List Status) → HasLayout i s ss → y i (state_with m s ss) ≡ x i (state_with m s ss))
+    → ServesAlone s new ran (λ i m. by_quota m t (y i m))
+serves_by_quota {s} {t = t} w serves alike =
+    serves_as (rw w.same at serves) (λ i m ss h. rw (registers_alike m s ss t, w.returns, w.is) (alike i m ss h))
+
+-- ---- a key
+
+pub serves_by_key : {s u new : Seen} {t n key : ℕ} {ran : Ran} {x : Routine} {y : Image → State → ℕ → routine.Ran} → NamesThisKey s u t n key
+    → ServesAlone u new ran x
+    → ((i : Image) (m : State) (ss : List Status) → HasLayout i s ss → y i (state_with m s ss) key ≡ x i (state_with m s ss))
+    → ServesAlone s new ran (λ i m. by_key m t (key_of m (register (state.thread m t) n)) (y i m))
+serves_by_key {s} {t = t} {n = n} w serves alike =
+    serves_as (rw w.same at serves) (λ i m ss h. rw (← register_alike m s ss t n, w.is, ← w.number) (alike i m ss h))
+
+pub serves_no_key : {s new : Seen} {t n : ℕ} {ran : Ran} → ServesAlone s new ran (λ i m. tells m t (code NO_KEY))
+    → as_key s.tokens (sealed_object s.objects (register (thread s t) n)) ≡ None → (y : Image → State → ℕ → routine.Ran)
+    → ServesAlone s new ran (λ i m. by_key m t (key_of m (register (state.thread m t) n)) (y i m))
+serves_no_key {s} {t = t} {n = n} serves none y = serves_as serves (λ i m ss h. rw (← register_alike m s ss t n, none) refl)

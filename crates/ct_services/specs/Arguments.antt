@@ -1,16 +1,13 @@
--- What a routine of the heap is asked, over what is seen, and by which code an allocation is refused.
-use Rattle.std.specs.Prelude.{ℕ, ◌≡◌, ◌<◌, Bool, true, false, List, length, find, Option, Some, None, if◌then◌else◌}
-use Rattle.def_profile.specs.declared.answers.TheConstants.{PAST_LIMIT, NO_PLACE, NO_SIZE, NO_PLACE_YET}
+-- What a routine of the heap is asked, over what is seen.
+use Rattle.std.specs.Prelude.{ℕ, ◌≡◌, ◌<◌, true, List, length, find, Option, Some, None}
+use Rattle.std.specs.List.{list_any}
 use Rattle.def_words.specs.declared.Cap.{Cap}
-use Rattle.def_words.specs.declared.Trap.{Trap}
 use Rattle.def_machine.specs.State.{Object, register}
 use Rattle.def_step.specs.Checks.{first_failed}
 use Rattle.def_step.specs.Quotas.{is_quota_cap}
 use Rattle.def_step.specs.Switch.{return_checks}
-use Rattle.def_step.specs.Tokens.{is_all_of}
+use Rattle.def_step.specs.Tokens.{is_all_of, is_key_row, as_key, sealed_object}
 use Rattle.ct_heap.specs.declared.rows.Found.{Found}
-use Rattle.ct_heap.specs.declared.rows.HeapRefusal.{HeapRefusal}
-use Rattle.ct_heap.specs.declared.rows.HeapRefusal.TheVariants.{Size, Quota, NoGap}
 use Rattle.ct_engine.specs.Seen.{Seen, thread}
 
 -- where c10 is a quota's capability, it names one of the heap's quotas
@@ -19,18 +16,20 @@ NamesQuota s t =
     is_quota_cap (register (thread s t) 10) ≡ true
     → (register (thread s t) 10).shadow.root < length s.limits
 
--- c1 leads back, and c10 is a capability of this quota
-pub record NamesThisQuota (s : Seen) (t quota : ℕ) : Type 0 where
+-- c1 leads back, and c10 is a capability of this quota; nothing changes
+pub record NamesThisQuota (s new : Seen) (t quota : ℕ) : Type 0 where
   pub returns : first_failed (return_checks (register (thread s t) 1)) ≡ None
   pub is : is_quota_cap (register (thread s t) 10) ≡ true
   pub entry : quota ≡ (register (thread s t) 10).shadow.root
+  pub same : new ≡ s
 
--- the check of c1 that fails; else c10 is no quota's
-abbrev pub IsNoQuota : Seen → ℕ → Option Trap → Type 0
-IsNoQuota s t (Some why) = first_failed (return_checks (register (thread s t) 1)) ≡ Some why
-IsNoQuota s t None =
-    (first_failed (return_checks (register (thread s t) 1)) ≡ None)
-    × (is_quota_cap (register (thread s t) 10) ≡ false)
+-- register n is of this live key; nothing changes
+pub record NamesThisKey (s new : Seen) (t n key : ℕ) : Type 0 where
+  pub object : Object
+  pub is : as_key s.tokens (sealed_object s.objects (register (thread s t) n)) ≡ Some object
+  pub number : key ≡ object.number
+  pub row : list_any (is_key_row key) s.tokens ≡ true
+  pub same : new ≡ s
 
 -- the heap tells so the live object that a capability is the whole of
 pub record IsWholeObject (objects : List Object) (c : Cap) (f : Found) : Type 0 where
@@ -43,9 +42,3 @@ pub record IsWholeObject (objects : List Object) (c : Cap) (f : Found) : Type 0 
 abbrev pub Finds : List Object → Cap → Option Object → Option Found → Type 0
 Finds objects c o (Some f) = (w : IsWholeObject objects c f) × (o ≡ Some w.object)
 Finds objects c o None = o ≡ None
-
--- a refusal's code; `waits` tells whether something is quarantined
-abbrev pub refusal_code : HeapRefusal → Bool → ℕ
-refusal_code Size waits = NO_SIZE
-refusal_code Quota waits = PAST_LIMIT
-refusal_code NoGap waits = if waits then NO_PLACE_YET else NO_PLACE

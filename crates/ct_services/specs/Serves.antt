@@ -1,5 +1,6 @@
--- What the code of a native routine comes to: what the written routine comes to, in each state of the machine that
--- holds what is seen of the engine.
+-- What the code of a native routine comes to: what the written routine comes to, of each image whose RAM, heap and
+-- quotas lie where the engine's do, in each state of the machine that holds what is seen of the engine. A check that
+-- fails is a trap, and then nothing changes; all else that fails is the answer.
 use Rattle.std.specs.Prelude.{ℕ, ◌+◌, ◌≡◌, ◌≤◌, List, length, Option, Some, None, option_map}
 use Rattle.ct_entry.specs.declared.acts.Act.{Act}
 use Rattle.def_words.specs.Traps.{plain_trap}
@@ -26,7 +27,8 @@ Routine = Image → State → routine.Ran
 abbrev pub act_row : ActBy → ℕ × Act
 act_row d = (d.entry, d.act)
 
--- what the code came to, and the state that it left, are what the routine comes to
+-- What the code came to, and the state that it left, are what the routine comes to. The statuses of the written threads
+-- are those told beside the engine: `state_with` sets them.
 abbrev pub ComesTo : State → Ran → routine.Ran → Type 0
 ComesTo after (Went done) x = x ≡ Leaves after (option_map act_row done)
 ComesTo after (Trapped why) x = x ≡ Traps why
@@ -37,9 +39,10 @@ ComesTo after (Native number) x = ⊥
 abbrev pub RunsReady : Seen → List Status → Type 0
 RunsReady s ss = (t : ℕ) → s.running ≡ Some t → status_of ss t ≡ Ready
 
--- An engine and the threads' statuses became these, and the code came to this: what the written routine comes to.
--- Where it traps nothing has changed. One object is made at most, and the running thread stays ready.
-pub record ServesAsWritten (s : Seen) (ss : List Status) (new : Seen) (after : List Status) (ran : Ran)
+-- An engine and the threads' statuses became these, and the code came to this: what the written routine comes to, of
+-- each image whose RAM, heap and quotas lie where the engine's do. Where it traps nothing has changed. One object is made
+-- at most, and the running thread stays ready.
+pub record IsServed (s : Seen) (ss : List Status) (new : Seen) (after : List Status) (ran : Ran)
     (x : Routine) : Type 0 where
   pub comes : (i : Image) (m : State) → HasLayout i s ss
       → ComesTo (state_with m new after) ran (x i (state_with m s ss))
@@ -51,7 +54,7 @@ pub record ServesAsWritten (s : Seen) (ss : List Status) (new : Seen) (after : L
 
 -- the same where the statuses stay
 abbrev pub ServesAlone : Seen → Seen → Ran → Routine → Type 0
-ServesAlone s new ran x = (ss : List Status) → ServesAsWritten s ss new ss ran x
+ServesAlone s new ran x = (ss : List Status) → IsServed s ss new ss ran x
 
 -- what the routine of a number comes to; no number of none is served
 abbrev pub routine_or_trap : Option routine.Ran → routine.Ran

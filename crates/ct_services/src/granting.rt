@@ -11,14 +11,15 @@ ghost use Rattle.def_step.specs.Quotas as quotas;
 ghost use Rattle.def_step.specs.Quotas.{allocation, is_quota_cap};
 ghost use Rattle.def_step.specs.Routines as routine;
 ghost use Rattle.ct_heap.specs.Lookups.{spans_of};
+ghost use Rattle.ct_engine.specs.Grants.{refusal_code};
 ghost use Rattle.ct_execute.specs.declared.ran.Ran.TheVariants.{Went};
 ghost use Rattle.ct_execute.specs.Deciding.{act_by};
-ghost use Rattle.ct_services.specs.Arguments.{NamesQuota, NamesThisQuota, IsNoQuota, refusal_code};
+ghost use Rattle.ct_services.specs.Arguments.{NamesQuota, NamesThisQuota};
 ghost use Rattle.ct_services.specs.Answering.{answered_in};
 ghost use Rattle.ct_services.specs.Serves.{Routine, ServesAlone};
 
 use crate::answering::{answer, refuse, tell};
-use ct_cap::{Live, Shadow, Trap, derive};
+use ct_cap::{Live, Shadow, derive};
 use ct_engine::{Engine, HeapRefusal, NotWhole, Object};
 use ct_entry::Act;
 use ct_execute::{ActBy, Ran};
@@ -35,33 +36,22 @@ fn is_quota(c: Live) -> bool
     c.cap.tag && c.seal == QUOTA_TYPE
 }
 
-/// The quota's entry that c10 names. The error is the check of c1 that fails, or none where c10 is no quota.
-pub(crate) fn quota_named<M: Memory + Drop>(engine: &Engine<M>, t: u32) -> Result<u32, Option<Trap>>
-    requires { engine.now.running ≡ Some t }
-    ensures { MatchResult result (NamesThisQuota engine.now t) (IsNoQuota engine.now t) }
+/// The quota's entry that c10 names. The error is what any routine of a quota comes to where there is none: the trap at
+/// the check of c1 that fails, or the running thread goes on with -1.
+pub(crate) fn quota_named<M: Memory + Drop>(engine: &mut Engine<M>, t: u32) -> Result<u32, Ran>
+    requires { engine.old.running ≡ Some t }
+    ensures { MatchResult result (NamesThisQuota engine.old engine.new t)
+        (λ ran. (x : Routine)
+        → ServesAlone engine.old engine.new ran (λ i m. quotas.by_quota m t (x i m))) }
 {
     if let Some(trap) = return_trap(engine.register(t, 1)) {
-        return Err(Some(trap));
+        return Err(Ran::Trapped { trap });
     }
     let c = engine.register(t, 10);
     if is_quota(c) {
         Ok(c.cap.shadow.root)
     } else {
-        Err(None)
-    }
-}
-
-/// What a routine comes to where c1 doesn't lead back, or c10 is no quota: the trap, or the running thread goes on
-/// with -1.
-pub(crate) fn no_quota<M: Memory + Drop>(engine: &mut Engine<M>, t: u32, why: Option<Trap>) -> Ran
-    requires runs { engine.old.running ≡ Some t }
-    requires none { IsNoQuota engine.old t why }
-    ensures { (x : Routine)
-        → ServesAlone engine.old engine.new result (λ i m. quotas.by_quota m t (x i m)) }
-{
-    match why {
-        Some(trap) => Ran::Trapped { trap },
-        None => refuse(engine, t, NO_QUOTA),
+        Err(refuse(engine, t, NO_QUOTA))
     }
 }
 
@@ -169,7 +159,7 @@ pub(crate) fn allocate<M: Memory + Drop>(engine: &mut Engine<M>, t: u32) -> Ran
             let size = engine.register(t, 11);
             grant(engine, t, quota, size.address())
         }
-        Err(why) => no_quota(engine, t, why),
+        Err(ran) => ran,
     }
 }
 
@@ -242,7 +232,7 @@ pub(crate) fn free<M: Memory + Drop>(engine: &mut Engine<M>, t: u32) -> Ran
             let c = engine.register(t, 11);
             free_named(engine, t, quota, c)
         }
-        Err(why) => no_quota(engine, t, why),
+        Err(ran) => ran,
     }
 }
 
@@ -258,6 +248,6 @@ pub(crate) fn remaining<M: Memory + Drop>(engine: &mut Engine<M>, t: u32) -> Ran
             let left = engine.remaining(quota);
             tell(engine, t, Live::integer(left))
         }
-        Err(why) => no_quota(engine, t, why),
+        Err(ran) => ran,
     }
 }

@@ -15,7 +15,7 @@ ghost use Rattle.ct_engine.specs.Bursts.{IsOpen};
 ghost use Rattle.ct_execute.specs.declared.ran.Ran.TheVariants.{Went};
 ghost use Rattle.ct_sched.specs.Sched.{with_statuses};
 ghost use Rattle.ct_services.specs.Answering.{IsWord, rested};
-ghost use Rattle.ct_services.specs.Serves.{ServesAsWritten};
+ghost use Rattle.ct_services.specs.Serves.{IsServed};
 
 use crate::answering::{answer, refuse};
 use crate::words::word_trap;
@@ -48,7 +48,7 @@ pub(crate) fn rest<M: Memory + Drop>(
 ) -> Ran
     requires runs { engine.old.running ≡ Some t }
     requires ready { status_of sched.old.statuses t ≡ Ready }
-    ensures serves { ServesAsWritten engine.old sched.old.statuses engine.new sched.new.statuses result
+    ensures serves { IsServed engine.old sched.old.statuses engine.new sched.new.statuses result
         (λ i m. checked (return_checks (register (state.thread m t) 1))
         (stops m t (asleep ticks))) }
     ensures sched { sched.new ≡ with_statuses sched.old sched.new.statuses }
@@ -58,18 +58,6 @@ pub(crate) fn rest<M: Memory + Drop>(
     }
     sched.sleep(t, ticks);
     stop(engine, t)
-}
-
-/// Sleep, for as many ticks as c10's address says.
-pub(crate) fn sleep<M: Memory + Drop>(engine: &mut Engine<M>, sched: &mut Sched, t: u32) -> Ran
-    requires runs { engine.old.running ≡ Some t }
-    requires ready { status_of sched.old.statuses t ≡ Ready }
-    ensures serves { ServesAsWritten engine.old sched.old.statuses engine.new sched.new.statuses result
-        (λ i m. routine.sleep m t) }
-    ensures sched { sched.new ≡ with_statuses sched.old sched.new.statuses }
-{
-    let ticks = engine.register(t, 10).address();
-    rest(engine, sched, t, ticks)
 }
 
 /// What the word holds that c10 names.
@@ -99,7 +87,7 @@ fn wait_for<M: Memory + Drop>(
 ) -> Ran
     requires runs { engine.old.running ≡ Some t }
     requires ready { status_of sched.old.statuses t ≡ Ready }
-    ensures serves { ServesAsWritten engine.old sched.old.statuses engine.new sched.new.statuses result
+    ensures serves { IsServed engine.old sched.old.statuses engine.new sched.new.statuses result
         (λ i m. waits m t address held wanted) }
     ensures sched { sched.new ≡ with_statuses sched.old sched.new.statuses }
 {
@@ -125,7 +113,7 @@ pub(crate) fn wait<M: Memory + Drop>(
     requires opens { IsOpen engine.old t }
     requires ram { ram ≡ engine.old.region.ram }
     requires even { ram % 16 ≡ 0 }
-    ensures serves { ServesAsWritten engine.old sched.old.statuses engine.new sched.new.statuses result
+    ensures serves { IsServed engine.old sched.old.statuses engine.new sched.new.statuses result
         (λ i m. routine.wait i m t) }
     ensures sched { sched.new ≡ with_statuses sched.old sched.new.statuses }
 {
@@ -152,7 +140,7 @@ pub(crate) fn wake<M: Memory + Drop>(
 ) -> Ran
     requires runs { engine.old.running ≡ Some t }
     requires ram { ram ≡ engine.old.region.ram }
-    ensures serves { ServesAsWritten engine.old sched.old.statuses engine.new sched.new.statuses result
+    ensures serves { IsServed engine.old sched.old.statuses engine.new sched.new.statuses result
         (λ i m. routine.wake i m t) }
     ensures sched { sched.new ≡ with_statuses sched.old sched.new.statuses }
 {

@@ -6,10 +6,10 @@ ghost use Rattle.def_step.specs.declared.TheConstants.{LAST_ROUTINE};
 ghost use Rattle.def_step.specs.Native.{native};
 ghost use Rattle.ct_sched.specs.Sched.{with_statuses};
 ghost use Rattle.ct_services.specs.Conditions.{MayServe};
-ghost use Rattle.ct_services.specs.Serves.{ServesAsWritten, routine_or_trap};
+ghost use Rattle.ct_services.specs.Serves.{IsServed, routine_or_trap};
 
 use crate::granting::{allocate, free, remaining};
-use crate::resting::{rest, sleep, wait, wake};
+use crate::resting::{rest, wait, wake};
 use crate::sealing::{token_free, token_key, token_new, token_open};
 use ct_engine::Engine;
 use ct_execute::Ran;
@@ -20,8 +20,13 @@ use def_native::{
 };
 
 /// The native routine of a number, which isn't the switch's or the return's: what it does of the running thread, of
-/// the scheduler and of the heap is what the written routine does of each state of the machine that holds what is seen
-/// of them. The trap is the first check that fails; then nothing changes. RAM begins at `ram`.
+/// the scheduler and of the heap is what the written routine (of each image whose RAM, heap and quotas lie where the
+/// engine's do) does of each state of the machine that holds what is seen of them. What fails is the answer, a trap is
+/// not: that is the first check that fails, and then nothing changes.
+///
+/// Condition: thread `t` runs and is ready, a quota that its c10 names is one of the heap's, nothing is hidden that it
+/// may load, one more object may be made, each row of a key or a token is of a live object, no two are of one, and RAM
+/// begins at `ram`, a multiple of 16.
 pub fn serve<M: Memory + Drop>(
     engine: &mut Engine<M>,
     sched: &mut Sched,
@@ -31,13 +36,17 @@ pub fn serve<M: Memory + Drop>(
 ) -> Ran
     requires may { MayServe engine.old sched.old.statuses t ram }
     requires routine { (numbers.YIELD ≤ number) × (number ≤ LAST_ROUTINE) }
-    ensures serves { ServesAsWritten engine.old sched.old.statuses engine.new sched.new.statuses result
+    ensures serves { IsServed engine.old sched.old.statuses engine.new sched.new.statuses result
         (λ i m. routine_or_trap (native i m t number)) }
     ensures sched { sched.new ≡ with_statuses sched.old sched.new.statuses }
 {
     match number {
         YIELD => rest(engine, sched, t, 0),
-        SLEEP => sleep(engine, sched, t),
+        SLEEP => {
+            // For as many ticks as c10's address says.
+            let ticks = engine.register(t, 10).address();
+            rest(engine, sched, t, ticks)
+        }
         WAIT => wait(engine, sched, t, ram),
         WAKE => wake(engine, sched, t, ram),
         ALLOCATE => allocate(engine, t),

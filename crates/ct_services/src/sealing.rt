@@ -1,19 +1,21 @@
 //! Keys and tokens.
 
-ghost use Rattle.std.specs.Prelude.{◌≡◌, ◌≤◌, ◌<◌, Some, None, IfSome, length, true};
+ghost use Rattle.std.specs.Prelude.{ℕ, ◌≡◌, ◌≤◌, ◌<◌, Some, None, MatchResult, length, true};
 ghost use Rattle.std.specs.List.{list_any};
 ghost use Rattle.def_machine.specs.Rows.{RowsFit};
 ghost use Rattle.def_profile.specs.declared.limits.TheConstants.{MOST_STEPS};
 ghost use Rattle.def_words.specs.Authority.{cap_address};
-ghost use Rattle.def_machine.specs.State.{register, thread};
+ghost use Rattle.def_machine.specs.Image.{Image};
+ghost use Rattle.def_machine.specs.State.{State, register, thread};
 ghost use Rattle.def_step.specs.Quotas.{allocation};
+ghost use Rattle.def_step.specs.Routines as routine;
 ghost use Rattle.def_step.specs.Tokens as tokens;
-ghost use Rattle.def_step.specs.Tokens.{is_key_row, sealed_object, as_key, as_token, key_of, token_object};
-ghost use Rattle.ct_services.specs.Arguments.{NamesQuota, Finds};
+ghost use Rattle.def_step.specs.Tokens.{is_key_row, sealed_object, as_token, key_of, token_object};
+ghost use Rattle.ct_services.specs.Arguments.{NamesQuota, NamesThisKey, Finds};
 ghost use Rattle.ct_services.specs.Serves.{ServesAlone};
 
 use crate::answering::{refuse, tell};
-use crate::granting::{base_of, capability, decline, free_whole, hand_out, no_quota, quota_named};
+use crate::granting::{base_of, capability, decline, free_whole, hand_out, quota_named};
 use ct_cap::Live;
 use ct_engine::{Engine, Found};
 use ct_execute::Ran;
@@ -34,22 +36,25 @@ fn sealed_in<M: Memory + Drop>(engine: &Engine<M>, c: Live) -> Option<Found>
     engine.find(base_of(c), c.bounds.top)
 }
 
-/// The live key that a capability is of.
-fn key_in<M: Memory + Drop>(engine: &Engine<M>, c: Live) -> Option<Found>
-    ensures is { Finds engine.now.objects c
-        (as_key engine.now.tokens (sealed_object engine.now.objects c)) result }
-    ensures key { IfSome result
-        (λ f. list_any (is_key_row f.object.number) engine.now.tokens ≡ true) }
+/// The number of the live key that a register is. The error is what any routine of a key comes to where there is none:
+/// the running thread goes on with -7.
+fn key_named<M: Memory + Drop>(engine: &mut Engine<M>, t: u32, n: u32) -> Result<u32, Ran>
+    requires runs { engine.old.running ≡ Some t }
+    requires register { n < 16 }
+    ensures { MatchResult result (NamesThisKey engine.old engine.new t n)
+        (λ ran. (x : Image → State → ℕ → routine.Ran)
+        → ServesAlone engine.old engine.new ran
+        (λ i m. tokens.by_key m t (key_of m (register (thread m t) n)) (x i m))) }
 {
-    match sealed_in(engine, c) {
+    match sealed_in(engine, engine.register(t, n)) {
         Some(found) => {
             if engine.is_key(found.object.number) {
-                Some(found)
+                Ok(found.object.number)
             } else {
-                None
+                Err(refuse(engine, t, NO_KEY))
             }
         }
-        None => None,
+        None => Err(refuse(engine, t, NO_KEY)),
     }
 }
 
@@ -115,7 +120,7 @@ pub(crate) fn token_key<M: Memory + Drop>(engine: &mut Engine<M>, t: u32) -> Ran
 {
     match quota_named(engine, t) {
         Ok(quota) => seal_new(engine, t, quota, GRANULE, None),
-        Err(why) => no_quota(engine, t, why),
+        Err(ran) => ran,
     }
 }
 
@@ -130,14 +135,12 @@ fn make_token<M: Memory + Drop>(engine: &mut Engine<M>, t: u32, quota: u32) -> R
         (λ key. tokens.made_token m t (Some key)
         (allocation i m quota (cap_address (register (thread m t) 11))))) }
 {
-    let c = engine.register(t, 12);
-    match key_in(engine, c) {
-        Some(found) => {
-            let key = found.object.number;
+    match key_named(engine, t, 12) {
+        Ok(key) => {
             let size = engine.register(t, 11).address();
             seal_new(engine, t, quota, size, Some(key))
         }
-        None => refuse(engine, t, NO_KEY),
+        Err(ran) => ran,
     }
 }
 
@@ -157,7 +160,7 @@ pub(crate) fn token_new<M: Memory + Drop>(engine: &mut Engine<M>, t: u32) -> Ran
 {
     match quota_named(engine, t) {
         Ok(quota) => make_token(engine, t, quota),
-        Err(why) => no_quota(engine, t, why),
+        Err(ran) => ran,
     }
 }
 
@@ -184,10 +187,9 @@ fn open_by_key<M: Memory + Drop>(engine: &mut Engine<M>, t: u32) -> Ran
         (λ key. tokens.opens m t (register (thread m t) 11)
         (token_object m key (register (thread m t) 11)))) }
 {
-    let c = engine.register(t, 10);
-    match key_in(engine, c) {
-        Some(found) => open_token(engine, t, found.object.number),
-        None => refuse(engine, t, NO_KEY),
+    match key_named(engine, t, 10) {
+        Ok(key) => open_token(engine, t, key),
+        Err(ran) => ran,
     }
 }
 
@@ -236,10 +238,9 @@ fn take_token<M: Memory + Drop>(engine: &mut Engine<M>, t: u32, quota: u32) -> R
         (λ key. tokens.frees_token i m t quota
         (token_object m key (register (thread m t) 12)))) }
 {
-    let c = engine.register(t, 11);
-    match key_in(engine, c) {
-        Some(found) => free_token(engine, t, quota, found.object.number),
-        None => refuse(engine, t, NO_KEY),
+    match key_named(engine, t, 11) {
+        Ok(key) => free_token(engine, t, quota, key),
+        Err(ran) => ran,
     }
 }
 
@@ -256,6 +257,6 @@ pub(crate) fn token_free<M: Memory + Drop>(engine: &mut Engine<M>, t: u32) -> Ra
 {
     match quota_named(engine, t) {
         Ok(quota) => take_token(engine, t, quota),
-        Err(why) => no_quota(engine, t, why),
+        Err(ran) => ran,
     }
 }

@@ -1,5 +1,5 @@
 -- What a stop, a pick, a frame more and a frame less leave in an area.
-use Rattle.std.proofs.Common.{ℕ, ◌≡◌, ◌+◌, ◌-◌, ◌*◌, ◌%◌, ◌^◌, ◌<◌, ◌≤◌, ◌⊎◌, inl, inr, true, false, nat_lt, List, ◌∷◌, length, drop, refl, sym, ap, ◌∙◌, arith}
+use Rattle.std.proofs.Common.{ℕ, ◌≡◌, ◌+◌, ◌-◌, ◌*◌, ◌%◌, ◌^◌, ◌<◌, ◌≤◌, ◌⊎◌, inl, inr, true, false, nat_lt, List, ◌∷◌, length, drop, refl, sym, ap, ◌∙◌, arith, subst}
 use Rattle.std.proofs.Math.ListN.{get_or}
 use Rattle.law_lists.proofs.Tests.{lt_tells}
 use Rattle.def_words.specs.declared.Cap.{Cap}
@@ -49,9 +49,9 @@ head_numbers : (ram trusted begin m : ℕ) → ram ≤ trusted → trusted - ram
     → (ram + 8 * m < trusted) ⊎ (trusted + 128 ≤ ram + 8 * m) → ⊥
 head_numbers ram trusted begin m low is from to out = elim out [ inl a ↦ omega (arith, low, is, from, a) | inr b ↦ omega (arith, low, is, to, b) ]
 
-pub picked_kept : (gs hs : List Granule) (t : row.Thread) (p : Cap) (rs : List Cap) → IsKept gs false t → 0 < t.depth → get_or rs 0 (plain 0) ≡ plain 0
-    → hs ≡ without_saved gs t → Touches (area_begin t.area) (area_end t.area) gs hs → IsKept hs true (record t { pcc = p; regs = rs })
-picked_kept gs hs t p rs k alive zero_ wrote touches = record {
+pub picked_kept : (gs hs : List Granule) (t q : row.Thread) → IsKept gs false t → 0 < t.depth → get_or q.regs 0 (plain 0) ≡ plain 0
+    → hs ≡ without_saved gs t → Touches (area_begin t.area) (area_end t.area) gs hs → q ≡ record t { pcc = q.pcc; regs = q.regs } → IsKept hs true q
+picked_kept gs hs t q k alive zero_ wrote touches is = subst (λ (u : row.Thread). IsKept hs true u) (sym is) (record {
   area = rw touches.size k.area;
   room = k.room;
   zero = zero_;
@@ -64,7 +64,7 @@ picked_kept gs hs t p rs k alive zero_ wrote touches = record {
         ]
         | inr q ↦ inr q
       ]));
-}
+})
 
 -- ---- a frame more
 

@@ -1,6 +1,6 @@
 -- A frame's end: what it leaves of a row.
-use Rattle.std.proofs.Common.{ℕ, ◌≡◌, ◌+◌, ◌-◌, ◌*◌, ◌==◌, ◌<◌, ◌≤◌, ◌⊎◌, inl, inr, Bool, true, false, nat_lt, List, length, refl, sym, ap, ◌∙◌, arith, subst}
-use Rattle.std.proofs.lemmas.Bool.{eqb-true}
+use Rattle.std.proofs.Common.{ℕ, zero, suc, ◌≡◌, ◌+◌, ◌-◌, ◌*◌, ◌==◌, ◌<◌, ◌≤◌, ◌⊎◌, inl, inr, Bool, true, false, nat_lt, List, length, refl, sym, ap, ◌∙◌, arith, subst}
+use Rattle.std.proofs.lemmas.Bool.{eqb-true, lt-ltb}
 use Rattle.law_lists.proofs.Tests.{lt_tells, chosen}
 use Rattle.def_words.specs.declared.Cap.{Cap}
 use Rattle.def_memory.specs.declared.Granule.{Granule}
@@ -55,10 +55,9 @@ row_leaves gs t first second =
     (λ more. record { area = refl; depth = refl; zero = refl })
 
 one_less : (n : ℕ) → nat_lt 1 n ≡ nat_lt 0 (n - 1)
-one_less n = elim (lt_tells 1 n) [
-  | inl a ↦ elim (lt_tells 0 (n - 1)) [ inl b ↦ a.0 ∙ sym b.0 | inr b ↦ absurd (let lt = a.1 in let ge = b.1 in omega (arith, lt, ge)) ]
-  | inr a ↦ elim (lt_tells 0 (n - 1)) [ inl b ↦ absurd (let ge = a.1 in let lt = b.1 in omega (arith, ge, lt)) | inr b ↦ a.0 ∙ sym b.0 ]
-]
+one_less zero = refl
+one_less (suc zero) = refl
+one_less (suc (suc n)) = lt-ltb 1 (suc (suc n)) (omega arith) ∙ sym (lt-ltb 0 (suc (suc n) - 1) (omega arith))
 
 pub ends_are : (gs hs : List Granule) (t q : row.Thread) (more : Bool) (first second : Frame → Cap) → IsKept gs true t → IsReady gs t → more ≡ nat_lt 1 t.depth
     → thread_of hs true q ≡ thread_left gs t first second → hs ≡ memory_left gs t → q ≡ row_left gs t first second → Ends gs hs t q more first second

@@ -116,6 +116,7 @@ fn enter<M: Memory>(t: &mut Thread, mem: &mut M, e: &Entries, handler: u32, at: 
 /// it isn't; then nothing changes.
 ///
 /// Conditions: the row is kept, and the export is one whose compartment's two heads stand in memory.
+#[tactic(auto, using(crate::proofs::Handlers::place_some, crate::proofs::Handlers::place_none))]
 pub fn handle_row<M: Memory>(
     t: &mut Thread,
     mem: &mut M,

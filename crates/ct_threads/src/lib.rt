@@ -2,12 +2,11 @@
 //! and of devices.
 //!
 //! A row that is kept (specs/Kept) has its area in RAM, where nothing but what was saved isn't a plain word. Contracts
-//! say what a start, a stop, a pick, a call, a frame's end and an error handler's begin make of the row, of the thread
-//! of the machine's state and of memory, of which nothing is hidden. docs/build/inside.md tells the layout in prose.
+//! say what a start, a stop, a pick and an error handler's begin make of the row, of the thread of the machine's state
+//! and of memory, of which nothing is hidden. docs/build/inside.md tells the layout in prose.
 #![tactic(auto)]
 
 mod accesses;
-mod calls;
 mod fetching;
 mod handling;
 mod registers;
@@ -16,7 +15,6 @@ mod turns;
 mod window;
 
 pub use accesses::access;
-pub use calls::{call_row, end_row, return_row};
 pub use fetching::{fetch_trap, next};
 pub use handling::{handle_row, value_of};
 pub use registers::{branch_row, filter_row, jump_row, read, read_ref};

@@ -15,6 +15,7 @@ use ct_mem::Memory;
 /// One thread starts, stopped, with one frame.
 ///
 /// Conditions: its area and its stack lie in RAM as they have to, and its area holds untagged zeros.
+#[tactic(auto, using(crate::proofs::Starts::fresh_kept))]
 pub fn begin<M: Memory>(mem: &mut M, fresh: &Fresh) -> Thread
     requires fresh { IsFresh (8 * length (M.granules mem.old)) fresh.now }
     requires clear { (k : ℕ) → area_begin fresh.now.area ≤ k → k < area_end fresh.now.area

@@ -19,6 +19,7 @@ fn sixteen(registers: &[Live; 16])
 /// A thread that stands in its row is put away: its area takes its program counter capability and its registers.
 ///
 /// Condition: the row is kept.
+#[tactic(auto, using(crate::proofs::Clean::stopped_kept))]
 pub fn stop_row<M: Memory>(t: &mut Thread, mem: &mut M)
     requires { IsKept (M.granules mem.old) true t.old }
     ensures kept { IsKept (M.granules mem.new) false t.new }
@@ -36,6 +37,7 @@ pub fn stop_row<M: Memory>(t: &mut Thread, mem: &mut M)
 /// load filter.
 ///
 /// Conditions: the row is kept, and a frame stands at least.
+#[tactic(auto, using(crate::proofs::Clean::picked_kept))]
 pub fn pick_row<M: Memory>(t: &mut Thread, mem: &mut M)
     requires kept { IsKept (M.granules mem.old) false t.old }
     requires alive { 0 < t.old.depth }

@@ -25,12 +25,10 @@ use Rattle.ct_areas.specs.Threads.{frames_most}
 use Rattle.ct_switch.specs.Exports.{callee_of}
 use Rattle.ct_switch.proofs.Failing.{checks_passed}
 use Rattle.ct_threads.proofs.Entering.{enters_by}
-use Rattle.ct_engine.specs.Seen.{Seen, region_of, thread, area_at}
+use Rattle.ct_engine.specs.Seen.{Seen, thread, area_at}
 use Rattle.ct_engine.specs.Calls.{IsEnterable, MayCall, HeadStands, switch_at}
-use Rattle.ct_boot.specs.Placed.{IsPlaced}
-use Rattle.law_callable.proofs.Showing.{ShowsCaller}
+use Rattle.law_callable.proofs.Showing.{ShowsCaller, top_lies}
 use Rattle.law_callable.proofs.Rising.{image_sorted}
-use Rattle.law_callable.proofs.Tops.{top_lies}
 use Rattle.law_callable.proofs.Heads.{enterable, export_stands, entries_are, callee_is}
 
 -- RAM has the image's size
@@ -69,21 +67,16 @@ may_call i m s t shows some =
           enterable_at shows.parts m s t (root (image_of shows.parts) n).of shows.sound here export;
     }) shows
 
--- the head of an export table is as boot made it, of each export that a call import names
-pub heads_stand : (i : Image) (m : State) (s : Seen) (size t n : ℕ) (p : PartsRow) → Sound p → i ≡ image_of p → Confined i m → IsPlaced i size t (area_at s t)
-    → s.region ≡ region_of i → s.granules ≡ m.granules → (root i n).origin ≡ Listing kind.Call → HeadStands i s t (root i n).of
-heads_stand i m s size t n p sound booted confined placed region granules is =
-    subst (λ (j : Image). Confined j m → IsPlaced j size t (area_at s t) → s.region ≡ region_of j → (root j n).origin ≡ Listing kind.Call → HeadStands j s t (root j n).of) (sym booted)
-    (λ held lies here call.
-    export_stands p (root (image_of p) n).of sound ((named p sound n).call call) s here m held granules size t lies)
-    confined placed region is
-
--- what a call through an import of a confined thread asks
+-- what a call through an import of a confined thread asks: the head of the export's table is as boot made it
 pub import_stands : (i : Image) (m : State) (s : Seen) (t : ℕ) → ShowsCaller i m s t → (register (thread s t) 6).tag ≡ true
     → cap_seal (register (thread s t) 6) ≡ EXPORT_TYPE → HeadStands i s t (root i (register (thread s t) 6).shadow.root).of
 import_stands i m s t shows tagged sealed =
-    heads_stand i m s (8 * length s.granules) t (register (thread s t) 6).shadow.root shows.parts shows.sound shows.is shows.confined shows.placed shows.region shows.granules
-    (import_is i m s t shows.confined shows.registers tagged sealed)
+    let n : ℕ = (register (thread s t) 6).shadow.root in
+    subst (λ (j : Image). ShowsCaller j m s t → HeadStands j s t (root j n).of) (sym shows.is)
+    (λ here.
+    let export = (named shows.parts shows.sound n).call (import_is (image_of shows.parts) m s t here.confined here.registers tagged sealed) in
+    export_stands shows.parts (root (image_of shows.parts) n).of shows.sound export s
+    here.region m here.confined here.granules (8 * length s.granules) t here.placed) shows
 
 -- and what the callee that it enters asks
 pub entered_stands : (i : Image) (m : State) (s : Seen) (t export high : ℕ) → ShowsCaller i m s t → switch_at s i.entries t ≡ Enters export high → HeadStands i s t export

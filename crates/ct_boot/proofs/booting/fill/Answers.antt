@@ -1,12 +1,8 @@
-use Rattle.std.proofs.Common.{ap, sym, arith}
+use Rattle.std.proofs.Common.{ap, sym}
 use Rattle.law_boot.proofs.Putting.{puts_sentry}
-use Rattle.law_boot.proofs.Stages.{empty_booting}
 use Rattle.ct_boot.proofs.Made.{puts_at}
 use Rattle.ct_boot.proofs.Ranges.{filled, granule_at}
 use Rattle.ct_boot.proofs.booting.fill.Goals as goal
-
-pub put_compartments-requires-clause-booting : goal.put_compartments-requires-clause-booting
-put_compartments-requires-clause-booting g c = let even = c.requires.sound.ram.base in empty_booting c.args.parts.now _ (omega (arith, even)) c.requires.empty
 
 pub put-requires-clause-puts : goal.put-requires-clause-puts
 put-requires-clause-puts g c =

@@ -1,6 +1,6 @@
 use Rattle.std.proofs.Common.{refl}
 use Rattle.ct_engine.proofs.Freeing.{freed_shown}
-use Rattle.ct_engine.proofs.Granted.{allocation_same, remains_shown}
+use Rattle.ct_engine.proofs.Granted.{remains_shown}
 use Rattle.ct_engine.proofs.written.grants_written.Goals as goal
 
 pub returns : goal.returns
@@ -8,6 +8,5 @@ returns c = record {
   allocates = λ m s statuses r. refl;
   seals = λ m s statuses r key. refl;
   frees = freed_shown;
-  comes = allocation_same;
   remains = remains_shown;
 }

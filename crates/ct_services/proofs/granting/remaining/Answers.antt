@@ -1,14 +1,12 @@
 use Rattle.std.proofs.Common.{refl}
-use Rattle.ct_services.proofs.Serving.{serves_as, registers_alike}
+use Rattle.ct_services.proofs.Serving.{serves_by_quota, registers_alike}
 use Rattle.ct_services.proofs.granting.remaining.Goals as goal
 
 pub returns-in-Ok : goal.returns-in-Ok
 returns-in-Ok g c =
     let w = c.in-Ok.ensures in
-    serves_as c.tell.ensures
-    (λ i m ss h.
-    rw (registers_alike m c.args.engine.now ss c.args.t, w.returns, w.is, ← w.entry)
-    (rw (h.heap.limits c.in-Ok.quota, c.integer.ensures, c.remaining-left.ensures) refl))
+    serves_by_quota w c.tell.ensures
+    (λ i m ss h. rw (registers_alike m c.args.engine.now ss c.args.t, ← w.entry, h.heap.limits c.in-Ok.quota, c.integer.ensures, c.remaining-left.ensures, w.same) refl)
 
 pub returns-in-Err : goal.returns-in-Err
-returns-in-Err g c = c.no_quota.ensures _
+returns-in-Err g c = c.in-Err.ensures _

@@ -2,15 +2,11 @@ use Rattle.std.proofs.Common.{refl, ap}
 use Rattle.def_sched.specs.Statuses.{asleep}
 use Rattle.ct_sched.specs.Sched.{SchedRow}
 use Rattle.ct_services.proofs.Rests.{serves_stops}
-use Rattle.ct_services.proofs.Serving.{serves_alike, serves_trapped, registers_alike}
+use Rattle.ct_services.proofs.Serving.{serves_alike, serves_no_return, registers_alike}
 use Rattle.ct_services.proofs.resting.rest.Goals as goal
 
 pub returns-in-Some-clause-serves : goal.returns-in-Some-clause-serves
-returns-in-Some-clause-serves g c =
-    let s = c.args.engine.now in
-    let ss = c.args.sched.now.statuses in
-    serves_trapped s ss c.in-Some.trap _
-    (λ i m h. rw (registers_alike m s ss c.args.t, ← c.register.ensures, ← c.in-Some.ensures) refl)
+returns-in-Some-clause-serves g c = serves_no_return c.args.sched.now.statuses c.register.ensures c.in-Some.ensures
 
 pub returns-clause-serves : goal.returns-clause-serves
 returns-clause-serves g c =

@@ -1,14 +1,10 @@
 use Rattle.std.proofs.Common.{refl, sym, ◌∙◌}
 use Rattle.ct_engine.specs.Written.{state_with}
-use Rattle.ct_services.proofs.Serving.{serves_alike, serves_trapped, registers_alike}
+use Rattle.ct_services.proofs.Serving.{serves_alike, serves_no_return, serves_trapped, registers_alike}
 use Rattle.ct_services.proofs.resting.wait.Goals as goal
 
 pub returns-in-Some-clause-serves : goal.returns-in-Some-clause-serves
-returns-in-Some-clause-serves g c =
-    let s = c.args.engine.now in
-    let ss = c.args.sched.now.statuses in
-    serves_trapped s ss c.in-Some.trap _
-    (λ i m h. rw (registers_alike m s ss c.args.t, ← c.register.ensures, ← c.in-Some.ensures) refl)
+returns-in-Some-clause-serves g c = serves_no_return c.args.sched.now.statuses c.register.ensures c.in-Some.ensures
 
 pub returns-in-Some-word_trap-clause-serves : goal.returns-in-Some-word_trap-clause-serves
 returns-in-Some-word_trap-clause-serves g c =

@@ -1,12 +1,18 @@
-use Rattle.std.proofs.Common.{◌≡◌, arith}
+use Rattle.std.proofs.Common.{◌≡◌, refl, arith}
 use Rattle.def_native.specs.declared.TheConstants.{TOKEN_FREE}
+use Rattle.ct_services.proofs.Serving.{serves_alike, registers_alike}
 use Rattle.ct_services.proofs.routines.serve.Goals as goal
 
 pub returns-in-2-clause-serves : goal.returns-in-2-clause-serves
 returns-in-2-clause-serves g c = rw c.in-2.is c.rest.ensures.serves
 
 pub returns-in-3-clause-serves : goal.returns-in-3-clause-serves
-returns-in-3-clause-serves g c = rw c.in-3.is c.sleep.ensures.serves
+returns-in-3-clause-serves g c =
+    let s = c.args.engine.now in
+    let ss = c.args.sched.now.statuses in
+    rw c.in-3.is
+    (serves_alike c.rest-in-3.ensures.serves
+    (λ i m h. rw (registers_alike m s ss c.args.t, c.address-ticks.ensures, c.register.ensures) refl))
 
 pub returns-in-4-clause-serves : goal.returns-in-4-clause-serves
 returns-in-4-clause-serves g c = rw c.in-4.is c.wait.ensures.serves

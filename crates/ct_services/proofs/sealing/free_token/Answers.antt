@@ -1,13 +1,14 @@
 use Rattle.std.proofs.Common.{◌≡◌, ◌∙◌, refl, sym, eq-eqb, arith}
+use Rattle.std.proofs.lemmas.Bool.{ne_eqb}
 use Rattle.def_words.specs.Authority.{cap_top}
 use Rattle.ct_services.proofs.Serving.{serves_as, register_alike}
-use Rattle.ct_services.proofs.Sealed.{of_quota, charged_else}
+use Rattle.ct_services.proofs.Sealed.{of_quota}
 use Rattle.ct_services.proofs.sealing.free_token.Goals as goal
 
 pub returns-then-found-quota : goal.returns-then-found-quota
 returns-then-found-quota g c =
     let w = c.in-Some.ensures in
-    let other = charged_else c.in-Some.found.quota w.0.object.quota c.args.quota w.0.quota c.if-found-quota.true in
+    let other = ne_eqb w.0.object.quota c.args.quota (λ same. c.if-found-quota.true (w.0.quota ∙ same)) in
     serves_as c.refuse.ensures
     (λ i m ss h.
     rw (← register_alike m c.args.engine.now ss c.args.t 12, ← c.register-c.ensures, w.1, other) refl)

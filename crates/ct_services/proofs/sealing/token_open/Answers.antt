@@ -1,12 +1,9 @@
 use Rattle.std.proofs.Common.{refl}
-use Rattle.ct_services.proofs.Serving.{serves_as, serves_trapped, registers_alike}
+use Rattle.ct_services.proofs.Serving.{serves_as, serves_no_return, registers_alike}
 use Rattle.ct_services.proofs.sealing.token_open.Goals as goal
 
 pub returns-in-Some : goal.returns-in-Some
-returns-in-Some g c =
-    let s = c.args.engine.now in
-    λ ss. serves_trapped s ss c.in-Some.trap _
-    (λ i m h. rw (registers_alike m s ss c.args.t, ← c.register.ensures, ← c.in-Some.ensures) refl)
+returns-in-Some g c = λ ss. serves_no_return ss c.register.ensures c.in-Some.ensures
 
 pub returns-in-None : goal.returns-in-None
 returns-in-None g c =

@@ -1,9 +1,9 @@
-use Rattle.std.proofs.Common.{◌-◌, refl, sym}
+use Rattle.std.proofs.Common.{◌-◌, sym}
 use Rattle.def_step.specs.declared.TheConstants.{TRAP_RECORD}
 use Rattle.def_step.specs.Handlers.{record_end}
 use Rattle.ct_areas.specs.Parts.{register_in}
 use Rattle.ct_threads.specs.Handling.{is_handled_in}
-use Rattle.ct_threads.proofs.Handlers.{says, place_some, place_none, record_lies}
+use Rattle.ct_threads.proofs.Handlers.{says, place_some, record_lies}
 use Rattle.ct_threads.proofs.handling.handle_row.Goals as goal
 
 pub enter-requires : goal.enter-requires
@@ -20,22 +20,4 @@ enter-requires g c =
       low = lies.low;
       inside = lies.inside;
       whole = lies.whole;
-    }
-
-pub returns-in-Some : goal.returns-in-Some
-returns-in-Some g c =
-    let t = c.args.t.now in
-    record {
-      result = (place_some (is_handled_in t c.args.handler) (record_end (register_in t 2) - TRAP_RECORD) c.in-Some.at c.in-Some.ensures).0;
-      memory = c.enter.ensures.memory;
-      row = c.enter.ensures.row;
-    }
-
-pub returns-in-None : goal.returns-in-None
-returns-in-None g c =
-    let t = c.args.t.now in
-    record {
-      result = place_none (is_handled_in t c.args.handler) (record_end (register_in t 2) - TRAP_RECORD) c.in-None.ensures;
-      memory = refl;
-      row = refl;
     }

@@ -1,25 +1,18 @@
-use Rattle.std.proofs.Common.{ap, sym, ◌∙◌}
-use Rattle.std.proofs.lemmas.Bool.{not-true, not-false}
-use Rattle.def_step.specs.Events.{holder, begun_since}
+use Rattle.std.proofs.Common.{◌≡◌, ap, subst, ◌∙◌}
+use Rattle.def_machine.specs.State.{thread}
 use Rattle.def_machine.specs.Platform.{MachineRow}
-use Rattle.ct_machine.proofs.Taking.{begun_off, begun_same, begun_new}
+use Rattle.def_step.specs.Instructions.{actor_of}
+use Rattle.ct_machine.proofs.Stepping.{acts_by}
+use Rattle.ct_machine.proofs.Taking.{begun_new, holder_runs}
 use Rattle.ct_machine.proofs.parts.Parts.begun.Goals as goal
 
-pub returns-then-not-posture : goal.returns-then-not-posture
-returns-then-not-posture g c =
-    begun_off c.self.inside.engine c.self.inside.sched c.self.inside.pending c.self.inside.bus.states c.self.inside.time c.self.inside.counts
-    c.args.before c.in-Some.thread c.posture-posture.result c.in-Some.ensures c.posture-posture.ensures (not-true _ c.if-not-posture.true)
-    ∙ ap (λ (m : MachineRow). begun_since c.args.before m.state (holder m.state)) c.self.view_is
-
-pub returns-then-is_holder : goal.returns-then-is_holder
-returns-then-is_holder g c =
-    begun_same c.self.inside.engine c.self.inside.sched c.self.inside.pending c.self.inside.bus.states c.self.inside.time c.self.inside.counts
-    c.args.before c.in-Some.thread c.posture-posture.result c.in-Some.ensures c.posture-posture.ensures (not-false _ c.if-not-posture.false) (sym c.if-is_holder.ensures)
-    ∙ ap (λ (m : MachineRow). begun_since c.args.before m.state (holder m.state)) c.self.view_is
+pub actor-requires : goal.actor-requires
+actor-requires g c =
+    ap (λ (m : MachineRow). m.state.running) c.self.view_is ∙ holder_runs c.args.self.now.state c.args.self.now.state.running c.in-Some.held c.in-Some.ensures
 
 pub returns-else-is_holder : goal.returns-else-is_holder
 returns-else-is_holder g c =
-    begun_new c.self.inside.engine c.self.inside.sched c.self.inside.pending c.self.inside.bus.states c.self.inside.time c.self.inside.counts
-    c.args.before c.in-Some.thread c.actor.result c.posture-posture.result c.in-Some.ensures c.posture-posture.ensures (not-false _ c.if-not-posture.false) (sym c.if-is_holder.ensures)
-    c.actor.ensures.is
-    ∙ ap (λ (m : MachineRow). begun_since c.args.before m.state (holder m.state)) c.self.view_is
+    let i = c.self.inside in
+    begun_new c.args.before c.args.self.now.state c.in-Some.held c.actor.result c.in-Some.ensures c.if-is_holder.ensures
+    (subst (λ (m : MachineRow). c.actor.result ≡ actor_of (thread m.state c.in-Some.held.0).frames) c.self.view_is
+    (acts_by i.plan i.engine i.sched i.bus i.pending i.time i.counts c.in-Some.held.0 c.actor.result c.actor.ensures.is))

@@ -1,7 +1,6 @@
 use Rattle.std.proofs.Common.{◌≡◌, Some, refl, subst, sym}
 use Rattle.def_machine.specs.Platform.{MachineRow}
 use Rattle.def_step.specs.Instructions.{executed}
-use Rattle.ct_execute.specs.Deciding.{decision}
 use Rattle.ct_machine.specs.Going.{MayGoOn}
 use Rattle.ct_machine.proofs.Opened.{is_open}
 use Rattle.ct_machine.proofs.Taking.{ram_is}
@@ -21,14 +20,14 @@ execute-requires g c =
     }
 
 pub invariant_of-self : goal.invariant_of-self
-invariant_of-self g c = (
-  ran_kept c.self.inside.plan (decision c.entries.result.now c.self.inside.engine c.args.t c.self.inside.bus c.self.inside.time) c.args.t
-      c.self.inside.engine c.execute.new.engine c.self.inside.sched c.self.inside.bus c.execute.new.bus c.execute.result c.self.invariant.0 c.execute.ensures.is c.execute.ensures.stays,
-  counted_so c.self.inside.counts c.self.inside.time c.self.inside.engine c.execute.new.engine _ c.execute.ensures.stays.beside refl c.self.invariant.1,
-)
+invariant_of-self g c =
+    let i = c.self.inside in
+    let stays = c.execute.ensures.executes.stays in
+    (ran_kept i.plan i.engine c.execute.new.engine i.sched c.self.invariant.0 stays, counted_so i.counts i.time i.engine c.execute.new.engine _ stays.beside refl c.self.invariant.1)
 
 pub returns-clause-came : goal.returns-clause-came
 returns-clause-came g c =
+    let i = c.self.inside in
     came_by (λ (m : MachineRow). executed m.board m.state c.args.t) c.self.view_is refl
-    (came c.self.inside.plan c.entries.result.now c.self.inside.engine c.self.inside.sched c.self.inside.bus c.self.inside.pending c.self.inside.time c.self.inside.counts c.args.t
-    c.self.invariant.0 c.entries.ensures.is c.execute.new.engine c.execute.new.bus c.execute.result c.execute.ensures.is c.execute.ensures.bases c.execute.ensures.unfinished)
+    (came i.plan c.entries.result.now i.engine i.sched i.bus i.pending i.time i.counts c.args.t c.self.invariant.0 c.entries.ensures.is c.execute.new.engine c.execute.new.bus c.execute.result
+    c.execute.ensures.executes)

@@ -1,9 +1,9 @@
-use Rattle.std.proofs.Common.{◌≡◌, Some, None, sym, subst, ◌∙◌}
+use Rattle.std.proofs.Common.{◌≡◌, Some, sym, subst}
 use Rattle.def_machine.specs.State.{thread}
 use Rattle.def_machine.specs.Platform.{MachineRow}
 use Rattle.def_step.specs.Instructions.{actor_of}
 use Rattle.ct_machine.specs.Going.{Runs}
-use Rattle.ct_machine.proofs.Stepping.{runs_by, acts_by, ends_by, carried_so, quietly_left}
+use Rattle.ct_machine.proofs.Stepping.{runs_by, acts_by, ends_by, carried_so}
 use Rattle.ct_machine.proofs.parts.Parts.go_on.Goals as goal
 
 pub run-ran-requires-clause-runs : goal.run-ran-requires-clause-runs
@@ -22,20 +22,11 @@ finish-requires-clause-ends g c =
     (acts_by i.plan i.engine i.sched i.bus i.pending i.time i.counts c.in-Some.t c.actor-actor.result c.actor-actor.ensures.is))
     c.run-ran.ensures.came
 
-pub returns-else-is_quiet-clause-is : goal.returns-else-is_quiet-clause-is
-returns-else-is_quiet-clause-is g c =
+pub returns-in_default-clause-is : goal.returns-in_default-clause-is
+returns-in_default-clause-is g c =
     let i = c.self.inside in
     carried_so c.args.self.now c.run-ran.new.self c.in-Some.t c.actor-actor.result c.run-ran.result c.finish.new.self.state c.finish.result
     (subst (λ (m : MachineRow). m.state.running ≡ Some c.in-Some.t) c.self.view_is (sym c.in-Some.ensures))
     (subst (λ (m : MachineRow). c.actor-actor.result ≡ actor_of (thread m.state c.in-Some.t).frames) c.self.view_is
     (acts_by i.plan i.engine i.sched i.bus i.pending i.time i.counts c.in-Some.t c.actor-actor.result c.actor-actor.ensures.is))
     c.run-ran.ensures.came c.finish.ensures.is
-
-pub returns-then-is_quiet-clause-is : goal.returns-then-is_quiet-clause-is
-returns-then-is_quiet-clause-is g c =
-    let i = c.self.inside in
-    carried_so c.args.self.now c.run-ran.new.self c.in-Some.t c.actor-actor.result c.run-ran.result c.run-ran.new.self.state None
-    (subst (λ (m : MachineRow). m.state.running ≡ Some c.in-Some.t) c.self.view_is (sym c.in-Some.ensures))
-    (subst (λ (m : MachineRow). c.actor-actor.result ≡ actor_of (thread m.state c.in-Some.t).frames) c.self.view_is
-    (acts_by i.plan i.engine i.sched i.bus i.pending i.time i.counts c.in-Some.t c.actor-actor.result c.actor-actor.ensures.is))
-    c.run-ran.ensures.came (quietly_left c.run-ran.new.self c.in-Some.t c.actor-actor.result c.run-ran.result (sym c.is_quiet.ensures ∙ c.if-is_quiet.true))

@@ -6,7 +6,7 @@ use Rattle.def_machine.specs.Platform.{MachineRow}
 use Rattle.ct_engine.specs.Seen.{Seen}
 use Rattle.ct_machine.specs.Parts.{state_by}
 use Rattle.ct_machine.specs.Quiet.{has_sweep, with_counts, IsThreadWindow}
-use Rattle.ct_machine.proofs.Bursting.{burst_kept, none_goes, none_seen, one_goes, runs_seen, stays_open}
+use Rattle.ct_machine.proofs.Bursting.{burst_kept, none_goes, none_seen, one_goes, opens_once, runs_seen}
 use Rattle.ct_machine.proofs.Keeping.{counted_so}
 use Rattle.ct_machine.proofs.Quietly.{none_ended, quietly_is, sweep_stays, window_in, window_out}
 use Rattle.ct_machine.proofs.parts.Parts.goes_quietly.Goals as goal
@@ -17,8 +17,8 @@ once-requires-clause-runs g c = runs_seen _ c.args.self.now c.args.t c.self.view
 pub once-requires-clause-opened : goal.once-requires-clause-opened
 once-requires-clause-opened g c =
     let i = c.self.inside in
-    stays_open i.plan i.engine i.sched c.args.t c.self.invariant.0 i.bus i.pending i.time i.counts (runs_seen _ c.args.self.now c.args.t c.self.view_is c.requires.runs)
-    (none_seen _ c.args.self.now c.self.view_is c.requires.pending) (subst Guarded (sym c.self.view_is) c.requires.guarded) 1
+    let guarded = subst Guarded (sym c.self.view_is) c.requires.guarded in
+    opens_once i.plan i.engine i.sched c.args.t c.self.invariant.0 i.pending i.bus.states i.time i.counts guarded.shut guarded.keeps.confined (runs_seen _ c.args.self.now c.args.t c.self.view_is c.requires.runs)
 
 pub once-requires-clause-window : goal.once-requires-clause-window
 once-requires-clause-window g c =

@@ -1,23 +1,13 @@
-use Rattle.std.proofs.Common.{ap, arith}
-use Rattle.def_events.specs.Kinds.{Kinds}
-use Rattle.ct_machine.specs.Going.{silence}
-use Rattle.ct_machine.proofs.Appending.{both_ran, ran_kinds}
+use Rattle.std.proofs.Common.{arith}
+use Rattle.ct_machine.proofs.Appending.{both_ran, ran_counts}
 use Rattle.ct_machine.proofs.Onward.{not_over}
 use Rattle.ct_machine.proofs.parts.Parts.rounds_and_one.Goals as goal
 
 pub next_rounds-more-requires-clause-steps : goal.next_rounds-more-requires-clause-steps
-next_rounds-more-requires-clause-steps g c =
-    let few = c.run_quietly-count.ensures.most in
-    let is = ap (λ (k : Kinds). k.steps) (ran_kinds c.args.self.now c.run_quietly-count.new.self c.run_quietly-count.result silence c.run_quietly-count.ensures.went.ran) in
-    let room = c.requires.steps in
-    omega (arith, few, is, room)
+next_rounds-more-requires-clause-steps g c = omega (arith, c.run_quietly-count.ensures.most, (ran_counts c.run_quietly-count.ensures.went.ran).0, c.requires.steps)
 
 pub next_rounds-more-requires-clause-sweeps : goal.next_rounds-more-requires-clause-sweeps
-next_rounds-more-requires-clause-sweeps g c =
-    let few = c.run_quietly-count.ensures.most in
-    let is = ap (λ (k : Kinds). k.sweeps) (ran_kinds c.args.self.now c.run_quietly-count.new.self c.run_quietly-count.result silence c.run_quietly-count.ensures.went.ran) in
-    let room = c.requires.sweeps in
-    omega (arith, few, is, room)
+next_rounds-more-requires-clause-sweeps g c = omega (arith, c.run_quietly-count.ensures.most, (ran_counts c.run_quietly-count.ensures.went.ran).1, c.requires.sweeps)
 
 pub returns-clause-ran : goal.returns-clause-ran
 returns-clause-ran g c =

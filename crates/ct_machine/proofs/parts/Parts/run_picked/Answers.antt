@@ -1,12 +1,9 @@
-use Rattle.std.proofs.Common.{◌∙◌, arith, sym, subst, ap}
+use Rattle.std.proofs.Common.{◌∙◌, arith, sym, ap}
 use Rattle.std.proofs.lemmas.Bool.{not-true}
 use Rattle.def_words.specs.declared.Posture.{Posture}
 use Rattle.def_machine.specs.Platform.{MachineRow}
-use Rattle.ct_machine.specs.Going.{MayGoOn}
-use Rattle.ct_machine.specs.Quiet.{has_sweep, CarriedOn, GuardsNext, IsThreadWindow}
-use Rattle.ct_machine.proofs.Bursting.{burst_keeps, none_seen}
+use Rattle.ct_machine.proofs.Bursting.{burst_keeps}
 use Rattle.ct_machine.proofs.Picking.{carried_by, open_on}
-use Rattle.ct_machine.proofs.Quietly.{window_in}
 use Rattle.ct_machine.proofs.parts.Parts.run_picked.Goals as goal
 
 pub posture-requires : goal.posture-requires
@@ -17,16 +14,7 @@ burst-carried-requires-clause-runs g c = sym c.in-Some.ensures
 
 pub burst-carried-requires-clause-opened : goal.burst-carried-requires-clause-opened
 burst-carried-requires-clause-opened g c =
-    let i = c.self.inside in
-    let may = subst MayGoOn (sym c.self.view_is) c.requires.may in
-    open_on i.plan i.engine i.sched c.in-Some.t c.self.invariant.0 i.bus i.pending i.time i.counts (sym c.in-Some.ensures)
-    (none_seen _ c.args.self.now c.self.view_is c.requires.pending) (subst GuardsNext (sym c.self.view_is) c.requires.next) may.shut may.keeps.confined c.args.most
-
-pub burst-carried-requires-clause-window : goal.burst-carried-requires-clause-window
-burst-carried-requires-clause-window g c =
-    let i = c.self.inside in
-    window_in i.plan i.engine i.sched i.bus i.pending i.time i.counts c.in-Some.t c.window-window.result c.self.invariant.0
-    (subst (λ (m : MachineRow). IsThreadWindow m c.in-Some.t c.window-window.result) (sym c.self.view_is) c.window-window.ensures)
+    open_on c.self.inside c.in-Some.t c.self.invariant.0 c.self.view_is (sym c.in-Some.ensures) c.requires.pending c.requires.next c.requires.idle c.requires.may c.args.most
 
 pub invariant_of-self : goal.invariant_of-self
 invariant_of-self g c =
@@ -48,10 +36,6 @@ count_rounds-requires-clause-sweeps g c =
 
 pub returns-then-carried-gt0-clause-carried : goal.returns-then-carried-gt0-clause-carried
 returns-then-carried-gt0-clause-carried g c some =
-    let i = c.self.inside in
-    subst (λ (m : MachineRow). CarriedOn m c.count_rounds.new.self c.burst-carried.result) c.self.view_is
-    (carried_by i.plan i.engine i.sched c.in-Some.t c.self.invariant.0 i.bus i.pending i.time i.counts (sym c.in-Some.ensures)
-    (none_seen _ c.args.self.now c.self.view_is c.requires.pending) (subst GuardsNext (sym c.self.view_is) c.requires.next)
+    carried_by c.self.inside c.in-Some.t c.self.invariant.0 c.self.view_is (sym c.in-Some.ensures) c.requires.pending c.requires.next c.requires.idle
     c.burst-carried.result c.burst-carried.new.self c.count_rounds.new.self (sym (ap (λ (p : Posture). p.off) c.posture.ensures) ∙ not-true _ c.if-not-posture.true)
-    (ap (λ (m : MachineRow). has_sweep m.state) c.self.view_is ∙ c.requires.idle)
-    c.burst-carried.ensures.goes c.count_rounds.ensures.state c.count_rounds.ensures.board some)
+    c.burst-carried.ensures.goes c.count_rounds.ensures.state c.count_rounds.ensures.board some

@@ -4,7 +4,7 @@ use Rattle.ct_machine.proofs.Rounding.{none_went}
 use Rattle.ct_machine.proofs.parts.Parts.run_quietly.Goals as goal
 
 pub returns-then-has_sweep-clause-went : goal.returns-then-has_sweep-clause-went
-returns-then-has_sweep-clause-went g c = none_went c.args.self.now
+returns-then-has_sweep-clause-went g c = none_went c.args.self.now c.requires.guarded
 
 pub run_thread_quietly-requires-clause-idle : goal.run_thread_quietly-requires-clause-idle
 run_thread_quietly-requires-clause-idle g c = sym c.has_sweep.ensures ∙ c.if-has_sweep.false

@@ -1,9 +1,8 @@
 use Rattle.std.proofs.Common.{◌∙◌, arith, sym, subst, ap}
 use Rattle.def_events.specs.Guarded.{Guarded}
 use Rattle.def_machine.specs.Platform.{MachineRow}
-use Rattle.ct_machine.specs.Quiet.{has_sweep, IsThreadWindow, WentRounds}
+use Rattle.ct_machine.specs.Quiet.{has_sweep, WentRounds}
 use Rattle.ct_machine.proofs.Bursting.{burst_keeps, none_seen, rounds_went, runs_seen, stays_open}
-use Rattle.ct_machine.proofs.Quietly.{window_in}
 use Rattle.ct_machine.proofs.parts.Parts.run_thread_quietly.Goals as goal
 
 pub burst-made-requires-clause-runs : goal.burst-made-requires-clause-runs
@@ -13,13 +12,8 @@ pub burst-made-requires-clause-opened : goal.burst-made-requires-clause-opened
 burst-made-requires-clause-opened g c =
     let i = c.self.inside in
     stays_open i.plan i.engine i.sched c.args.t c.self.invariant.0 i.bus i.pending i.time i.counts (runs_seen _ c.args.self.now c.args.t c.self.view_is c.requires.runs)
-    (none_seen _ c.args.self.now c.self.view_is c.requires.pending) (subst Guarded (sym c.self.view_is) c.requires.guarded) c.args.most
-
-pub burst-made-requires-clause-window : goal.burst-made-requires-clause-window
-burst-made-requires-clause-window g c =
-    let i = c.self.inside in
-    window_in i.plan i.engine i.sched i.bus i.pending i.time i.counts c.args.t c.window-window.result c.self.invariant.0
-    (subst (λ (m : MachineRow). IsThreadWindow m c.args.t c.window-window.result) (sym c.self.view_is) c.window-window.ensures)
+    (none_seen _ c.args.self.now c.self.view_is c.requires.pending) (subst Guarded (sym c.self.view_is) c.requires.guarded)
+    (ap (λ (m : MachineRow). has_sweep m.state) c.self.view_is ∙ c.requires.idle) c.args.most
 
 pub invariant_of-self : goal.invariant_of-self
 invariant_of-self g c =
@@ -41,12 +35,4 @@ returns-clause-went g c =
     (rounds_went i.plan i.engine i.sched c.args.t c.self.invariant.0 i.bus i.pending i.time i.counts (runs_seen _ c.args.self.now c.args.t c.self.view_is c.requires.runs)
     (none_seen _ c.args.self.now c.self.view_is c.requires.pending) (subst Guarded (sym c.self.view_is) c.requires.guarded)
     (ap (λ (m : MachineRow). has_sweep m.state) c.self.view_is ∙ c.requires.idle)
-    c.burst-made.result c.burst-made.new.self c.count_rounds.new.self c.burst-made.ensures.goes c.count_rounds.ensures.state c.count_rounds.ensures.board).0
-
-pub returns-clause-guarded : goal.returns-clause-guarded
-returns-clause-guarded g c =
-    let i = c.self.inside in
-    (rounds_went i.plan i.engine i.sched c.args.t c.self.invariant.0 i.bus i.pending i.time i.counts (runs_seen _ c.args.self.now c.args.t c.self.view_is c.requires.runs)
-    (none_seen _ c.args.self.now c.self.view_is c.requires.pending) (subst Guarded (sym c.self.view_is) c.requires.guarded)
-    (ap (λ (m : MachineRow). has_sweep m.state) c.self.view_is ∙ c.requires.idle)
-    c.burst-made.result c.burst-made.new.self c.count_rounds.new.self c.burst-made.ensures.goes c.count_rounds.ensures.state c.count_rounds.ensures.board).1
+    c.burst-made.result c.burst-made.new.self c.count_rounds.new.self c.burst-made.ensures.goes c.count_rounds.ensures.state c.count_rounds.ensures.board)

@@ -8,20 +8,17 @@ use Rattle.ct_machine.proofs.parts.Parts.schedule.Goals as goal
 
 pub pick-requires-in-Some-pick-clause-alive : goal.pick-requires-in-Some-pick-clause-alive
 pick-requires-in-Some-pick-clause-alive g c =
-    picked_alive c.self.inside.engine c.self.inside.sched c.self.inside.pending c.self.inside.bus.states c.self.inside.time c.self.inside.counts c.in-Some-pick.t
-    c.self.invariant.0.statuses (subst (λ (m : MachineRow). EndsFit m.state) (sym c.self.view_is) c.requires) c.in-Some-pick.ensures.picked
+    picked_alive c.self.inside c.in-Some-pick.t c.self.invariant.0.statuses (subst (λ (m : MachineRow). EndsFit m.state) (sym c.self.view_is) c.requires) c.in-Some-pick.ensures.picked
 
 pub returns-in-Some-pick-clause-state : goal.returns-in-Some-pick-clause-state
 returns-in-Some-pick-clause-state g c =
-    some_is (record { image = c.self.inside.plan; bases = c.self.inside.bus.bases }) c.self.inside.engine c.self.inside.sched c.self.inside.pending c.self.inside.bus.states c.self.inside.time c.self.inside.counts
-    c.pick-in-Some-pick.new.self c.pick.new.self c.in-Some-pick.t c.self.invariant.0 c.in-None.ensures c.in-Some-pick.ensures.picked c.pick-in-Some-pick.ensures c.in-Some-pick.ensures.row
+    some_is c.self.inside c.self.invariant.0 c.pick-in-Some-pick.new.self c.pick.new.self c.in-Some-pick.t
+    c.in-None.ensures c.in-Some-pick.ensures.picked c.pick-in-Some-pick.ensures c.in-Some-pick.ensures.row
     ∙ ap (λ (m : MachineRow). scheduled m.board m.state) c.self.view_is
 
 pub returns-in-None-pick-clause-state : goal.returns-in-None-pick-clause-state
 returns-in-None-pick-clause-state g c =
-    none_is (record { image = c.self.inside.plan; bases = c.self.inside.bus.bases }) c.self.inside.engine c.self.inside.sched c.self.inside.pending c.self.inside.bus.states c.self.inside.time c.self.inside.counts
-    c.pick.new.self c.self.invariant.0 c.in-None.ensures c.in-None-pick.ensures.picked c.in-None-pick.ensures.row
-    ∙ ap (λ (m : MachineRow). scheduled m.board m.state) c.self.view_is
+    none_is c.self.inside c.self.invariant.0 c.pick.new.self c.in-None.ensures c.in-None-pick.ensures.picked c.in-None-pick.ensures.row ∙ ap (λ (m : MachineRow). scheduled m.board m.state) c.self.view_is
 
 pub invariant_of-self : goal.invariant_of-self
 invariant_of-self g c = (

@@ -7,8 +7,7 @@ use Rattle.ct_machine.proofs.parts.Parts.shorten_sleeps.Goals as goal
 
 pub returns-clause-state : goal.returns-clause-state
 returns-clause-state g c =
-    timed_is c.self.inside.engine c.self.inside.sched c.self.inside.pending c.self.inside.bus.states c.self.inside.time c.self.inside.counts
-    c.tick.new.self c.self.invariant.0.statuses c.tick.ensures
+    timed_is c.self.inside c.tick.new.self c.self.invariant.0.statuses c.tick.ensures
     ∙ ap (λ (m : MachineRow). sleepers_on m.state) c.self.view_is
 
 pub invariant_of-self : goal.invariant_of-self

@@ -4,6 +4,7 @@ use Rattle.std.proofs.Math.ListN.{get_or, set}
 use Rattle.def_sched.specs.declared.Status.{Status}
 use Rattle.def_machine.specs.State.{Thread, nobody}
 use Rattle.def_machine.specs.Threads.{with_status, statuses_of, with_statuses}
+pub use Rattle.ct_engine.proofs.Freeing.{changed_with}
 
 -- ---- one thread of them
 
@@ -14,18 +15,6 @@ like_with [] ss t s = refl
 like_with (x ∷ ts) [] t s = refl
 like_with (x ∷ ts) (r ∷ ss) zero s = refl
 like_with (x ∷ ts) (r ∷ ss) (suc t) s = like_with ts ss t s
-
--- it changes by its other parts alone, whatever the statuses are
-pub changed_with : (f : Thread → Thread) → ((x : Thread) (s : Status) → f (with_status x s) ≡ with_status (f x) s)
-    → (ts : List Thread) (ss : List Status) (t : ℕ)
-    → set (with_statuses ts ss) t (f (get_or (with_statuses ts ss) t nobody))
-    ≡ with_statuses (set ts t (f (get_or ts t nobody))) ss
-changed_with f same [] ss t = refl
-changed_with f same (x ∷ ts) [] zero = refl
-changed_with f same (x ∷ ts) [] (suc t) = refl
-changed_with f same (x ∷ ts) (s ∷ ss) zero = ap (λ (y : Thread). y ∷ with_statuses ts ss) (same x s)
-changed_with f same (x ∷ ts) (s ∷ ss) (suc t) =
-    ap (λ (us : List Thread). with_status x s ∷ us) (changed_with f same ts ss t)
 
 -- it changes together with its status
 pub set_both : (ts : List Thread) (ss : List Status) (t : ℕ) (new : Thread) (s : Status) → length ss ≡ length ts
