@@ -21,7 +21,7 @@ use Rattle.ct_boot.proofs.Fits.{stack_end}
 use Rattle.ct_areas.specs.declared.thread.Area.{Area}
 use Rattle.ct_areas.specs.declared.thread.Fresh.{Fresh}
 use Rattle.ct_engine.specs.declared.rows.Region.{Region}
-use Rattle.ct_engine.specs.Seen.{Seen, region_hides, region_of, limits_in, thread, area_at}
+use Rattle.ct_engine.specs.Seen.{EngineRow, region_hides, region_of, limits_in, thread, area_at}
 use Rattle.ct_engine.specs.Starts.{AreFresh, MayHold, MayStart, started}
 use Rattle.ct_heap.specs.Effects.{Empty, accounts_for, empty}
 use Rattle.ct_boot.specs.Launching.{areas_begin, areas_end, fresh_of, heap_range, launched}
@@ -122,9 +122,9 @@ module _ (p : PartsRow) (s : Sound p) where
 
 -- ---- what stands then
 
-pub launched_placed : (p : PartsRow) (limits : List ℕ) (e : Seen) → Sound p → e ≡ launched p limits → ArePlaced (image_of p) (8 * length e.granules) e.areas
+pub launched_placed : (p : PartsRow) (limits : List ℕ) (e : EngineRow) → Sound p → e ≡ launched p limits → ArePlaced (image_of p) (8 * length e.state.granules) e.areas
 launched_placed p limits e s is =
-    subst (λ (z : Seen). ArePlaced (image_of p) (8 * length z.granules) z.areas) (sym is) (are_placed p s (8 * length (boot_state p).granules) (size_is p s))
+    subst (λ (z : EngineRow). ArePlaced (image_of p) (8 * length z.state.granules) z.areas) (sym is) (are_placed p s (8 * length (boot_state p).granules) (size_is p s))
 
 module _ (p : PartsRow) (limits : List ℕ) where
   thread_there : (t : ℕ) → t < length p.threads → (x : ThreadRow) × (thread (launched p limits) t ≡ first_thread p (0 + t) x)
@@ -136,7 +136,7 @@ module _ (p : PartsRow) (limits : List ℕ) where
         ap (λ (a : Area). a.stack + a.stack_length) (area_is p 0 (areas_begin p) p.threads t found.0 found.1),
       )
 
-  few : (t : ℕ) → t < length (launched p limits).threads → t < length p.threads
+  few : (t : ℕ) → t < length (launched p limits).state.threads → t < length p.threads
   few t lt = subst (λ n. t < n) (threads_count p 0 p.threads) lt
 
   all_first : AreFirst (launched p limits)
@@ -147,5 +147,5 @@ module _ (p : PartsRow) (limits : List ℕ) where
         ap (λ (z : Thread). (slice_index_or z.frames 0 (outermost 0 0 0)).top) here.1 ∙ sym here.2;
   }
 
-pub launched_first : (p : PartsRow) (limits : List ℕ) (e : Seen) → e ≡ launched p limits → AreFirst e
-launched_first p limits e is = subst (λ (z : Seen). AreFirst z) (sym is) (all_first p limits)
+pub launched_first : (p : PartsRow) (limits : List ℕ) (e : EngineRow) → e ≡ launched p limits → AreFirst e
+launched_first p limits e is = subst (λ (z : EngineRow). AreFirst z) (sym is) (all_first p limits)

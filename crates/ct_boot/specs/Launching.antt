@@ -1,6 +1,6 @@
 -- The engine that an image boots: its memory, its threads before their first step with their
 -- areas, and its empty heap.
-use Rattle.std.specs.Prelude.{ℕ, ◌+◌, ◌-◌, List, [], ◌∷◌, None, map}
+use Rattle.std.specs.Prelude.{ℕ, ◌+◌, ◌-◌, List, [], ◌∷◌, map}
 use Rattle.def_profile.specs.declared.layout.TheConstants.{TRUSTED_HEAD}
 use Rattle.def_image.specs.Parts.{ThreadRow, PartsRow}
 use Rattle.def_image.specs.Sizes.{sum_of}
@@ -10,7 +10,8 @@ use Rattle.ct_areas.specs.declared.thread.First.{First}
 use Rattle.ct_boot.specs.Starts.{start_of}
 use Rattle.ct_areas.specs.declared.thread.Area.{Area}
 use Rattle.ct_areas.specs.declared.thread.Fresh.{Fresh}
-use Rattle.ct_engine.specs.Seen.{Seen, region_of}
+use Rattle.def_machine.specs.State.{at_rest}
+use Rattle.ct_engine.specs.Seen.{EngineRow, region_of}
 use Rattle.def_chunks.specs.declared.rows.Range.{Range}
 use Rattle.ct_heap.specs.Effects.{range_of}
 
@@ -57,17 +58,11 @@ abbrev pub heap_range : PartsRow → Range
 heap_range p = range_of p.ram p.heap (p.ram + p.size - p.heap)
 
 -- booted memory, threads before their first step, and an empty heap that has these limits
-abbrev pub launched : PartsRow → List ℕ → Seen
+abbrev pub launched : PartsRow → List ℕ → EngineRow
 launched p limits = record {
-  granules = (boot_state p).granules;
-  threads = first_threads p 0 p.threads;
-  running = None;
+  state = at_rest (boot_state p).granules (first_threads p 0 p.threads) [] [];
   region = region_of (image_of p);
   areas = map (λ (f : Fresh). f.area) (fresh_of p);
-  objects = [];
-  tokens = [];
-  next = 1;
-  front = None;
   heap_base = p.heap;
   heap_end = p.ram + p.size;
   limits = limits;

@@ -6,7 +6,7 @@ use Rattle.def_machine.specs.State.{Frame, outermost}
 use Rattle.ct_areas.specs.declared.thread.Area.{Area}
 use Rattle.ct_areas.specs.Threads.{HasArea, frames_most}
 use Rattle.ct_engine.specs.Kept.{StackLies}
-use Rattle.ct_engine.specs.Seen.{Seen, region_of, no_area, thread, area_at}
+use Rattle.ct_engine.specs.Seen.{EngineRow, region_of, no_area, thread, area_at}
 
 -- the area and the stack of thread t, in RAM of so many bytes
 pub record IsPlaced (i : Image) (size t : ℕ) (a : Area) : Type 0 where
@@ -24,12 +24,12 @@ pub record ArePlaced (i : Image) (size : ℕ) (areas : List Area) : Type 0 where
   pub each : (t : ℕ) → t < length areas → IsPlaced i size t (slice_index_or areas t no_area)
 
 -- the innermost frame of a thread that has some
-abbrev pub innermost : Seen → ℕ → Frame
+abbrev pub innermost : EngineRow → ℕ → Frame
 innermost s t = slice_index_or (thread s t).frames 0 (outermost 0 0 0)
 
 -- Threads before their first step: each has its area and one frame, whose top is its stack's end.
-pub record AreFirst (e : Seen) : Type 0 where
-  pub count : length e.threads ≡ length e.areas
-  pub one : (t : ℕ) → t < length e.threads → length (thread e t).frames ≡ 1
-  pub top : (t : ℕ) → t < length e.threads
+pub record AreFirst (e : EngineRow) : Type 0 where
+  pub count : length e.state.threads ≡ length e.areas
+  pub one : (t : ℕ) → t < length e.state.threads → length (thread e t).frames ≡ 1
+  pub top : (t : ℕ) → t < length e.state.threads
       → (innermost e t).top ≡ (area_at e t).stack + (area_at e t).stack_length

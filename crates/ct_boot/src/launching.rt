@@ -67,7 +67,7 @@ pub fn launch<M: Memory + Drop>(
     ensures launched { IfOk result (λ e. e ≡ launched image.now limits.now) }
     ensures placed { IfOk result
         (λ e.
-        ArePlaced (image_of image.now) (8 * length e.granules) e.areas) }
+        ArePlaced (image_of image.now) (8 * length e.state.granules) e.areas) }
     ensures first { IfOk result (λ e. AreFirst e) }
 {
     let mut memory = mem;

@@ -15,7 +15,7 @@ use Rattle.std.proofs.lemmas.Bool.{or_cases, or_left, or_right}
 use Rattle.ct_engine.proofs.HeapStays.{HeapStays, heap_keeps, heap_holds}
 use Rattle.ct_areas.specs.declared.thread.Thread as row
 use Rattle.ct_engine.specs.declared.rows.Rows.{Rows}
-use Rattle.ct_engine.specs.Seen.{Seen, hides, threads_of, engine_view, thread, with_granules, region_hides, hidden}
+use Rattle.ct_engine.specs.Seen.{EngineRow, hides, threads_of, engine_view, thread, with_granules, region_hides, hidden}
 use Rattle.ct_engine.specs.Kept.{AreasFrom, StackLies, IsEngine}
 use Rattle.ct_engine.proofs.Lists.{rows_same, how_many}
 use Rattle.ct_engine.proofs.Whole.{hidden_is}
@@ -70,26 +70,26 @@ apart h k m open_ hidden e = let clash : true ≡ false = sym hidden ∙ ap (λ 
 
 -- ---- what is asked of a place
 
-pub size_is : (gs : List Granule) (rows : Rows) (v : Seen) → engine_view gs rows ≡ v → length v.granules ≡ length gs
-size_is gs rows v is = ap (λ (s : Seen). length s.granules) (sym is) ∙ with_hidden_length (hidden gs rows) gs
+pub size_is : (gs : List Granule) (rows : Rows) (v : EngineRow) → engine_view gs rows ≡ v → length v.state.granules ≡ length gs
+size_is gs rows v is = ap (λ (s : EngineRow). length s.state.granules) (sym is) ∙ with_hidden_length (hidden gs rows) gs
 
-pub access_by : (gs : List Granule) (rows : Rows) (v : Seen) (at width : ℕ) → engine_view gs rows ≡ v → IsAccess (8 * length v.granules) at width → IsAccess (8 * length gs) at width
+pub access_by : (gs : List Granule) (rows : Rows) (v : EngineRow) (at width : ℕ) → engine_view gs rows ≡ v → IsAccess (8 * length v.state.granules) at width → IsAccess (8 * length gs) at width
 access_by gs rows v at width is access = subst (λ n. IsAccess (8 * n) at width) (size_is gs rows v is) access
 
 -- ---- what is read
 
-pub load_is : (gs : List Granule) (rows : Rows) (v : Seen) (at width : ℕ) → engine_view gs rows ≡ v → hides v (at / 8) ≡ false → loaded gs at width ≡ loaded v.granules at width
+pub load_is : (gs : List Granule) (rows : Rows) (v : EngineRow) (at width : ℕ) → engine_view gs rows ≡ v → hides v (at / 8) ≡ false → loaded gs at width ≡ loaded v.state.granules at width
 load_is gs rows v at width is open_ =
     let here : hidden gs rows (at / 8) ≡ false = rw (← is) at open_ in
-    sym (load_seen (hidden gs rows) gs at width here) ∙ ap (λ (s : Seen). loaded s.granules at width) is
+    sym (load_seen (hidden gs rows) gs at width here) ∙ ap (λ (s : EngineRow). loaded s.state.granules at width) is
 
 -- ---- how many there are
 
-pub count_is : (gs : List Granule) (rows : Rows) (v : Seen) → engine_view gs rows ≡ v → length rows.list.items ≡ length v.threads
-count_is gs rows v is = sym (how_many gs rows.standing.items 0 rows.list.items) ∙ ap (λ (s : Seen). length s.threads) is
+pub count_is : (gs : List Granule) (rows : Rows) (v : EngineRow) → engine_view gs rows ≡ v → length rows.list.items ≡ length v.state.threads
+count_is gs rows v is = sym (how_many gs rows.standing.items 0 rows.list.items) ∙ ap (λ (s : EngineRow). length s.state.threads) is
 
-pub alive_there : (gs : List Granule) (rows : Rows) (v : Seen) (t : ℕ) → engine_view gs rows ≡ v → 0 < length (thread v t).frames → t < length rows.list.items
-alive_there gs rows v t is alive = elim (lt_tells t (length v.threads)) [
+pub alive_there : (gs : List Granule) (rows : Rows) (v : EngineRow) (t : ℕ) → engine_view gs rows ≡ v → 0 < length (thread v t).frames → t < length rows.list.items
+alive_there gs rows v t is alive = elim (lt_tells t (length v.state.threads)) [
   | inl a ↦ (let lt = a.1 in let size = count_is gs rows v is in omega (arith, lt, size))
-  | inr a ↦ absurd (let none : length (thread v t).frames ≡ 0 = ap (λ (u : Thread). length u.frames) (get_or_past v.threads t nobody a.1) in omega (arith, alive, none))
+  | inr a ↦ absurd (let none : length (thread v t).frames ≡ 0 = ap (λ (u : Thread). length u.frames) (get_or_past v.state.threads t nobody a.1) in omega (arith, alive, none))
 ]

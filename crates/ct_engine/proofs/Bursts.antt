@@ -15,7 +15,7 @@ use Rattle.ct_threads.specs.declared.window.Window.{Window}
 use Rattle.ct_threads.specs.Windows.{IsWindow}
 use Rattle.ct_burst.specs.Going as raw
 use Rattle.ct_engine.specs.declared.rows.Rows.{Rows}
-use Rattle.ct_engine.specs.Seen.{Seen, engine_view, seen_of, thread, with_granules, with_thread, hides, hidden}
+use Rattle.ct_engine.specs.Seen.{EngineRow, engine_view, seen_of, thread, with_granules, with_thread, hides, hidden}
 use Rattle.ct_engine.specs.Kept.{AreasFrom, IsEngine, StackLies}
 use Rattle.ct_engine.specs.Bursts.{GoesFor, GoesOnce, IsOpen, StaysOpen}
 use Rattle.ct_engine.specs.Steps.{HasWindow}
@@ -35,7 +35,7 @@ row_of r w = record r { pcc = w.pcc; regs = w.registers }
 abbrev pub put_row : Rows → ℕ → row.Thread → Rows
 put_row rows t q = record rows { list = with_item rows.list t q }
 
-opens_sees : (s : Seen) (t : ℕ) → IsOpen s t → Sees (hides s) s.region.ram (thread s t)
+opens_sees : (s : EngineRow) (t : ℕ) → IsOpen s t → Sees (hides s) s.region.ram (thread s t)
 opens_sees s t opens = record {
   accesses = λ n i y. register_seen s t n i (register (thread s t) n) y opens refl;
   fetches = fetch_seen s t opens;
@@ -79,10 +79,10 @@ module _ {gs : List Granule} {rows : Rows} {t : ℕ} {r : row.Thread} {w : Threa
   went_view : engine_view hs (put_row rows t (row_of r w)) ≡ with_granules (with_thread (engine_view gs rows) t w) (with_hidden (hidden gs rows) hs)
   went_view =
       let j = gone_here in
-      let s : Seen = engine_view gs rows in
+      let s : EngineRow = engine_view gs rows in
       let posture : r.posture ≡ (thread s t).posture = sym (ap (λ (u : Thread). u.posture) (running_is g.run)) in
       jump_sees moved_runner (row_of r w) j.pcc r.posture j.to j.value row_is
-      ∙ ap (λ (v : Seen). with_thread v t (jumped (thread v t) j.pcc r.posture j.to j.value)) (away_seen gs hs rows g.run.holds size_here stays_here)
+      ∙ ap (λ (v : EngineRow). with_thread v t (jumped (thread v t) j.pcc r.posture j.to j.value)) (away_seen gs hs rows g.run.holds size_here stays_here)
       ∙ ap (λ (u : Thread). with_granules (with_thread s t u) (with_hidden (hidden gs rows) hs))
       (ap (λ p. jumped (thread s t) j.pcc p j.to j.value) posture ∙ sym j.is)
 
@@ -98,19 +98,19 @@ module _ {gs : List Granule} {rows : Rows} {t : ℕ} {r : row.Thread} {w : Threa
   went_thread =
       let there = the_runner g.run.holds t g.run.runs in
       let many = how_many gs rows.standing.items 0 rows.list.items in
-      let lt : t < length (engine_view gs rows).threads = omega (arith, there, many) in
-      ap (λ (s : Seen). thread s t) went_view ∙ get_or-set_same (engine_view gs rows).threads t w nobody lt
+      let lt : t < length (engine_view gs rows).state.threads = omega (arith, there, many) in
+      ap (λ (s : EngineRow). thread s t) went_view ∙ get_or-set_same (engine_view gs rows).state.threads t w nobody lt
 
 -- ---- one after another
 
 -- after so many thread t is w, in these rows over these granules
-pub record Stands (s : Seen) (t n : ℕ) (w : Thread) (hs : List Granule) (rows : Rows) : Type 0 where
+pub record Stands (s : EngineRow) (t n : ℕ) (w : Thread) (hs : List Granule) (rows : Rows) : Type 0 where
   pub holds : IsEngine hs rows
   pub goes : GoesFor t n s (engine_view hs rows)
   pub is : thread (engine_view hs rows) t ≡ w
 
 -- rows count by their items
-stands_by : (s : Seen) (t n : ℕ) (w : Thread) (hs : List Granule) (rows a b : Rows) → a.list.items ≡ b.list.items
+stands_by : (s : EngineRow) (t n : ℕ) (w : Thread) (hs : List Granule) (rows a b : Rows) → a.list.items ≡ b.list.items
     → Stands s t n w hs (record rows { list = a.list }) → Stands s t n w hs (record rows { list = b.list })
 stands_by s t n w hs rows a b same h =
     let view : engine_view hs (record rows { list = a.list }) ≡ engine_view hs (record rows { list = b.list }) =
@@ -125,8 +125,8 @@ stands_by s t n w hs rows a b same h =
         heap = h.holds.heap;
         room = h.holds.room;
       };
-      goes = subst (λ (v : Seen). GoesFor t n s v) view h.goes;
-      is = subst (λ (v : Seen). thread v t ≡ w) view h.is;
+      goes = subst (λ (v : EngineRow). GoesFor t n s v) view h.goes;
+      is = subst (λ (v : EngineRow). thread v t ≡ w) view h.is;
     }
 
 module _ {gs : List Granule} {rows : Rows} {t : ℕ} {r : row.Thread} (h : Runner gs rows t r) (most : ℕ)
@@ -161,7 +161,7 @@ module _ {gs : List Granule} {rows : Rows} {t : ℕ} {r : row.Thread} (h : Runne
       (record { holds = went_holds step; goes = (engine_view between there, before.goes, went_once step); is = went_thread step })
 
 -- after a burst that took row r to q, with the frames that the thread has all the time
-pub record Burst (gs : List Granule) (rows : Rows) (v : Seen) (t most n : ℕ) (r q : row.Thread) (hs : List Granule) : Type 0 where
+pub record Burst (gs : List Granule) (rows : Rows) (v : EngineRow) (t most n : ℕ) (r q : row.Thread) (hs : List Granule) : Type 0 where
   pub run : Runner gs rows t r
   pub view : engine_view gs rows ≡ v
   pub opened : StaysOpen t most v
@@ -169,19 +169,19 @@ pub record Burst (gs : List Granule) (rows : Rows) (v : Seen) (t most n : ℕ) (
   pub goes : (fs : List Frame) → raw.GoesFor rows.region.ram n (raw.running_thread r fs) gs (raw.running_thread q fs) hs
   pub beside : q ≡ row_of r (raw.running_thread q [])
 
-module _ {gs : List Granule} {rows : Rows} {v : Seen} {t most n : ℕ} {r q : row.Thread} {hs : List Granule} (b : Burst gs rows v t most n r q hs) where
+module _ {gs : List Granule} {rows : Rows} {v : EngineRow} {t most n : ℕ} {r q : row.Thread} {hs : List Granule} (b : Burst gs rows v t most n r q hs) where
   stands : Stands (engine_view gs rows) t n (raw.running_thread q (living gs true r).frames) hs (put_row rows t q)
   stands =
       let w : Thread = raw.running_thread q (living gs true r).frames in
       subst (λ (p : row.Thread). Stands (engine_view gs rows) t n w hs (put_row rows t p)) (sym b.beside)
-      (burst_stands b.run most (subst (λ (s : Seen). StaysOpen t most s) (sym b.view) b.opened) n w hs b.few
+      (burst_stands b.run most (subst (λ (s : EngineRow). StaysOpen t most s) (sym b.view) b.opened) n w hs b.few
       (subst (λ (u : Thread). raw.GoesFor rows.region.ram n u gs w hs) (sym (running_is b.run)) (b.goes (living gs true r).frames)))
 
   pub burst_holds : IsEngine hs (put_row rows t q)
   burst_holds = stands.holds
 
   pub burst_goes : GoesFor t n v (engine_view hs (put_row rows t q))
-  burst_goes = subst (λ (s : Seen). GoesFor t n s (engine_view hs (put_row rows t q))) b.view stands.goes
+  burst_goes = subst (λ (s : EngineRow). GoesFor t n s (engine_view hs (put_row rows t q))) b.view stands.goes
 
   pub burst_window : (window : Window) → IsWindow window q.pcc rows.region.ram (8 * length hs) → HasWindow (engine_view hs (put_row rows t q)) t window
   burst_window window is =

@@ -23,7 +23,7 @@ use Rattle.ct_threads.specs.Kept.{IsKept}
 use Rattle.ct_threads.specs.Rows.{cleared}
 use Rattle.ct_threads.proofs.Entering.{enters_by, top_under}
 use Rattle.ct_engine.specs.declared.rows.Rows.{Rows}
-use Rattle.ct_engine.specs.Seen.{Seen, hidden, engine_view, thread, area_at}
+use Rattle.ct_engine.specs.Seen.{EngineRow, hidden, engine_view, thread, area_at}
 use Rattle.ct_engine.specs.Calls.{HeadStands, IsEnterable, MayCall, head_at, switch_at, given_at, switched, after_call}
 use Rattle.ct_engine.proofs.Whole.{Turn, turned, turn_stays}
 use Rattle.ct_engine.proofs.Goes.{Runner, running_lies, running_thread, running_top, running_turn, register_is}
@@ -34,12 +34,12 @@ use Rattle.ct_engine.proofs.Turning.{zeroed_runner, switched_seen}
 
 pub head_seen : {gs : List Granule} {rows : Rows} {t : ℕ} {r : row.Thread} → Runner gs rows t r → (e : Listed) (export : ℕ)
     → IsEnterable (engine_view gs rows) e export
-    → (cap_in gs ((table_of e (callee_of e export) - r.area.ram) / 8) ≡ cap_in (engine_view gs rows).granules (head_at (engine_view gs rows) e export))
-    × (cap_in gs ((table_of e (callee_of e export) - r.area.ram) / 8 + 1) ≡ cap_in (engine_view gs rows).granules (head_at (engine_view gs rows) e export + 1))
+    → (cap_in gs ((table_of e (callee_of e export) - r.area.ram) / 8) ≡ cap_in (engine_view gs rows).state.granules (head_at (engine_view gs rows) e export))
+    × (cap_in gs ((table_of e (callee_of e export) - r.area.ram) / 8 + 1) ≡ cap_in (engine_view gs rows).state.granules (head_at (engine_view gs rows) e export + 1))
 head_seen {gs} {rows} h e export open_ =
     let head : ℕ = head_at (engine_view gs rows) e export in
     let place = ap (λ n. (table_of e (callee_of e export) - n) / 8) (running_lies h).base in
-    let seen : (k : ℕ) → hidden gs rows k ≡ false → cap_in gs k ≡ cap_in (engine_view gs rows).granules k =
+    let seen : (k : ℕ) → hidden gs rows k ≡ false → cap_in gs k ≡ cap_in (engine_view gs rows).state.granules k =
     λ k shown. sym (ap (λ (g : Granule). g.cap) (seen_at (hidden gs rows) gs k shown)) in
     (ap (λ n. cap_in gs n) place ∙ seen head open_.code, ap (λ n. cap_in gs (n + 1)) place ∙ seen (head + 1) open_.globals)
 
@@ -59,16 +59,16 @@ module _ {gs : List Granule} {rows : Rows} {t : ℕ} {r : row.Thread} (h : Runne
     -- what is asked of the row
     pub may_is : ready.MayCall gs r e
     may_is =
-        let v : Seen = engine_view gs rows in
+        let v : EngineRow = engine_view gs rows in
         let root : Cap → ℕ = λ c. (root_of e c.shadow.root).of in
-        let size : length v.granules ≡ length gs = with_hidden_length (hidden gs rows) gs in
+        let size : length v.state.granules ≡ length gs = with_hidden_length (hidden gs rows) gs in
         record {
           ready = ready_is h may.top;
           sorted = may.sorted;
           import = λ tagged sealed.
               subst (λ n. IsCallable e n (8 * length gs) (root (register_in r 6))) (sym (running_lies h).base)
               (subst (λ n. IsCallable e rows.region.ram (8 * n) (root (register_in r 6))) size
-              (subst (λ (c : Cap). IsCallable e rows.region.ram (8 * length v.granules) (root c)) (register_is h 6)
+              (subst (λ (c : Cap). IsCallable e rows.region.ram (8 * length v.state.granules) (root c)) (register_is h 6)
               (may.import (ap (λ (c : Cap). c.tag) (register_is h 6) ∙ tagged) (ap cap_seal (register_is h 6) ∙ sealed)).callable));
         }
 
@@ -108,7 +108,7 @@ module _ {gs : List Granule} {rows : Rows} {t : ℕ} {r : row.Thread} (h : Runne
     call_sees TooDeep is turn same = turn_stays turn same
     call_sees NoStack is turn same = turn_stays turn same
     call_sees (Enters export high) is turn same =
-        let s : Seen = engine_view gs rows in
+        let s : EngineRow = engine_view gs rows in
         let callee : ℕ = callee_of e export in
         switched_seen h high (high_fits export high is) turn (thread_after gs e r (Enters export high)) same
         ∙ ap (λ u. switched s t high (entered_by e u callee export high (given_in gs e r export high)) rows.running) (sym (running_thread h))
@@ -117,6 +117,6 @@ module _ {gs : List Granule} {rows : Rows} {t : ℕ} {r : row.Thread} (h : Runne
 
 -- ---- as boot made it
 
-pub given_made : (i : Image) (s : Seen) (t export high : ℕ) → HeadStands i s t export
+pub given_made : (i : Image) (s : EngineRow) (t export high : ℕ) → HeadStands i s t export
     → given_at s i.entries t export high ≡ callee_start i (thread s t) t (callee_of i.entries export) export high
 given_made i s t export high h = rw (h.code, h.globals, h.back, h.stack) refl

@@ -17,7 +17,7 @@ use Rattle.ct_areas.specs.Threads.{HasArea, area_begin, area_end, frames_most, l
 use Rattle.ct_areas.proofs.Places.{alive_is, frames_of}
 use Rattle.ct_threads.specs.Kept.{IsPlain, IsSaved, IsKept}
 use Rattle.ct_engine.specs.declared.rows.Rows.{Rows}
-use Rattle.ct_engine.specs.Seen.{Seen, threads_of, engine_view, hidden, stands}
+use Rattle.ct_engine.specs.Seen.{EngineRow, threads_of, engine_view, hidden, stands}
 use Rattle.ct_engine.specs.Kept.{AreasFrom, IsEngine}
 use Rattle.def_confined.specs.Stale.{NotStale, SavedClean, StoppedClean}
 use Rattle.ct_engine.specs.Sweeps.{NoneLeft}
@@ -131,10 +131,10 @@ areas_clean objects ram gs standing n from to (t ∷ ts) areas frames stopped k 
   ]
 ]
 
-pub none_stale : (objects : List Object) (gs : List Granule) (rows : Rows) (v : Seen) → engine_view gs rows ≡ v → IsEngine gs rows → NoneLeft objects v
+pub none_stale : (objects : List Object) (gs : List Granule) (rows : Rows) (v : EngineRow) → engine_view gs rows ≡ v → IsEngine gs rows → NoneLeft objects v
     → (k : ℕ) → NotStale objects (cap_in gs k)
 none_stale objects gs rows v is holds left k =
-    let mine : NoneLeft objects (engine_view gs rows) = subst (λ (s : Seen). NoneLeft objects s) (sym is) left in
+    let mine : NoneLeft objects (engine_view gs rows) = subst (λ (s : EngineRow). NoneLeft objects s) (sym is) left in
     elim (bool_tells (hidden gs rows k)) [
       | inl e ↦ elim (hidden_cases gs rows k holds e) [
         | inl region ↦ (let place = hidden_place rows.region k region in
@@ -142,5 +142,5 @@ none_stale objects gs rows v is holds left k =
             (λ t off. mine.stopped t (λ runs. let same : 0 + t ≡ t = omega arith in let clash : true ≡ false = sym (holds.runs t runs) ∙ ap (λ n. stands rows.standing.items n) (sym same) ∙ off in cc)) k place.0 place.1)
         | inr heap ↦ (λ tagged some. absurd (let clash : true ≡ false = sym tagged ∙ holds.heap.clear k heap in cc))
       ]
-      | inr e ↦ same_clean objects (cap_in gs k) (cap_in (engine_view gs rows).granules k) (ap (λ (g : Granule). g.cap) (sym (seen_at (hidden gs rows) gs k e))) (mine.granules k)
+      | inr e ↦ same_clean objects (cap_in gs k) (cap_in (engine_view gs rows).state.granules k) (ap (λ (g : Granule). g.cap) (sym (seen_at (hidden gs rows) gs k e))) (mine.granules k)
     ]

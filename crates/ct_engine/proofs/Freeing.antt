@@ -31,7 +31,7 @@ use Rattle.ct_heap.specs.Lookups.{spans_of, whole_of}
 use Rattle.ct_heap.specs.Effects.{Frees}
 use Rattle.ct_token.specs.Table.{Table}
 use Rattle.ct_engine.specs.declared.rows.Rows.{Rows}
-use Rattle.ct_engine.specs.Seen.{Seen, region_hides, engine_view, after_filter}
+use Rattle.ct_engine.specs.Seen.{EngineRow, region_hides, engine_view, after_filter}
 use Rattle.ct_engine.specs.Kept.{IsClear, IsEngine}
 use Rattle.ct_engine.specs.Grants.{WasWhole, quarantined, let_go, freed, freed_by}
 use Rattle.ct_engine.specs.Written.{state_with}
@@ -186,7 +186,7 @@ module _ {gs hs : List Granule} {rows : Rows} {n : HeapRow} {quota base top numb
       let new : List Object = quarantine f.object.number (objects_of h gs) in
       let region : ℕ → Bool = region_hides rows.region in
       let was : List Granule = with_hidden (heap_hides h gs) gs in
-      let memory : with_hidden region (with_hidden (heap_hides n hs) hs) ≡ marked_from (base - 8) top true ram (zeroed_from base top ram (engine_view gs rows).granules) =
+      let memory : with_hidden region (with_hidden (heap_hides n hs) hs) ≡ marked_from (base - 8) top true ram (zeroed_from base top ram (engine_view gs rows).state.granules) =
       ap (λ xs. with_hidden region xs) (hide_by h n hs new f.same f.objects
       ∙ object_vanishes ram h.range.base (h.range.base + h.range.length) (objects_of h gs) new gs hs base top (freed_vanishes holds.heap.laid f))
       ∙ sym (marked_seen region (zeroed_from base top ram was) (base - 8) top true ram)
@@ -203,16 +203,16 @@ module _ {gs hs : List Granule} {rows : Rows} {n : HeapRow} {quota base top numb
         table_holds hs (with_heap rows n rows.front) k
         (turned_holds gs hs rows n rows.front holds freed_turns laid (freed_clear holds.heap.laid f holds.heap.clear) holds.heap.within) same
 
-    pub free_is : {v z : Seen} (t : ℕ) → engine_view gs rows ≡ v → k.rows ≡ without_row number rows.tokens.rows
-        → z ≡ after_filter (engine_view hs (with_table (with_heap rows n rows.front) k)) t → z ≡ freed_by v t (whole_of quota base top v.objects)
+    pub free_is : {v z : EngineRow} (t : ℕ) → engine_view gs rows ≡ v → k.rows ≡ without_row number rows.tokens.rows
+        → z ≡ after_filter (engine_view hs (with_table (with_heap rows n rows.front) k)) t → z ≡ freed_by v t (whole_of quota base top v.state.objects)
     free_is {v} {z} t is gone filtered =
-        let with_rows : Seen → List Token → Seen = λ x ks. record x { tokens = ks } in
+        let with_rows : EngineRow → List Token → EngineRow = λ x ks. record x { state = record x.state { tokens = ks } } in
         let without : engine_view hs (with_table (with_heap rows n rows.front) k) ≡ let_go (engine_view gs rows) f.object =
         ap (λ x. with_rows x k.rows) freed_seen ∙ rw (gone, f.number_is) refl in
         filtered ∙ ap (λ x. after_filter x t) without ∙ ap (freed_by (engine_view gs rows) t) (sym f.is)
-        ∙ ap (λ x. freed_by x t (whole_of quota base top x.objects)) is
+        ∙ ap (λ x. freed_by x t (whole_of quota base top x.state.objects)) is
 
-    pub free_told : {v z : Seen} (t : ℕ) (o : told.Object) → o ≡ record { number = number; base = place; length = long; live = live }
+    pub free_told : {v z : EngineRow} (t : ℕ) (o : told.Object) → o ≡ record { number = number; base = place; length = long; live = live }
         → engine_view gs rows ≡ v → z ≡ after_filter (engine_view hs (with_table (with_heap rows n rows.front) k)) t
         → WasWhole v z quota base top o
     free_told t o told_is is filtered = rw (told_is, filtered, ← is) (record {
@@ -240,13 +240,13 @@ changed_with f same (x ∷ ts) (s ∷ ss) zero = ap (λ (y : Thread). y ∷ with
 changed_with f same (x ∷ ts) (s ∷ ss) (suc t) =
     ap (λ (us : List Thread). with_status x s ∷ us) (changed_with f same ts ss t)
 
-pub freed_shown : (i : Image) (m : State) (s : Seen) (statuses : List Status) (t : ℕ) (r : Object) → s.region.ram ≡ i.ram
+pub freed_shown : (i : Image) (m : State) (s : EngineRow) (statuses : List Status) (t : ℕ) (r : Object) → s.region.ram ≡ i.ram
     → quotas.let_go i (state_with m s statuses) t r ≡ state_with m (freed s t r) statuses
 freed_shown i m s statuses t r ram =
     let here : State = state_with m s statuses in
-    let wiped : ℕ → List Granule = λ n. marked_from (r.base - 8) (r.base + r.length) true n (zeroed_from r.base (r.base + r.length) n s.granules) in
+    let wiped : ℕ → List Granule = λ n. marked_from (r.base - 8) (r.base + r.length) true n (zeroed_from r.base (r.base + r.length) n s.state.granules) in
     let filters : ℕ → List Cap → List Cap = λ n cs. map (filtered_in n (wiped n)) cs in
-    let put : List Granule → List Thread → State = λ gs ts. record here { granules = gs; objects = quarantine r.number s.objects; tokens = without_row r.number s.tokens; threads = ts } in
-    let old : Thread = get_or (with_statuses s.threads statuses) t nobody in
-    ap (λ n. put (wiped n) (set (with_statuses s.threads statuses) t (record old { registers = filters n old.registers }))) (sym ram)
-    ∙ ap (put (wiped s.region.ram)) (changed_with (λ (x : Thread). record x { registers = filters s.region.ram x.registers }) (λ x q. refl) s.threads statuses t)
+    let put : List Granule → List Thread → State = λ gs ts. record here { granules = gs; objects = quarantine r.number s.state.objects; tokens = without_row r.number s.state.tokens; threads = ts } in
+    let old : Thread = get_or (with_statuses s.state.threads statuses) t nobody in
+    ap (λ n. put (wiped n) (set (with_statuses s.state.threads statuses) t (record old { registers = filters n old.registers }))) (sym ram)
+    ∙ ap (put (wiped s.region.ram)) (changed_with (λ (x : Thread). record x { registers = filters s.region.ram x.registers }) (λ x q. refl) s.state.threads statuses t)

@@ -23,7 +23,7 @@ use Rattle.ct_threads.specs.Rows.{row_gone}
 use Rattle.ct_threads.proofs.Filtering.{row_sifted, sifted_kept}
 use Rattle.ct_threads.proofs.Going.{gone_kept}
 use Rattle.ct_engine.specs.declared.rows.Rows.{Rows}
-use Rattle.ct_engine.specs.Seen.{Seen, engine_view, thread, after_jump, after_filter}
+use Rattle.ct_engine.specs.Seen.{EngineRow, engine_view, thread, after_jump, after_filter}
 use Rattle.ct_engine.specs.Kept.{IsEngine}
 use Rattle.ct_engine.proofs.Lists.{Lies}
 use Rattle.ct_engine.proofs.Whole.{RowAt, Turn, turned, turn_sees, row_lies, row_thread, the_runner, map_same, filter_seen}
@@ -34,9 +34,9 @@ pub record Runner (gs : List Granule) (rows : Rows) (t : ℕ) (r : row.Thread) :
   pub runs : rows.running ≡ Some t
   pub is : r ≡ get_or rows.list.items t r
 
-pub runner : {gs : List Granule} {rows : Rows} {v : Seen} {t : ℕ} {r : row.Thread} → IsEngine gs rows → engine_view gs rows ≡ v
-    → v.running ≡ Some t → r ≡ get_or rows.list.items t r → Runner gs rows t r
-runner holds view runs is = record { holds = holds; runs = ap (λ (s : Seen). s.running) view ∙ runs; is = is }
+pub runner : {gs : List Granule} {rows : Rows} {v : EngineRow} {t : ℕ} {r : row.Thread} → IsEngine gs rows → engine_view gs rows ≡ v
+    → v.state.running ≡ Some t → r ≡ get_or rows.list.items t r → Runner gs rows t r
+runner holds view runs is = record { holds = holds; runs = ap (λ (s : EngineRow). s.state.running) view ∙ runs; is = is }
 
 -- ---- what is seen of it
 
@@ -114,7 +114,7 @@ module _ {gs : List Granule} {rows : Rows} {t : ℕ} {r : row.Thread} (h : Runne
 
     pub filter_sees : engine_view gs (turned rows rows t q) ≡ after_filter (engine_view gs rows) t
     filter_sees =
-        let keep : Cap → Cap = filtered_in rows.region.ram (engine_view gs rows).granules in
+        let keep : Cap → Cap = filtered_in rows.region.ram (engine_view gs rows).state.granules in
         let with_all : Thread → List Cap → Thread = λ u cs. record u { registers = cs } in
         turn_sees filter_turn _
         (ap (λ (x : row.Thread). thread_of gs true x) passed

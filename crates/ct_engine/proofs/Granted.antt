@@ -24,7 +24,7 @@ use Rattle.ct_heap.specs.declared.rows.HeapRefusal.{HeapRefusal}
 use Rattle.ct_heap.specs.declared.rows.HeapRefusal.TheVariants.{Size, Quota, NoGap}
 use Rattle.ct_heap.specs.Effects.{Same, Allocates, RefusesSize, made}
 use Rattle.ct_engine.specs.declared.rows.Rows.{Rows}
-use Rattle.ct_engine.specs.Seen.{Seen, region_hides, engine_view, limit_at}
+use Rattle.ct_engine.specs.Seen.{EngineRow, region_hides, engine_view, limit_at}
 use Rattle.ct_engine.specs.Kept.{IsClear, IsEngine}
 use Rattle.ct_engine.specs.Grants.{new_object, with_object, after_allocation, refusal_code, allocation_told}
 use Rattle.ct_engine.specs.Written.{HasHeap, HasQuota, SharesObjects}
@@ -88,7 +88,7 @@ module _ {gs hs : List Granule} {rows : Rows} {n : HeapRow} {quota size number b
       let h : HeapRow = rows.heap in
       let region : ℕ → Bool = region_hides rows.region in
       let new : List state.Object = placed_among (made h quota size base) (objects_of h gs) in
-      let memory : with_hidden region (with_hidden (heap_hides n hs) hs) ≡ (engine_view gs rows).granules =
+      let memory : with_hidden region (with_hidden (heap_hides n hs) hs) ≡ (engine_view gs rows).state.granules =
       ap (λ xs. with_hidden region xs) (hide_by h n hs new a.same a.objects
       ∙ object_appears h.range.ram h.range.base (h.range.base + h.range.length) (objects_of h gs) new gs hs base (base + length_for size)
       (allocated_appears a)) ∙ sym (seen_both gs rows holds) in
@@ -208,13 +208,13 @@ holds_after gs hs rows n quota size (Ok o) holds laid a same =
 holds_after gs hs rows n quota size (Err why) holds laid a same =
     subst (λ x. IsEngine hs (with_heap rows x rows.front)) (sym same.0) (subst (λ x. IsEngine x rows) (sym same.1) holds)
 
-pub seen_after : (gs hs : List Granule) (rows : Rows) (n : HeapRow) (s : Seen) (quota size : ℕ) (result : Result told.Object HeapRefusal) → engine_view gs rows ≡ s → IsEngine gs rows
+pub seen_after : (gs hs : List Granule) (rows : Rows) (n : HeapRow) (s : EngineRow) (quota size : ℕ) (result : Result told.Object HeapRefusal) → engine_view gs rows ≡ s → IsEngine gs rows
     → Answers rows.heap n gs hs quota size result → NothingNew rows.heap n gs hs result → engine_view hs (with_heap rows n rows.front) ≡ after_allocation s quota size result
 seen_after gs hs rows n s quota size (Ok o) is holds a same =
     allocated_seen holds a ∙ ap (λ x. with_object x (new_object x quota size o.base)) is
 seen_after gs hs rows n s quota size (Err why) is holds a same = ap (λ x. engine_view hs (with_heap rows x rows.front)) same.0 ∙ ap (λ x. engine_view x rows) same.1 ∙ is
 
-pub answer_after : (gs hs : List Granule) (rows : Rows) (n : HeapRow) (s : Seen) (quota size : ℕ) (result : Result told.Object HeapRefusal) → engine_view gs rows ≡ s → Answers rows.heap n gs hs quota size result
+pub answer_after : (gs hs : List Granule) (rows : Rows) (n : HeapRow) (s : EngineRow) (quota size : ℕ) (result : Result told.Object HeapRefusal) → engine_view gs rows ≡ s → Answers rows.heap n gs hs quota size result
     → (i : Image) (m : State) → HasQuota i s quota → SharesObjects m s → allocation i m quota size ≡ allocation_told s quota size result
 answer_after gs hs rows n s quota size result is a i m = subst (λ x. HasQuota i x quota → SharesObjects m x → allocation i m quota size ≡ allocation_told x quota size result) is (told_so result a)
   where
@@ -226,5 +226,5 @@ answer_after gs hs rows n s quota size result is a i m = subst (λ x. HasQuota i
 -- ---- what is left of a quota
 
 -- of a state that holds what is seen
-pub remains_shown : (i : Image) (m : State) (s : Seen) (quota : ℕ) → HasHeap i s → SharesObjects m s → (root i quota).limit - charges quota m.objects ≡ limit_at s quota - charges quota s.objects
+pub remains_shown : (i : Image) (m : State) (s : EngineRow) (quota : ℕ) → HasHeap i s → SharesObjects m s → (root i quota).limit - charges quota m.objects ≡ limit_at s quota - charges quota s.state.objects
 remains_shown i m s quota has shares = rw (has.limits quota, shares.objects) refl

@@ -21,7 +21,7 @@ use Rattle.ct_threads.specs.Handling.{RowMayHandle, is_handled_in, handed_in, re
 use Rattle.ct_threads.proofs.Beside.{kept_as}
 use Rattle.ct_threads.proofs.Handlers.{Says, says, handled_over, handled_thread}
 use Rattle.ct_engine.specs.declared.rows.Rows.{Rows}
-use Rattle.ct_engine.specs.Seen.{Seen, engine_view, thread, area_at, hidden, with_granules, with_running, with_thread}
+use Rattle.ct_engine.specs.Seen.{EngineRow, engine_view, thread, area_at, hidden, with_granules, with_running, with_thread}
 use Rattle.ct_engine.specs.Calls.{IsEnterable}
 use Rattle.ct_engine.specs.Handling.{MayHandle, is_handled_of, is_handled_at, handed_at, handler_begun, after_trap}
 use Rattle.ct_engine.proofs.Whole.{Turn, turned, turn_sees, turn_stays}
@@ -37,7 +37,7 @@ module _ {gs : List Granule} {rows : Rows} {t : ℕ} {r : row.Thread} (h : Runne
   -- whether it is entered
   pub handled_is : is_handled_in r handler ≡ is_handled_at (engine_view gs rows) t handler
   handled_is =
-      let s : Seen = engine_view gs rows in
+      let s : EngineRow = engine_view gs rows in
       sym (ap (λ (fs : List Frame). is_handled_of s t handler fs) (running_frames h)
       ∙ ap (λ (u : Thread). is_handled_by handler (area_at s t).stack u (inner_frame gs r)) (running_is h)
       ∙ ap (λ (a : Area). is_handled_by handler a.stack (living gs true r) (inner_frame gs r)) (running_area h))
@@ -88,12 +88,12 @@ module _ {gs : List Granule} {rows : Rows} {t : ℕ} {r : row.Thread} (h : Runne
         is = h.is;
       }
 
-      record_seen : engine_view (recorded gs r why) rows ≡ with_granules (engine_view gs rows) (words_written (engine_view gs rows).granules place words)
+      record_seen : engine_view (recorded gs r why) rows ≡ with_granules (engine_view gs rows) (words_written (engine_view gs rows).state.granules place words)
       record_seen = words_are_seen gs rows r.area place (map plain words) h.holds (running_stack h) record_in_stack
 
       -- the handler's entry, where there is a frame
-      begun_by : (s : Seen) (k : Handed) (fs : List Frame) → k ≡ handed_at s e handler → 0 < length fs
-          → record s { granules = words_written s.granules (record_place s.region.ram (register (thread s t) 2)) (record_words (thread s t) why); threads = set s.threads t (handled_over k (thread s t) why fs) }
+      begun_by : (s : EngineRow) (k : Handed) (fs : List Frame) → k ≡ handed_at s e handler → 0 < length fs
+          → record s { state = record s.state { granules = words_written s.state.granules (record_place s.region.ram (register (thread s t) 2)) (record_words (thread s t) why); threads = set s.state.threads t (handled_over k (thread s t) why fs) } }
           ≡ handler_begun s e t handler why fs
       begun_by s k [] same some = absurd (omega (arith, some))
       begun_by s k (f ∷ fs) same some = rw same refl
@@ -103,17 +103,19 @@ module _ {gs : List Granule} {rows : Rows} {t : ℕ} {r : row.Thread} (h : Runne
           → engine_view (recorded gs r why) (turned rows rows t (handling_row (handed_in gs e r handler) r why))
           ≡ handler_begun (engine_view gs rows) e t handler why (thread (engine_view gs rows) t).frames
       entered_seen turn =
-          let s : Seen = engine_view gs rows in
+          let s : EngineRow = engine_view gs rows in
           let k : Handed = handed_in gs e r handler in
-          let new : Seen → Thread = λ x. handled_over k (thread x t) why (thread x t).frames in
-          let put : ℕ → Cap → Thread → Seen = λ ram c u. record s {
-            granules = words_written s.granules (record_place ram c) (record_by u.registers (cap_address u.pcc) why);
-            threads = set s.threads t (new s);
+          let new : EngineRow → Thread = λ x. handled_over k (thread x t) why (thread x t).frames in
+          let put : ℕ → Cap → Thread → EngineRow = λ ram c u. record s {
+            state = record s.state {
+              granules = words_written s.state.granules (record_place ram c) (record_by u.registers (cap_address u.pcc) why);
+              threads = set s.state.threads t (new s);
+            };
           } in
           turn_sees turn (new s)
           (handled_thread (recorded gs r why) r k why ready.alive
           ∙ ap (λ (u : Thread). handled_over k u why u.frames) (sym (running_thread with_record)) ∙ ap new record_seen)
-          ∙ ap (λ (x : Seen). with_running (with_thread x t (new s)) rows.running) record_seen
+          ∙ ap (λ (x : EngineRow). with_running (with_thread x t (new s)) rows.running) record_seen
           ∙ ap (λ (u : Thread). put r.area.ram (register u 2) u) (sym (running_is h))
           ∙ ap (λ n. put n (register (thread s t) 2) (thread s t)) (running_lies h).base
           ∙ begun_by s k (thread s t).frames (handed_is (may.enterable say.some)) (running_some h)
@@ -132,7 +134,7 @@ module _ {gs : List Granule} {rows : Rows} {t : ℕ} {r : row.Thread} (h : Runne
     pub trap_sees : (why : Trap) (b : Bool) (hs : List Granule) (q : row.Thread) → b ≡ is_handled_in r handler → hs ≡ memory_by b gs r why
         → q ≡ row_by b gs e r handler why → engine_view hs (turned rows rows t q) ≡ after_trap (engine_view gs rows) e t handler why
     trap_sees why b hs q which memory row_is =
-        let s : Seen = engine_view gs rows in
+        let s : EngineRow = engine_view gs rows in
         by_case b hs q which memory row_is (trap_turn why b hs q which memory row_is)
         ∙ ap (λ x. cond x (handler_begun s e t handler why (thread s t).frames) s) (which ∙ handled_is)
       where

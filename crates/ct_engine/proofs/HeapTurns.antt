@@ -13,7 +13,7 @@ use Rattle.def_chunks.specs.Hides.{hides_heap, heap_hides}
 use Rattle.ct_heap.specs.Effects.{Same}
 use Rattle.ct_areas.specs.declared.thread.Thread as row
 use Rattle.ct_engine.specs.declared.rows.Rows.{Rows}
-use Rattle.ct_engine.specs.Seen.{Seen, region_hides, hides_over, limits_in, threads_of, engine_view}
+use Rattle.ct_engine.specs.Seen.{EngineRow, region_hides, hides_over, limits_in, threads_of, engine_view}
 use Rattle.ct_engine.specs.Kept.{AreasFrom, IsClear, StackLies, IsEngine}
 use Rattle.ct_engine.proofs.Lists.{rows_same}
 use Rattle.ct_engine.proofs.HiddenTwice.{with_hidden_both}
@@ -37,9 +37,9 @@ limits_stay h n same =
     (λ q lt. limit_of n.accounts q ∙ same.limits q ∙ sym (limit_of h.accounts q))
 
 -- a quota is one of the accounts
-pub quota_there : (gs : List Granule) (rows : Rows) (s : Seen) (quota : ℕ) → engine_view gs rows ≡ s → quota < length s.limits → quota < length rows.heap.accounts
+pub quota_there : (gs : List Granule) (rows : Rows) (s : EngineRow) (quota : ℕ) → engine_view gs rows ≡ s → quota < length s.limits → quota < length rows.heap.accounts
 quota_there gs rows s quota is lt =
-    let count : length s.limits ≡ length rows.heap.accounts = ap (λ (x : Seen). length x.limits) (sym is) ∙ limits_length rows.heap.accounts in
+    let count : length s.limits ≡ length rows.heap.accounts = ap (λ (x : EngineRow). length x.limits) (sym is) ∙ limits_length rows.heap.accounts in
     omega (arith, count, lt)
 
 -- ---- a change
@@ -90,7 +90,7 @@ hide_over rows n hs ram =
 
 pub turned_seen : (gs hs : List Granule) (rows : Rows) (n : HeapRow) (front : Option ℕ) → IsEngine gs rows → HeapTurns gs hs rows n
     → engine_view hs (with_heap rows n front)
-    ≡ record (engine_view gs rows) { granules = with_hidden (region_hides rows.region) (with_hidden (heap_hides n hs) hs); objects = objects_of n hs; next = n.next; front = front }
+    ≡ record (engine_view gs rows) { state = record (engine_view gs rows).state { granules = with_hidden (region_hides rows.region) (with_hidden (heap_hides n hs) hs); objects = objects_of n hs; next = n.next; front = front } }
 turned_seen gs hs rows n front holds t =
     let threads = (rows_stay gs hs rows n holds t).1 in
     rw (

@@ -22,7 +22,7 @@ with_hidden_both a b gs =
     (λ k lt. with_hidden_at a (with_hidden b gs) k ∙ ap (λ g. hide (a k) g) (with_hidden_at b gs k) ∙ twice (a k) (b k) (granule_at gs k)))
 
 -- what is seen of memory: what the region hides of it, and of what the heap hides
-pub seen_both : (gs : List Granule) (rows : Rows) → IsEngine gs rows → (engine_view gs rows).granules ≡ with_hidden (region_hides rows.region) (with_hidden (heap_hides rows.heap gs) gs)
+pub seen_both : (gs : List Granule) (rows : Rows) → IsEngine gs rows → (engine_view gs rows).state.granules ≡ with_hidden (region_hides rows.region) (with_hidden (heap_hides rows.heap gs) gs)
 seen_both gs rows holds =
     with_hidden_both (region_hides rows.region) (λ k. hides_heap rows.region.ram rows.heap.range.base (rows.heap.range.base + rows.heap.range.length) (objects_of rows.heap gs) k) gs
     ∙ ap (λ ram. with_hidden (region_hides rows.region) (with_hidden (λ k. hides_heap ram rows.heap.range.base (rows.heap.range.base + rows.heap.range.length) (objects_of rows.heap gs) k) gs)) (sym holds.heap.ram)

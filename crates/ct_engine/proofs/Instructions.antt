@@ -23,21 +23,21 @@ use Rattle.law_hidden.proofs.Steps.{access_same, next_same}
 use Rattle.ct_loadstore.specs.Shapes.{MovedRow, space_of}
 use Rattle.ct_threads.specs.Steps.{no_bank, IsHeapPlaced, IsMoved}
 use Rattle.ct_engine.specs.declared.rows.Rows.{Rows}
-use Rattle.ct_engine.specs.Seen.{Seen, hides, engine_view, with_granules, hidden}
+use Rattle.ct_engine.specs.Seen.{EngineRow, hides, engine_view, with_granules, hidden}
 use Rattle.ct_engine.specs.Kept.{IsEngine}
 use Rattle.ct_engine.specs.Steps.{space_in, next_in}
 use Rattle.ct_engine.proofs.Away.{HiddenStays, away_holds, away_seen, apart, size_is}
 
 -- ---- a fetch
 
-pub even_by : (gs : List Granule) (rows : Rows) (v : Seen) → engine_view gs rows ≡ v → v.region.ram % 16 ≡ 0 → rows.region.ram % 16 ≡ 0
+pub even_by : (gs : List Granule) (rows : Rows) (v : EngineRow) → engine_view gs rows ≡ v → v.region.ram % 16 ≡ 0 → rows.region.ram % 16 ≡ 0
 even_by gs rows v is even = rw (← is) at even
 
-pub next_is : (gs : List Granule) (rows : Rows) (v : Seen) (at : ℕ) → engine_view gs rows ≡ v → IsSeen (hides v) v.region.ram at
+pub next_is : (gs : List Granule) (rows : Rows) (v : EngineRow) (at : ℕ) → engine_view gs rows ≡ v → IsSeen (hides v) v.region.ram at
     → next_at (space_of rows.region.ram gs no_bank 0) at ≡ next_in v at
 next_is gs rows v at is open_ =
     let here : IsSeen (hidden gs rows) rows.region.ram at = rw (← is) at open_ in
-    sym (next_same (hidden gs rows) (space_of rows.region.ram gs no_bank 0) at here) ∙ ap (λ (s : Seen). next_in s at) is
+    sym (next_same (hidden gs rows) (space_of rows.region.ram gs no_bank 0) at here) ∙ ap (λ (s : EngineRow). next_in s at) is
 
 -- ---- what a load or a store leaves of what is hidden
 
@@ -104,23 +104,23 @@ pub moved_seen : (h : ℕ → Bool) (i : Instr) (x y : Cap) (p : MemoryAndDevice
 moved_seen h i x y p hs k (Ok m) open_ c = access_same h i x y p open_ ∙ ap (λ r. hide_result h r) c
 moved_seen h i x y p hs k (Err w) open_ c = (access_same h i x y p open_ ∙ ap (λ r. hide_result h r) c.0, ap (λ gs. with_hidden h gs) c.1, c.2)
 
-pub heap_by : (gs : List Granule) (rows : Rows) (v : Seen) (heap : ℕ) → engine_view gs rows ≡ v → IsHeapPlaced v.region.ram heap (length v.granules) → IsHeapPlaced rows.region.ram heap (length gs)
+pub heap_by : (gs : List Granule) (rows : Rows) (v : EngineRow) (heap : ℕ) → engine_view gs rows ≡ v → IsHeapPlaced v.region.ram heap (length v.state.granules) → IsHeapPlaced rows.region.ram heap (length gs)
 heap_by gs rows v heap is placed =
-    let here : IsHeapPlaced rows.region.ram heap (length (engine_view gs rows).granules) = subst (λ (s : Seen). IsHeapPlaced s.region.ram heap (length s.granules)) (sym is) placed in
+    let here : IsHeapPlaced rows.region.ram heap (length (engine_view gs rows).state.granules) = subst (λ (s : EngineRow). IsHeapPlaced s.region.ram heap (length s.state.granules)) (sym is) placed in
     subst (λ n. IsHeapPlaced rows.region.ram heap n) (with_hidden_length (hidden gs rows) gs) here
 
 -- what is known of an access of seen granules, of which the real ones are gs before it and hs after it
-pub record Moving (gs hs : List Granule) (rows : Rows) (v : Seen) (i : Instr) (x y : Cap) (k after : DeviceStates) (time : ℕ) (r : Result MovedRow Trap) : Type 0 where
+pub record Moving (gs hs : List Granule) (rows : Rows) (v : EngineRow) (i : Instr) (x y : Cap) (k after : DeviceStates) (time : ℕ) (r : Result MovedRow Trap) : Type 0 where
   pub is : engine_view gs rows ≡ v
   pub holds : IsEngine gs rows
   pub meets : SeesAccess (hides v) v.region.ram i x y
   pub moved : IsMoved i x y (space_of rows.region.ram gs k time) hs after r
   pub size : length hs ≡ length gs
 
-module _ {gs hs : List Granule} {rows : Rows} {v : Seen} {i : Instr} {x y : Cap} {k after : DeviceStates} {time : ℕ} {r : Result MovedRow Trap}
+module _ {gs hs : List Granule} {rows : Rows} {v : EngineRow} {i : Instr} {x y : Cap} {k after : DeviceStates} {time : ℕ} {r : Result MovedRow Trap}
     (m : Moving gs hs rows v i x y k after time r) where
   meets_here : SeesAccess (hidden gs rows) rows.region.ram i x y
-  meets_here = subst (λ (s : Seen). SeesAccess (hides s) s.region.ram i x y) (sym m.is) m.meets
+  meets_here = subst (λ (s : EngineRow). SeesAccess (hides s) s.region.ram i x y) (sym m.is) m.meets
 
   move_stays : HiddenStays gs hs rows
   move_stays = moved_stays (hidden gs rows) i x y (space_of rows.region.ram gs k time) hs after r meets_here m.moved
@@ -132,17 +132,17 @@ module _ {gs hs : List Granule} {rows : Rows} {v : Seen} {i : Instr} {x y : Cap}
   move_holds = away_holds gs hs rows m.holds m.size move_stays
 
   -- nothing but granules changes
-  pub move_kept : engine_view hs rows ≡ with_granules v (engine_view hs rows).granules
+  pub move_kept : engine_view hs rows ≡ with_granules v (engine_view hs rows).state.granules
   move_kept =
-      whole_is ∙ ap (λ (xs : List Granule). with_granules (engine_view gs rows) xs) (sym (ap (λ (s : Seen). s.granules) whole_is))
-      ∙ ap (λ (s : Seen). with_granules s (engine_view hs rows).granules) m.is
+      whole_is ∙ ap (λ (xs : List Granule). with_granules (engine_view gs rows) xs) (sym (ap (λ (s : EngineRow). s.state.granules) whole_is))
+      ∙ ap (λ (s : EngineRow). with_granules s (engine_view hs rows).state.granules) m.is
 
-  pub move_size : length (engine_view hs rows).granules ≡ length v.granules
+  pub move_size : length (engine_view hs rows).state.granules ≡ length v.state.granules
   move_size = with_hidden_length (hidden hs rows) hs ∙ m.size ∙ sym (size_is gs rows v m.is)
 
   -- it comes to what the written access comes to over the seen granules
-  pub move_is : IsMoved i x y (space_in v k time) (engine_view hs rows).granules after r
+  pub move_is : IsMoved i x y (space_in v k time) (engine_view hs rows).state.granules after r
   move_is =
-      subst (λ (s : Seen). IsMoved i x y (space_in s k time) (engine_view hs rows).granules after r) m.is
-      (subst (λ (xs : List Granule). IsMoved i x y (space_in (engine_view gs rows) k time) xs after r) (sym (ap (λ (s : Seen). s.granules) whole_is))
+      subst (λ (s : EngineRow). IsMoved i x y (space_in s k time) (engine_view hs rows).state.granules after r) m.is
+      (subst (λ (xs : List Granule). IsMoved i x y (space_in (engine_view gs rows) k time) xs after r) (sym (ap (λ (s : EngineRow). s.state.granules) whole_is))
       (moved_seen (hidden gs rows) i x y (space_of rows.region.ram gs k time) hs after r meets_here m.moved))

@@ -14,7 +14,7 @@ use Rattle.def_step.specs.Accesses.{access_of, access_address, load_checks, stor
 use Rattle.def_step.specs.Instructions.{fetch_checks}
 use Rattle.def_safety.specs.HiddenSteps.{IsSeen, SeesAccess}
 use Rattle.law_moves.proofs.Checks.{all_pass}
-use Rattle.ct_engine.specs.Seen.{thread, Seen, hides}
+use Rattle.ct_engine.specs.Seen.{thread, EngineRow, hides}
 use Rattle.ct_engine.specs.Bursts.{IsOpen}
 
 range_says : (x : Cap) (from to : ℕ) → is_range_inside x from to ≡ true → (cap_base x ≤ from) × (to ≤ cap_top x)
@@ -52,14 +52,14 @@ access_seen h ram i x y opens passes inside =
     access_reaches (access_of i).loads (access_of i) x (access_address (access_of i) x) ((access_of i).whole && y.tag) passes in
     opens (access_address (access_of i) x) inside r.tagged r.may r.range.0 (let some = width_some i in let high = r.range.1 in omega (arith, some, high))
 
-pub register_seen : (s : Seen) (t n : ℕ) (i : Instr) (x y : Cap) → IsOpen s t → x ≡ register (thread s t) n → SeesAccess (hides s) s.region.ram i x y
+pub register_seen : (s : EngineRow) (t n : ℕ) (i : Instr) (x y : Cap) → IsOpen s t → x ≡ register (thread s t) n → SeesAccess (hides s) s.region.ram i x y
 register_seen s t n i x y opens is =
     access_seen (hides s) s.region.ram i x y
     (subst (λ (c : Cap). OpenTo (hides s) s.region.ram c) (sym is) (λ a inside tagged may low high. opens.registers n a inside tagged may low high))
 
 -- ---- a fetch
 
-pub fetch_seen : (s : Seen) (t : ℕ) → IsOpen s t → first_failed (fetch_checks (thread s t).pcc) ≡ None → IsSeen (hides s) s.region.ram (cap_address (thread s t).pcc)
+pub fetch_seen : (s : EngineRow) (t : ℕ) → IsOpen s t → first_failed (fetch_checks (thread s t).pcc) ≡ None → IsSeen (hides s) s.region.ram (cap_address (thread s t).pcc)
 fetch_seen s t opens passes inside =
     let c : Cap = (thread s t).pcc in
     let h = all_pass (fetch_checks c) passes in

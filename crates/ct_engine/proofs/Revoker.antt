@@ -21,7 +21,7 @@ use Rattle.def_chunks.specs.Hides.{hides_heap, heap_hides}
 use Rattle.law_hidden.proofs.Slices.{kept_length}
 use Rattle.law_hidden.proofs.Objects.{seen_place}
 use Rattle.ct_engine.specs.declared.rows.Rows.{Rows}
-use Rattle.ct_engine.specs.Seen.{Seen, region_hides, hidden, engine_view}
+use Rattle.ct_engine.specs.Seen.{EngineRow, region_hides, hidden, engine_view}
 use Rattle.ct_engine.specs.Kept.{IsClear, IsEngine, OnlyRunnerStands}
 use Rattle.ct_engine.specs.Sweeps.{NoneLeft, size_of, passes, began, over, with_slice, slice_end, passed_on}
 use Rattle.ct_engine.proofs.Clear.{clear_tags}
@@ -106,24 +106,27 @@ begun_holds gs hs rows n front holds p within =
     (paint_clear gs hs rows.heap holds.heap.clear p.paints) within)
 
 begun_seen : (gs hs : List Granule) (rows : Rows) (n : HeapRow) (front : Option ℕ) → IsEngine gs rows → Painted gs hs rows n
-    → engine_view hs (with_heap rows n front) ≡ record (engine_view gs rows) { objects = painted (objects_of rows.heap gs); front = front }
+    → engine_view hs (with_heap rows n front) ≡ record (engine_view gs rows) { state = record (engine_view gs rows).state { objects = painted (objects_of rows.heap gs); front = front } }
 begun_seen gs hs rows n front holds p =
-    let memory : with_hidden (region_hides rows.region) (with_hidden (heap_hides rows.heap hs) hs) ≡ (engine_view gs rows).granules =
+    let memory : with_hidden (region_hides rows.region) (with_hidden (heap_hides rows.heap hs) hs) ≡ (engine_view gs rows).state.granules =
     ap (λ xs. with_hidden (region_hides rows.region) xs) (paint_with_hidden rows.heap gs hs p.paints) ∙ sym (seen_both gs rows holds) in
     ap (λ h. engine_view hs (with_heap rows h front)) p.heap
     ∙ turned_seen gs hs rows rows.heap front holds (paint_turns gs hs rows p.paints) ∙ rw (memory, p.paints.objects) refl
 
 -- a sweep began, or nothing is quarantined
-pub begun_then : (gs hs : List Granule) (rows : Rows) (v : Seen) (n : HeapRow) (front : Option ℕ) → engine_view gs rows ≡ v → IsEngine gs rows → rows.front ≡ None → Painted gs hs rows n
-    → front ≡ Some 0 → has_quarantined (objects_of rows.heap gs) ≡ true → engine_view hs (with_heap rows n front) ≡ began v v.front
+pub begun_then : (gs hs : List Granule) (rows : Rows) (v : EngineRow) (n : HeapRow) (front : Option ℕ) → engine_view gs rows ≡ v → IsEngine gs rows → rows.front ≡ None → Painted gs hs rows n
+    → front ≡ Some 0 → has_quarantined (objects_of rows.heap gs) ≡ true → engine_view hs (with_heap rows n front) ≡ began v v.state.front
 begun_then gs hs rows v n front is holds none p first some =
     begun_seen gs hs rows n front holds p ∙ rw (← is, none, some, first) refl
 
-pub begun_else : (gs hs : List Granule) (rows : Rows) (v : Seen) (n : HeapRow) → engine_view gs rows ≡ v → IsEngine gs rows → rows.front ≡ None → Painted gs hs rows n
-    → has_quarantined (objects_of rows.heap gs) ≡ false → engine_view hs (with_heap rows n rows.front) ≡ began v v.front
+pub begun_else : (gs hs : List Granule) (rows : Rows) (v : EngineRow) (n : HeapRow) → engine_view gs rows ≡ v → IsEngine gs rows → rows.front ≡ None → Painted gs hs rows n
+    → has_quarantined (objects_of rows.heap gs) ≡ false → engine_view hs (with_heap rows n rows.front) ≡ began v v.state.front
 begun_else gs hs rows v n is holds none p nothing_ =
+    let nothing : has_quarantined v.state.objects ≡ false = ap (λ (s : EngineRow). has_quarantined s.state.objects) (sym is) ∙ nothing_ in
+    let still : (o : Option ℕ) → o ≡ None → v ≡ began v o = λ o e. rw (e, nothing) refl in
     begun_seen gs hs rows n rows.front holds p
-    ∙ rw (← is, none, nothing_, none_painted (objects_of rows.heap gs) nothing_ (live_plain rows.heap gs)) refl
+    ∙ rw (none_painted (objects_of rows.heap gs) nothing_ (live_plain rows.heap gs)) refl
+    ∙ is ∙ still v.state.front (ap (λ (s : EngineRow). s.state.front) (sym is) ∙ none)
 
 -- ---- a sweep ends
 
@@ -198,7 +201,7 @@ flush_turns : (gs hs : List Granule) (rows : Rows) (n : HeapRow) → Flushes row
 flush_turns gs hs rows n f = record { size = f.size; below = λ k low. f.rest k (inl low); same = f.same }
 
 flush_memory : (gs hs : List Granule) (rows : Rows) (n : HeapRow) → IsEngine gs rows → Flushes rows.heap n gs hs
-    → with_hidden (region_hides rows.region) (with_hidden (heap_hides n hs) hs) ≡ marks_cleared (objects_of rows.heap gs) rows.region.ram (engine_view gs rows).granules
+    → with_hidden (region_hides rows.region) (with_hidden (heap_hides n hs) hs) ≡ marks_cleared (objects_of rows.heap gs) rows.region.ram (engine_view gs rows).state.granules
 flush_memory gs hs rows n holds f =
     let h : HeapRow = rows.heap in
     let os : List Object = objects_of h gs in
@@ -209,9 +212,9 @@ flush_memory gs hs rows n holds f =
     ∙ ap (λ ram. marks_cleared os ram (with_hidden (λ k. region_hides rows.region k || hides_heap ram h.range.base (h.range.base + h.range.length) os k) gs)) holds.heap.ram
 
 -- no capability of a painted object is left in memory
-pub finish_none : (gs : List Granule) (rows : Rows) (v : Seen) → engine_view gs rows ≡ v → IsEngine gs rows → NoneLeft v.objects v → NoneStale (objects_of rows.heap gs) gs
+pub finish_none : (gs : List Granule) (rows : Rows) (v : EngineRow) → engine_view gs rows ≡ v → IsEngine gs rows → NoneLeft v.state.objects v → NoneStale (objects_of rows.heap gs) gs
 finish_none gs rows v is holds none =
-    subst (λ (s : Seen). NoneStale s.objects gs) (sym is) (λ k. none_stale v.objects gs rows v is holds none k)
+    subst (λ (s : EngineRow). NoneStale s.state.objects gs) (sym is) (λ k. none_stale v.state.objects gs rows v is holds none k)
 
 pub finish_holds : (gs hs : List Granule) (rows : Rows) (n : HeapRow) (front : Option ℕ) → IsEngine gs rows → Flushed gs hs rows n → front ≡ None → IsEngine hs (with_heap rows n front)
 finish_holds gs hs rows n front holds w none =
@@ -219,7 +222,7 @@ finish_holds gs hs rows n front holds w none =
     (clear_tags rows.heap n gs hs holds.heap.clear w.flushes.tags (λ k hid. sym (flush_hides rows.heap n gs hs w.flushes k) ∙ hid))
     (subst (λ f. unwrap_or f 0 ≤ 8 * length gs) (sym none) (omega arith))
 
-pub finish_seen : (gs hs : List Granule) (rows : Rows) (v : Seen) (n : HeapRow) (front : Option ℕ) → engine_view gs rows ≡ v → IsEngine gs rows → Flushed gs hs rows n → front ≡ None
+pub finish_seen : (gs hs : List Granule) (rows : Rows) (v : EngineRow) (n : HeapRow) (front : Option ℕ) → engine_view gs rows ≡ v → IsEngine gs rows → Flushed gs hs rows n → front ≡ None
     → engine_view hs (with_heap rows n front) ≡ over v
 finish_seen gs hs rows v n front is holds w none =
     turned_seen gs hs rows n front holds (flush_turns gs hs rows n w.flushes)
@@ -236,11 +239,11 @@ high_is : (gs : List Granule) (rows : Rows) (rate low : ℕ) → min (low + 8 * 
 high_is gs rows rate low = ap (λ n. min (low + 8 * rate) (8 * n)) (sym (with_hidden_length (hidden gs rows) gs))
 
 -- memory and rows after the slice
-pub record Mid (hs : List Granule) (rows : Rows) (v : Seen) (low high : ℕ) : Type 0 where
+pub record Mid (hs : List Granule) (rows : Rows) (v : EngineRow) (low high : ℕ) : Type 0 where
   pub holds : IsEngine hs rows
   pub is : engine_view hs rows ≡ with_slice v low high
 
-pub slice_mid : (gs hs : List Granule) (rows : Rows) (v : Seen) (rate : ℕ) (front : Option ℕ) → engine_view gs rows ≡ v → IsEngine gs rows → OnlyRunnerStands rows.standing.items rows.running
+pub slice_mid : (gs hs : List Granule) (rows : Rows) (v : EngineRow) (rate : ℕ) (front : Option ℕ) → engine_view gs rows ≡ v → IsEngine gs rows → OnlyRunnerStands rows.standing.items rows.running
     → front ≡ Some (min (unwrap_or rows.front 0 + 8 * rate) (8 * length gs)) → IsSliced rows.region.ram (unwrap_or rows.front 0) (unwrap_or front 0) gs hs
     → Mid hs (with_front rows front) v (unwrap_or rows.front 0) (slice_end v rate (unwrap_or rows.front 0))
 slice_mid gs hs rows v rate front is holds settled ends passed =
@@ -256,31 +259,31 @@ slice_mid gs hs rows v rate front is holds settled ends passed =
 
 -- ---- what a slice comes to
 
-pub front_is : (gs : List Granule) (rows : Rows) (v : Seen) → engine_view gs rows ≡ v → v.front ≡ rows.front
-front_is gs rows v is = ap (λ (s : Seen). s.front) (sym is)
+pub front_is : (gs : List Granule) (rows : Rows) (v : EngineRow) → engine_view gs rows ≡ v → v.state.front ≡ rows.front
+front_is gs rows v is = ap (λ (s : EngineRow). s.state.front) (sym is)
 
-size_slice : (v : Seen) (low high : ℕ) → size_of (with_slice v low high) ≡ size_of v
-size_slice v low high = ap (λ n. 8 * n) (kept_length (passes v low high) 0 v.granules)
+size_slice : (v : EngineRow) (low high : ℕ) → size_of (with_slice v low high) ≡ size_of v
+size_slice v low high = ap (λ n. 8 * n) (kept_length (passes v low high) 0 v.state.granules)
 
 -- by whether it came to RAM's end
-pub passed_is : (v : Seen) (rate low : ℕ) (b : Bool) → v.front ≡ Some low → nat_le (size_of (with_slice v low (slice_end v rate low))) (slice_end v rate low) ≡ b
-    → (let w : Seen = with_slice v low (slice_end v rate low) in cond b (over w) w ≡ passed_on v rate v.front)
+pub passed_is : (v : EngineRow) (rate low : ℕ) (b : Bool) → v.state.front ≡ Some low → nat_le (size_of (with_slice v low (slice_end v rate low))) (slice_end v rate low) ≡ b
+    → (let w : EngineRow = with_slice v low (slice_end v rate low) in cond b (over w) w ≡ passed_on v rate v.state.front)
 passed_is v rate low b front test = rw (front, test) refl
 
-mid_size : (hs : List Granule) (rows : Rows) (v : Seen) (low high : ℕ) → Mid hs rows v low high → 8 * length hs ≡ size_of (with_slice v low high)
-mid_size hs rows v low high m = ap (λ n. 8 * n) (sym (with_hidden_length (hidden hs rows) hs)) ∙ ap (λ (s : Seen). size_of s) m.is
+mid_size : (hs : List Granule) (rows : Rows) (v : EngineRow) (low high : ℕ) → Mid hs rows v low high → 8 * length hs ≡ size_of (with_slice v low high)
+mid_size hs rows v low high m = ap (λ n. 8 * n) (sym (with_hidden_length (hidden hs rows) hs)) ∙ ap (λ (s : EngineRow). size_of s) m.is
 
-pub mid_over : (hs : List Granule) (rows : Rows) (v : Seen) (low rate size : ℕ) (b : Bool) → Mid hs rows v low (slice_end v rate low) → size ≡ 8 * length hs
+pub mid_over : (hs : List Granule) (rows : Rows) (v : EngineRow) (low rate size : ℕ) (b : Bool) → Mid hs rows v low (slice_end v rate low) → size ≡ 8 * length hs
     → (b ≡ true → rows.front ≡ Some size) → (rows.front ≡ Some size → b ≡ true) → nat_le (size_of (with_slice v low (slice_end v rate low))) (slice_end v rate low) ≡ b
 mid_over hs rows v low rate size true m is ends_ goes =
-    let same = some_is (slice_end v rate low) size (sym (ap (λ (s : Seen). s.front) m.is) ∙ ends_ refl) in
+    let same = some_is (slice_end v rate low) size (sym (ap (λ (s : EngineRow). s.state.front) m.is) ∙ ends_ refl) in
     let all = mid_size hs rows v low (slice_end v rate low) m in
     le-leb _ _ (omega (arith, same, all, is))
 mid_over hs rows v low rate size false m is ends_ goes =
     let all = mid_size hs rows v low (slice_end v rate low) m in
     let long = size_slice v low (slice_end v rate low) in
     elim (bool_tells (nat_le (size_of (with_slice v low (slice_end v rate low))) (slice_end v rate low))) [
-      | inl le ↦ absurd (let clash : false ≡ true = goes (ap (λ (s : Seen). s.front) m.is ∙ ap (λ n. let x : Option ℕ = Some n in x)
+      | inl le ↦ absurd (let clash : false ≡ true = goes (ap (λ (s : EngineRow). s.state.front) m.is ∙ ap (λ n. let x : Option ℕ = Some n in x)
           (at_end (slice_end v rate low) (low + 8 * rate) (size_of v) size refl (leb-true _ _ le) (omega (arith, all, is)) long)) in cc)
       | inr more ↦ more
     ]
@@ -288,5 +291,5 @@ mid_over hs rows v low rate size false m is ends_ goes =
     at_end : (high sum most size : ℕ) → {long : ℕ} → high ≡ min sum most → long ≤ high → size ≡ long → long ≡ most → high ≡ size
     at_end high sum most size a b c d = omega (arith, a, b, c, d)
 
-pub passed_all : (v : Seen) (low high : ℕ) → nat_le (size_of (with_slice v low high)) high ≡ true → size_of v ≤ high
+pub passed_all : (v : EngineRow) (low high : ℕ) → nat_le (size_of (with_slice v low high)) high ≡ true → size_of v ≤ high
 passed_all v low high test = let le = leb-true _ _ test in let long = size_slice v low high in omega (arith, le, long)

@@ -12,7 +12,7 @@ use Rattle.def_chunks.specs.Heaps.{objects_of, Distinct}
 use Rattle.law_chunks.proofs.Standing.{objects_few}
 use Rattle.ct_token.specs.Table.{has_row, row_for}
 use Rattle.ct_engine.specs.declared.rows.Rows.{Rows}
-use Rattle.ct_engine.specs.Seen.{Seen, engine_view}
+use Rattle.ct_engine.specs.Seen.{EngineRow, engine_view}
 use Rattle.ct_engine.specs.Kept.{IsEngine}
 use Rattle.ct_engine.specs.Grants.{with_object}
 
@@ -37,31 +37,31 @@ no_row : (n : ℕ) (ks : List Token) → Each (IsApart n) ks → has_row n ks �
 no_row n [] apart = refl
 no_row n (k ∷ ks) apart = rw (ne_eqb k.number n apart.0) (no_row n ks apart.1)
 
-module _ {gs : List Granule} {rows : Rows} (s : Seen) (r : Object) (holds : IsEngine gs rows) (is : engine_view gs rows ≡ with_object s r)
-    (fit : RowsFit s.objects s.tokens) where
-  objects : objects_of rows.heap gs ≡ placed_among r s.objects
-  objects = ap (λ (x : Seen). x.objects) is
+module _ {gs : List Granule} {rows : Rows} (s : EngineRow) (r : Object) (holds : IsEngine gs rows) (is : engine_view gs rows ≡ with_object s r)
+    (fit : RowsFit s.state.objects s.state.tokens) where
+  objects : objects_of rows.heap gs ≡ placed_among r s.state.objects
+  objects = ap (λ (x : EngineRow). x.state.objects) is
 
-  tokens : rows.tokens.rows ≡ s.tokens
-  tokens = ap (λ (x : Seen). x.tokens) is
+  tokens : rows.tokens.rows ≡ s.state.tokens
+  tokens = ap (λ (x : EngineRow). x.state.tokens) is
 
-  apart : Each (IsApart r.number) s.tokens
+  apart : Each (IsApart r.number) s.state.tokens
   apart =
-      each_map (λ (k : Token). Any (IsLiveOf k.number) s.objects) (IsApart r.number) s.tokens
-      (λ k any same. others r k.number s.objects (subst Distinct objects holds.heap.laid.distinct) any same) fit.live
+      each_map (λ (k : Token). Any (IsLiveOf k.number) s.state.objects) (IsApart r.number) s.state.tokens
+      (λ k any same. others r k.number s.state.objects (subst Distinct objects holds.heap.laid.distinct) any same) fit.live
 
   pub row_absent : (number : ℕ) → number ≡ r.number → has_row number rows.tokens.rows ≡ false
-  row_absent number same = rw (same, tokens) (no_row r.number s.tokens apart)
+  row_absent number same = rw (same, tokens) (no_row r.number s.state.tokens apart)
 
   pub row_fits : r.live ≡ true → length rows.tokens.rows < rows.tokens.room
   row_fits live =
       let most = objects_few rows.heap gs holds.heap.laid in
-      let more = few (placed_among r s.objects) (row_for r.number None ∷ s.tokens) (record {
+      let more = few (placed_among r s.state.objects) (row_for r.number None ∷ s.state.tokens) (record {
         differ = (apart, fit.differ);
         live = (
-          among_any (IsLiveOf r.number) r s.objects (inl (live, refl)),
-          each_map (λ (k : Token). Any (IsLiveOf k.number) s.objects) (λ (k : Token). Any (IsLiveOf k.number) (placed_among r s.objects)) s.tokens
-              (λ k any. among_any (IsLiveOf k.number) r s.objects (inr any)) fit.live,
+          among_any (IsLiveOf r.number) r s.state.objects (inl (live, refl)),
+          each_map (λ (k : Token). Any (IsLiveOf k.number) s.state.objects) (λ (k : Token). Any (IsLiveOf k.number) (placed_among r s.state.objects)) s.state.tokens
+              (λ k any. among_any (IsLiveOf k.number) r s.state.objects (inr any)) fit.live,
         );
       }) in
       let room = holds.room in

@@ -7,7 +7,7 @@ use Rattle.def_machine.specs.State.{State, Thread, Status}
 use Rattle.def_machine.specs.Threads.{with_status, with_statuses}
 use Rattle.def_machine.specs.Slices.{is_number, filtered_between, kept_granules, kept_thread, kept_threads}
 use Rattle.def_machine.specs.Heap as machine
-use Rattle.ct_engine.specs.Seen.{Seen, area_at}
+use Rattle.ct_engine.specs.Seen.{EngineRow, area_at}
 use Rattle.ct_engine.specs.Sweeps.{area_offset, with_slice}
 use Rattle.ct_engine.specs.Written.{HasAreas, state_with}
 
@@ -46,19 +46,19 @@ threads_alike f a b run n (t ∷ ts) (s ∷ ss) same =
 -- ---- the whole state
 
 -- areas begin at the offsets at which the image has them
-area_there : (i : Image) (s : Seen) (k : ℕ) → HasAreas i s → k < length s.threads → machine.area_offset i k ≡ area_offset s k
+area_there : (i : Image) (s : EngineRow) (k : ℕ) → HasAreas i s → k < length s.state.threads → machine.area_offset i k ≡ area_offset s k
 area_there i s k h lt =
     let count = h.count in
     ap (λ x. x - i.ram) (sym (h.begins k (omega (arith, lt, count)))) ∙ ap (λ x. (area_at s k).trusted - x) (sym h.ram)
 
-pub slice_written : (i : Image) (m : State) (s : Seen) (statuses : List Status) (low high : ℕ) → HasAreas i s
+pub slice_written : (i : Image) (m : State) (s : EngineRow) (statuses : List Status) (low high : ℕ) → HasAreas i s
     → machine.with_slice i (state_with m s statuses) low high ≡ state_with m (with_slice s low high) statuses
 slice_written i m s statuses low high h =
-    let f : ℕ → Cap → Cap = λ n c. filtered_between s.region.ram s.granules low high n c in
+    let f : ℕ → Cap → Cap = λ n c. filtered_between s.region.ram s.state.granules low high n c in
     let put : List Granule → List Thread → State = λ gs ts. record (state_with m (with_slice s low high) statuses) { granules = gs; threads = ts } in
     let none : (k : ℕ) → 0 + k ≡ k = λ k. omega arith in
-    ap (λ ram. put (kept_granules (λ n c. filtered_between ram s.granules low high n c) 0 s.granules)
-    (kept_threads (λ n c. filtered_between ram s.granules low high n c) (machine.area_offset i) s.running 0 (with_statuses s.threads statuses))) (sym h.ram)
-    ∙ ap (λ ts. put (kept_granules f 0 s.granules) ts)
-    (threads_alike f (machine.area_offset i) (area_offset s) s.running 0 s.threads statuses
+    ap (λ ram. put (kept_granules (λ n c. filtered_between ram s.state.granules low high n c) 0 s.state.granules)
+    (kept_threads (λ n c. filtered_between ram s.state.granules low high n c) (machine.area_offset i) s.state.running 0 (with_statuses s.state.threads statuses))) (sym h.ram)
+    ∙ ap (λ ts. put (kept_granules f 0 s.state.granules) ts)
+    (threads_alike f (machine.area_offset i) (area_offset s) s.state.running 0 s.state.threads statuses
     (λ k lt. ap (machine.area_offset i) (none k) ∙ area_there i s k h lt ∙ ap (area_offset s) (sym (none k))))

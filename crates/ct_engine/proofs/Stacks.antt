@@ -19,7 +19,7 @@ use Rattle.ct_areas.specs.declared.thread.Thread as row
 use Rattle.ct_switch.specs.Ready.{HasStack, IsReady}
 use Rattle.ct_engine.specs.declared.rows.Region.{Region}
 use Rattle.ct_engine.specs.declared.rows.Rows.{Rows}
-use Rattle.ct_engine.specs.Seen.{Seen, engine_view, with_granules, no_area, area_at, region_hides, hidden}
+use Rattle.ct_engine.specs.Seen.{EngineRow, engine_view, with_granules, no_area, area_at, region_hides, hidden}
 use Rattle.ct_engine.specs.Kept.{StackLies, IsEngine}
 use Rattle.ct_engine.specs.Calls.{TopLies}
 use Rattle.ct_engine.proofs.Lists.{Lies}
@@ -69,7 +69,7 @@ module _ {gs : List Granule} {rows : Rows} {t : ℕ} {r : row.Thread} (h : Runne
   pub ready_is : TopLies (engine_view gs rows) t → IsReady gs r
   ready_is top =
       let k = (running_lies h).kept in
-      let s : Seen = engine_view gs rows in
+      let s : EngineRow = engine_view gs rows in
       let low : (area_at s t).stack ≤ r.top = subst (λ n. (area_at s t).stack ≤ n) (running_top h) top.low in
       let high : r.top ≤ (area_at s t).stack + (area_at s t).stack_length =
       subst (λ n. n ≤ (area_at s t).stack + (area_at s t).stack_length) (running_top h) top.high in
@@ -124,7 +124,7 @@ zeroed_holds gs rows a high holds s le =
 
 pub zeroed_is_seen : (gs : List Granule) (rows : Rows) (a : Area) (high : ℕ) → IsEngine gs rows → StackLies rows.region rows.heap.range.base (8 * length gs) a
     → high ≤ a.stack + a.stack_length
-    → engine_view (zeroed_from a.stack high rows.region.ram gs) rows ≡ with_granules (engine_view gs rows) (zeroed_from a.stack high rows.region.ram (engine_view gs rows).granules)
+    → engine_view (zeroed_from a.stack high rows.region.ram gs) rows ≡ with_granules (engine_view gs rows) (zeroed_from a.stack high rows.region.ram (engine_view gs rows).state.granules)
 zeroed_is_seen gs rows a high holds s le =
     away_seen gs (zeroed_from a.stack high rows.region.ram gs) rows holds (zeroed_length a.stack high rows.region.ram gs) (stack_stays gs rows a high holds s le)
     ∙ ap (λ xs. with_granules (engine_view gs rows) xs) (sym (zeroed_seen (hidden gs rows) gs a.stack high rows.region.ram))
@@ -158,7 +158,7 @@ words_hold gs rows a k cs holds s place =
     away_holds gs (holding_all gs k cs) rows holds (all_length gs k cs) (words_stay gs rows a k cs holds s place)
 
 pub words_are_seen : (gs : List Granule) (rows : Rows) (a : Area) (k : ℕ) (cs : List Cap) → IsEngine gs rows → StackLies rows.region rows.heap.range.base (8 * length gs) a
-    → InStack rows a k (length cs) → engine_view (holding_all gs k cs) rows ≡ with_granules (engine_view gs rows) (holding_all (engine_view gs rows).granules k cs)
+    → InStack rows a k (length cs) → engine_view (holding_all gs k cs) rows ≡ with_granules (engine_view gs rows) (holding_all (engine_view gs rows).state.granules k cs)
 words_are_seen gs rows a k cs holds s place =
     let low = place.low in
     let high = place.high in

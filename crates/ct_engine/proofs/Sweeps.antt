@@ -29,7 +29,7 @@ use Rattle.ct_areas.proofs.Places.{area_even}
 use Rattle.ct_threads.proofs.Clean.{plain_is}
 use Rattle.ct_threads.specs.Kept.{IsPlain, IsKept}
 use Rattle.ct_engine.specs.declared.rows.Rows.{Rows}
-use Rattle.ct_engine.specs.Seen.{Seen, threads_of, engine_view, seen_by, hidden, no_area, stands}
+use Rattle.ct_engine.specs.Seen.{EngineRow, threads_of, engine_view, seen_by, hidden, no_area, stands}
 use Rattle.ct_engine.specs.Kept.{AreasFrom, StackLies, IsClear, IsEngine, OnlyRunnerStands}
 use Rattle.ct_engine.specs.Sweeps.{area_offset, with_slice}
 
@@ -210,7 +210,7 @@ slice_seen gs hs rows low high is holds settled =
     let shown : List Granule = with_hidden v gs in
     let f : ℕ → Cap → Cap = λ n c. filtered_between ram shown low high n c in
     let area : ℕ → ℕ = area_offset (engine_view gs rows) in
-    let put : List Granule → List Thread → Seen = λ xs ts. record (engine_view gs rows) { granules = xs; threads = ts; front = Some high } in
+    let put : List Granule → List Thread → EngineRow = λ xs ts. record (engine_view gs rows) { state = record (engine_view gs rows).state { granules = xs; threads = ts; front = Some high } } in
     let memory : hs ≡ kept_granules f 0 gs = slice_kept ram low high gs hs is
     ∙ sym (kept_same f (λ n c. filtered_between ram gs low high n c) (λ n c. passed_same v ram gs low high n c) 0 gs) in
     let granules : with_hidden v hs ≡ kept_granules f 0 shown =

@@ -8,7 +8,7 @@ use Rattle.ct_areas.specs.declared.thread.Area.{Area}
 use Rattle.ct_areas.specs.declared.thread.Thread as row
 use Rattle.ct_areas.specs.Threads.{thread_of}
 use Rattle.ct_engine.specs.declared.rows.Rows.{Rows}
-use Rattle.ct_engine.specs.Seen.{Seen, engine_view, with_thread, with_running}
+use Rattle.ct_engine.specs.Seen.{EngineRow, engine_view, with_thread, with_running}
 use Rattle.ct_engine.specs.Kept.{IsEngine}
 use Rattle.ct_engine.specs.Calls.{switched}
 use Rattle.ct_engine.proofs.Whole.{Turn, turned, turn_sees}
@@ -30,13 +30,15 @@ module _ {gs : List Granule} {rows : Rows} {t : ℕ} {r : row.Thread} (h : Runne
       → Turn (zeroed_from r.area.stack high r.area.ram gs) hs rows new t r q true now → (x : Thread) → thread_of hs now q ≡ x
       → engine_view hs (turned rows new t q) ≡ switched (engine_view gs rows) t high x new.running
   switched_seen {hs} {new} turn x same =
-      let s : Seen = engine_view gs rows in
-      let at_base : Area → ℕ → Seen = λ a n. record s {
-        granules = zeroed_from a.stack high n s.granules;
-        threads = set s.threads t x;
-        running = new.running;
+      let s : EngineRow = engine_view gs rows in
+      let at_base : Area → ℕ → EngineRow = λ a n. record s {
+        state = record s.state {
+          granules = zeroed_from a.stack high n s.state.granules;
+          threads = set s.state.threads t x;
+          running = new.running;
+        };
       } in
       turn_sees turn x same
       ∙ ap (λ n. with_running (with_thread (engine_view (zeroed_from r.area.stack high n gs) rows) t x) new.running) (running_lies h).base
-      ∙ ap (λ (v : Seen). with_running (with_thread v t x) new.running) (zeroed_is_seen gs rows r.area high h.holds (running_stack h) le)
+      ∙ ap (λ (v : EngineRow). with_running (with_thread v t x) new.running) (zeroed_is_seen gs rows r.area high h.holds (running_stack h) le)
       ∙ ap (λ (a : Area). at_base a rows.region.ram) (sym (running_area h))

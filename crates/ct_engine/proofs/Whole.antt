@@ -30,7 +30,7 @@ use Rattle.ct_threads.proofs.Filtering.{sifted_kept}
 use Rattle.ct_areas.proofs.Places.{alive_is}
 use Rattle.ct_engine.specs.declared.rows.Region.{Region}
 use Rattle.ct_engine.specs.declared.rows.Rows.{Rows}
-use Rattle.ct_engine.specs.Seen.{Seen, stands, threads_of, engine_view, thread, with_thread, with_running, resumed, region_hides, hides_over, seen_by, hidden}
+use Rattle.ct_engine.specs.Seen.{EngineRow, stands, threads_of, engine_view, thread, with_thread, with_running, resumed, region_hides, hides_over, seen_by, hidden}
 use Rattle.ct_engine.specs.Kept.{AreasFrom, StackLies, IsEngine, OnlyRunnerStands}
 use Rattle.ct_engine.proofs.Lists.{Lies, OthersStand, lies, rows_put, how_many, the_thread}
 use Rattle.ct_engine.proofs.HeapStays.{HeapStays, heap_keeps, heap_holds, area_stays}
@@ -230,8 +230,8 @@ pub turn_stays : {gs hs : List Granule} {rows new : Rows} {t : ℕ} {r q : row.T
     → thread_of hs now q ≡ thread_of gs stood r → engine_view hs (turned rows new t q) ≡ with_running (engine_view gs rows) new.running
 turn_stays {gs} {hs} {rows} {new} {t} u same =
     turn_sees u (thread (engine_view gs rows) t) (same ∙ sym (row_thread u.row))
-    ∙ ap (λ (xs : List Thread). let s : Seen = record (engine_view gs rows) { threads = xs; running = new.running } in s)
-    (set-get_or (engine_view gs rows).threads t nobody)
+    ∙ ap (λ (xs : List Thread). let s : EngineRow = record (engine_view gs rows) { state = record (engine_view gs rows).state { threads = xs; running = new.running } } in s)
+    (set-get_or (engine_view gs rows).state.threads t nobody)
 
 -- ---- whether it stands in its row is noted anew
 
@@ -287,13 +287,13 @@ pub settles_next : (was gs hs : List Granule) (old rows new : Rows) (t : ℕ) �
 settles_next was gs hs old rows new t s holds seen away others = record {
   holds = holds;
   seen = seen ∙ s.seen;
-  many = sym (how_many hs new.standing.items 0 new.list.items) ∙ ap (λ (v : Seen). length v.threads) seen ∙ how_many gs rows.standing.items 0 rows.list.items ∙ s.many;
+  many = sym (how_many hs new.standing.items 0 new.list.items) ∙ ap (λ (v : EngineRow). length v.state.threads) seen ∙ how_many gs rows.standing.items 0 rows.list.items ∙ s.many;
   away = λ u lt stood. elim (cases_eq u t) [
-    | inl e ↦ ap (λ (v : Seen). v.running) seen ∙ elim (bool_tells (is_number rows.running t)) [
+    | inl e ↦ ap (λ (v : EngineRow). v.state.running) seen ∙ elim (bool_tells (is_number rows.running t)) [
       | inl on ↦ number_is rows.running t on ∙ ap (λ n. let o : Option ℕ = Some n in o) (sym e)
       | inr off ↦ absurd (let clash : false ≡ true = sym (away off) ∙ ap (λ n. stands new.standing.items n) (sym e) ∙ stood in cc)
     ]
-    | inr no_ ↦ ap (λ (v : Seen). v.running) seen ∙ s.away u (below u t lt no_) (sym (others u no_) ∙ stood)
+    | inr no_ ↦ ap (λ (v : EngineRow). v.state.running) seen ∙ s.away u (below u t lt no_) (sym (others u no_) ∙ stood)
   ];
 }
   where
@@ -322,7 +322,7 @@ picked_same f k t same = rw (same t.pcc, map_same f k same t.registers) refl
 
 -- the load filter of a row's thread, over what is seen
 pub filter_seen : {gs : List Granule} {rows : Rows} {t : ℕ} {r : row.Thread} {stood : Bool} → RowAt gs rows t r stood
-    → (c : Cap) → filtered_in r.area.ram gs c ≡ filtered_in rows.region.ram (engine_view gs rows).granules c
+    → (c : Cap) → filtered_in r.area.ram gs c ≡ filtered_in rows.region.ram (engine_view gs rows).state.granules c
 filter_seen {gs} {rows} w c =
     ap (λ n. filtered_in n gs c) (row_lies w).base ∙ sym (filtered_same (hidden gs rows) rows.region.ram gs c)
 
@@ -331,8 +331,8 @@ pub pick_sees : {gs hs : List Granule} {rows new : Rows} {t : ℕ} {r q : row.Th
     → thread_of hs true q ≡ picked_with (filtered_in r.area.ram gs) (thread_of gs stood r) → new.running ≡ Some t
     → engine_view hs (turned rows new t q) ≡ resumed (engine_view gs rows) t
 pick_sees {gs} {hs} {rows} {new} {t} {r} {q} {stood} u picked runs =
-    let v : Seen = engine_view gs rows in
-    let seen_filter : Cap → Cap = filtered_in rows.region.ram v.granules in
+    let v : EngineRow = engine_view gs rows in
+    let seen_filter : Cap → Cap = filtered_in rows.region.ram v.state.granules in
     turn_sees u (picked_with seen_filter (thread v t))
     (picked ∙ picked_same (filtered_in r.area.ram gs) seen_filter (thread_of gs stood r) (filter_seen u.row)
     ∙ ap (λ (x : Thread). picked_with seen_filter x) (sym (row_thread u.row)))

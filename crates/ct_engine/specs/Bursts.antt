@@ -5,11 +5,11 @@ use Rattle.def_words.specs.Authority.{cap_base, cap_top}
 use Rattle.def_words.specs.Permissions.{has, load_data, store_data}
 use Rattle.def_machine.specs.State.{Thread, register}
 use Rattle.ct_burst.specs.Going as raw
-use Rattle.ct_engine.specs.Seen.{thread, Seen, hides, with_granules, with_thread}
+use Rattle.ct_engine.specs.Seen.{thread, EngineRow, hides, with_granules, with_thread}
 
 -- Nothing is hidden that a thread may load or store through a register, and nothing in the bounds of its program
 -- counter capability. All x are addresses of RAM or past it.
-pub record IsOpen (s : Seen) (t : ℕ) : Type 0 where
+pub record IsOpen (s : EngineRow) (t : ℕ) : Type 0 where
   pub registers : (n x : ℕ) → s.region.ram ≤ x
       → (register (thread s t) n).tag ≡ true
       → (has (register (thread s t) n) load_data ≡ true)
@@ -22,17 +22,17 @@ pub record IsOpen (s : Seen) (t : ℕ) : Type 0 where
       → hides s ((x - s.region.ram) / 8) ≡ false
 
 -- the instruction at thread t's program counter, over what is seen of memory, leaves the engine so
-pub record GoesOnce (t : ℕ) (s new : Seen) : Type 0 where
+pub record GoesOnce (t : ℕ) (s new : EngineRow) : Type 0 where
   pub to : Thread
   pub after : List Granule
-  pub goes : raw.GoesOnce s.region.ram (thread s t) s.granules to after
+  pub goes : raw.GoesOnce s.region.ram (thread s t) s.state.granules to after
   pub is : new ≡ with_granules (with_thread s t to) after
 
 -- so many instructions do, one after another
-abbrev pub GoesFor : ℕ → ℕ → Seen → Seen → Type 0
+abbrev pub GoesFor : ℕ → ℕ → EngineRow → EngineRow → Type 0
 GoesFor t zero s new = new ≡ s
-GoesFor t (suc n) s new = (mid : Seen) × GoesFor t n s mid × GoesOnce t mid new
+GoesFor t (suc n) s new = (mid : EngineRow) × GoesFor t n s mid × GoesOnce t mid new
 
 -- while thread t goes on by fewer instructions than so many, nothing is hidden that it may reach
-abbrev pub StaysOpen : ℕ → ℕ → Seen → Type 0
-StaysOpen t most s = (n : ℕ) (mid : Seen) → n < most → GoesFor t n s mid → IsOpen mid t
+abbrev pub StaysOpen : ℕ → ℕ → EngineRow → Type 0
+StaysOpen t most s = (n : ℕ) (mid : EngineRow) → n < most → GoesFor t n s mid → IsOpen mid t

@@ -19,29 +19,29 @@ use Rattle.def_step.specs.Switch.{Switched, Enters, switch_of, frame_top}
 use Rattle.ct_areas.specs.Threads.{frames_most}
 use Rattle.ct_switch.specs.Exports.{AreSorted, IsCallable, callee_of, table_of}
 use Rattle.ct_switch.specs.Calls.{stack_cap}
-use Rattle.ct_engine.specs.Seen.{Seen, hides, thread, area_at}
+use Rattle.ct_engine.specs.Seen.{EngineRow, hides, thread, area_at}
 
 -- ---- what they ask
 
 -- the top of a thread's innermost frame is a multiple of 16 in its stack
-pub record TopLies (s : Seen) (t : ℕ) : Type 0 where
+pub record TopLies (s : EngineRow) (t : ℕ) : Type 0 where
   pub even : frame_top (thread s t).frames % 16 ≡ 0
   pub low : (area_at s t).stack ≤ frame_top (thread s t).frames
   pub high : frame_top (thread s t).frames ≤ (area_at s t).stack + (area_at s t).stack_length
 
 -- the granule with which the table of an export begins
-abbrev pub head_at : Seen → Listed → ℕ → ℕ
+abbrev pub head_at : EngineRow → Listed → ℕ → ℕ
 head_at s e export = (table_of e (callee_of e export) - s.region.ram) / GRANULE
 
 -- an export that can be called, and the head of whose table isn't hidden
-pub record IsEnterable (s : Seen) (e : Listed) (export : ℕ) : Type 0 where
-  pub callable : IsCallable e s.region.ram (8 * length s.granules) export
+pub record IsEnterable (s : EngineRow) (e : Listed) (export : ℕ) : Type 0 where
+  pub callable : IsCallable e s.region.ram (8 * length s.state.granules) export
   pub code : hides s (head_at s e export) ≡ false
   pub globals : hides s (head_at s e export + 1) ≡ false
 
 -- Of a call: beside the top, gates stand by their numbers, and where c6 is a tagged capability of an export's type, its
 -- root is an entry that names an open export.
-pub record MayCall (s : Seen) (t : ℕ) (e : Listed) : Type 0 where
+pub record MayCall (s : EngineRow) (t : ℕ) (e : Listed) : Type 0 where
   pub top : TopLies s t
   pub sorted : AreSorted e.gates
   pub import : (register (thread s t) 6).tag ≡ true
@@ -51,64 +51,66 @@ pub record MayCall (s : Seen) (t : ℕ) (e : Listed) : Type 0 where
 -- ---- a call
 
 -- what the switch comes to
-abbrev pub switch_at : Seen → Listed → ℕ → Switched
+abbrev pub switch_at : EngineRow → Listed → ℕ → Switched
 switch_at s e t =
     switch_of e (area_at s t).stack (frame_top (thread s t).frames) (frames_most (area_at s t))
     (thread s t)
 
 -- What the callee is given: its code and its globals stand in the head of its export table.
-abbrev pub given_at : Seen → Listed → ℕ → ℕ → ℕ → Given
+abbrev pub given_at : EngineRow → Listed → ℕ → ℕ → ℕ → Given
 given_at s e t export high = record {
-  pcc = with_address (cap_in s.granules (head_at s e export)) (gate_for e.gates export).code;
+  pcc = with_address (cap_in s.state.granules (head_at s e export)) (gate_for e.gates export).code;
   back = return_sentry;
   stack = stack_cap (area_at s t).stack high (register (thread s t) 2).shadow;
-  globals = cap_in s.granules (head_at s e export + 1);
+  globals = cap_in s.state.granules (head_at s e export + 1);
 }
 
 -- a thread changes whole, its stack from its base up to an address is zeroed, and who runs is told
-abbrev pub switched : Seen → ℕ → ℕ → Thread → Option ℕ → Seen
+abbrev pub switched : EngineRow → ℕ → ℕ → Thread → Option ℕ → EngineRow
 switched s t high new run = record s {
-  granules = zeroed_from (area_at s t).stack high s.region.ram s.granules;
-  threads = slice_set s.threads t new;
-  running = run;
+  state = record s.state {
+    granules = zeroed_from (area_at s t).stack high s.region.ram s.state.granules;
+    threads = slice_set s.state.threads t new;
+    running = run;
+  };
 }
 
 -- where the switch enters, the thread goes on in the callee; else nothing changes
-abbrev pub after_call : Seen → Listed → ℕ → Switched → Seen
+abbrev pub after_call : EngineRow → Listed → ℕ → Switched → EngineRow
 after_call s e t (Enters export high) =
     switched s t high
     (entered_by e (thread s t) (callee_of e export) export high (given_at s e t export high))
-    s.running
+    s.state.running
 after_call s e t _ = s
 
 -- ---- a frame's end
 
 -- The innermost frame ends with results that may go by the frame. Without one below it the thread ends, and none runs.
-abbrev pub ended_by : Seen → ℕ → (Frame → Cap) → (Frame → Cap) → List Frame → Seen
+abbrev pub ended_by : EngineRow → ℕ → (Frame → Cap) → (Frame → Cap) → List Frame → EngineRow
 ended_by s t first second [] = s
 ended_by s t first second (f ∷ []) = switched s t f.top nobody None
 ended_by s t first second (f ∷ g ∷ fs) =
     switched s t f.top
-    (left_with (filtered_in s.region.ram s.granules) (thread s t) f (g ∷ fs) (first f) (second f))
-    s.running
+    (left_with (filtered_in s.region.ram s.state.granules) (thread s t) f (g ∷ fs) (first f) (second f))
+    s.state.running
 
 -- the return, and the end with a value
-abbrev pub returned : Seen → Listed → ℕ → Seen
+abbrev pub returned : EngineRow → Listed → ℕ → EngineRow
 returned s e t =
     ended_by s t (λ f. answer_by e (thread s t) f 10) (λ f. answer_by e (thread s t) f 11)
     (thread s t).frames
 
-abbrev pub ended_with : Seen → ℕ → ℕ → Seen
+abbrev pub ended_with : EngineRow → ℕ → ℕ → EngineRow
 ended_with s t value = ended_by s t (λ f. plain value) (λ f. plain 0) (thread s t).frames
 
 -- ---- as boot made it
 
 -- The head of an export's table is as boot made it, and so is the return sentry; the stack begins where the image has
 -- it.
-pub record HeadStands (i : Image) (s : Seen) (t export : ℕ) : Type 0 where
-  pub code : cap_in s.granules (head_at s i.entries export)
+pub record HeadStands (i : Image) (s : EngineRow) (t export : ℕ) : Type 0 where
+  pub code : cap_in s.state.granules (head_at s i.entries export)
       ≡ made_cap i (code_entry i (callee_of i.entries export))
-  pub globals : cap_in s.granules (head_at s i.entries export + 1)
+  pub globals : cap_in s.state.granules (head_at s i.entries export + 1)
       ≡ made_cap i (globals_entry i (callee_of i.entries export))
   pub back : made_cap i 0 ≡ return_sentry
   pub stack : stack_base i t ≡ (area_at s t).stack

@@ -11,13 +11,13 @@ use Rattle.def_machine.specs.State.{Frame, register}
 use Rattle.def_step.specs.Handlers.{Handed, is_handled_by, handled_by, record_words, words_written}
 use Rattle.ct_switch.specs.Exports.{AreSorted}
 use Rattle.ct_threads.specs.Handling.{record_place}
-use Rattle.ct_engine.specs.Seen.{Seen, thread, area_at}
+use Rattle.ct_engine.specs.Seen.{EngineRow, thread, area_at}
 use Rattle.ct_engine.specs.Calls.{TopLies, IsEnterable, head_at}
 
 -- ---- what is asked
 
 -- Beside the top: gates stand by their numbers, and the error handler can be entered, this export; 0 is none.
-pub record MayHandle (s : Seen) (t : ℕ) (e : Listed) (handler : ℕ) : Type 0 where
+pub record MayHandle (s : EngineRow) (t : ℕ) (e : Listed) (handler : ℕ) : Type 0 where
   pub top : TopLies s t
   pub sorted : AreSorted e.gates
   pub enterable : (handler ≡ 0 → ⊥) → IsEnterable s e handler
@@ -25,11 +25,11 @@ pub record MayHandle (s : Seen) (t : ℕ) (e : Listed) (handler : ℕ) : Type 0 
 -- ---- whether it is entered
 
 -- by the frames, of which the first is the innermost
-abbrev pub is_handled_of : Seen → ℕ → ℕ → List Frame → Bool
+abbrev pub is_handled_of : EngineRow → ℕ → ℕ → List Frame → Bool
 is_handled_of s t handler [] = false
 is_handled_of s t handler (f ∷ fs) = is_handled_by handler (area_at s t).stack (thread s t) f
 
-abbrev pub is_handled_at : Seen → ℕ → ℕ → Bool
+abbrev pub is_handled_at : EngineRow → ℕ → ℕ → Bool
 is_handled_at s t handler = is_handled_of s t handler (thread s t).frames
 
 -- whether the innermost frame's error handler was entered
@@ -40,24 +40,26 @@ is_marked (f ∷ fs) = f.handling
 -- ---- what it leaves
 
 -- What the handler gets: its code and its globals stand in the head of its export table.
-abbrev pub handed_at : Seen → Listed → ℕ → Handed
+abbrev pub handed_at : EngineRow → Listed → ℕ → Handed
 handed_at s e handler = record {
-  pcc = with_address (cap_in s.granules (head_at s e handler)) (gate_for e.gates handler).code;
+  pcc = with_address (cap_in s.state.granules (head_at s e handler)) (gate_for e.gates handler).code;
   back = return_sentry;
-  globals = cap_in s.granules (head_at s e handler + 1);
+  globals = cap_in s.state.granules (head_at s e handler + 1);
 }
 
 -- the record stands on the stack, and the thread goes on in the handler
-abbrev pub handler_begun : Seen → Listed → ℕ → ℕ → Trap → List Frame → Seen
+abbrev pub handler_begun : EngineRow → Listed → ℕ → ℕ → Trap → List Frame → EngineRow
 handler_begun s e t handler why [] = s
 handler_begun s e t handler why (f ∷ fs) = record s {
-  granules =
-      words_written s.granules (record_place s.region.ram (register (thread s t) 2))
-      (record_words (thread s t) why);
-  threads = slice_set s.threads t (handled_by (handed_at s e handler) (thread s t) why f fs);
+  state = record s.state {
+    granules =
+        words_written s.state.granules (record_place s.region.ram (register (thread s t) 2))
+        (record_words (thread s t) why);
+    threads = slice_set s.state.threads t (handled_by (handed_at s e handler) (thread s t) why f fs);
+  };
 }
 
 -- where it isn't entered nothing changes
-abbrev pub after_trap : Seen → Listed → ℕ → ℕ → Trap → Seen
+abbrev pub after_trap : EngineRow → Listed → ℕ → ℕ → Trap → EngineRow
 after_trap s e t handler why =
     cond (is_handled_at s t handler) (handler_begun s e t handler why (thread s t).frames) s

@@ -3,6 +3,7 @@ use Rattle.std.specs.Prelude.{ℕ, ◌+◌, ◌*◌, ◌≡◌, ◌≤◌, ◌<�
 use Rattle.def_memory.specs.declared.Granule.{Granule}
 use Rattle.def_memory.specs.Granules.{plain, cap_in}
 use Rattle.def_machine.specs.Objects.{Each}
+use Rattle.def_machine.specs.State.{at_rest}
 use Rattle.def_chunks.specs.Heaps.{HeapRow}
 use Rattle.ct_heap.specs.Effects.{Empty}
 use Rattle.def_hidden.specs.Hiding.{with_hidden}
@@ -11,7 +12,7 @@ use Rattle.ct_areas.specs.declared.thread.Fresh.{Fresh}
 use Rattle.ct_threads.specs.Starts.{IsFresh}
 use Rattle.ct_areas.specs.Starts.{first_of}
 use Rattle.ct_engine.specs.declared.rows.Region.{Region}
-use Rattle.ct_engine.specs.Seen.{Seen, region_hides, limits_in, threads_of}
+use Rattle.ct_engine.specs.Seen.{EngineRow, region_hides, limits_in, threads_of}
 use Rattle.ct_engine.specs.Kept.{AreasFrom, StackLies}
 
 -- their areas stand one after another from one address up to another, of RAM from `ram` on
@@ -47,17 +48,11 @@ pub record MayStart (gs : List Granule) (g : Region) (fs : List Fresh) (h : Heap
   pub clear : (k : ℕ) → region_hides g k ≡ true → cap_in gs k ≡ plain 0
   pub heap : MayHold gs g h
 
-abbrev pub started : List Granule → Region → List Fresh → HeapRow → Seen
+abbrev pub started : List Granule → Region → List Fresh → HeapRow → EngineRow
 started gs g fs h = record {
-  granules = gs;
-  threads = map (λ f. first_of f) fs;
-  running = None;
+  state = at_rest gs (map (λ f. first_of f) fs) [] [];
   region = g;
   areas = map (λ (f : Fresh). f.area) fs;
-  objects = [];
-  tokens = [];
-  next = 1;
-  front = None;
   heap_base = h.range.base;
   heap_end = h.range.base + h.range.length;
   limits = limits_in h.accounts;

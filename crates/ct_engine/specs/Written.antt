@@ -9,23 +9,29 @@ use Rattle.def_machine.specs.Frames as machine
 use Rattle.def_reach.specs.Roots.{compartment_of}
 use Rattle.def_step.specs.Handlers.{handled, handler_entered}
 use Rattle.ct_areas.specs.Threads as areas
-use Rattle.ct_engine.specs.Seen.{Seen, thread, area_at, limit_at}
+use Rattle.ct_engine.specs.Seen.{EngineRow, thread, with_running, area_at, limit_at}
 
 -- RAM and thread t are the state's, and the thread's stack and the room for its frames are as the image has them.
-pub record Shows (i : Image) (m : State) (s : Seen) (t : ℕ) : Type 0 where
+pub record Shows (i : Image) (m : State) (s : EngineRow) (t : ℕ) : Type 0 where
   pub ram : s.region.ram ≡ i.ram
-  pub granules : s.granules ≡ m.granules
+  pub granules : s.state.granules ≡ m.granules
   pub thread : thread s t ≡ state.thread m t
   pub stack : (area_at s t).stack ≡ stack_base i t
   pub frames : areas.frames_most (area_at s t) ≡ frames_most i t
 
 -- what is seen where thread t has become this, and all else is the state's
-abbrev pub seen_so : Seen → ℕ → Thread → State → Seen
+abbrev pub seen_so : EngineRow → ℕ → Thread → State → EngineRow
 seen_so s t new m =
-    record s { granules = m.granules; threads = slice_set s.threads t new; running = m.running }
+    record s {
+      state = record s.state {
+        granules = m.granules;
+        threads = slice_set s.state.threads t new;
+        running = m.running;
+      };
+    }
 
 -- what is seen after the written change of a whole thread and of its stack up to an address
-abbrev pub written : Image → State → Seen → ℕ → ℕ → Thread → Option ℕ → Seen
+abbrev pub written : Image → State → EngineRow → ℕ → ℕ → Thread → Option ℕ → EngineRow
 written i m s t high new run = seen_so s t new (machine.switched i m t high new run)
 
 -- the thread in the callee, as the written call has it
@@ -35,60 +41,62 @@ callee_thread i m t export high =
     (machine.callee_start i (state.thread m t) t (compartment_of (root i export).owner) export high)
 
 -- and after the written entry of an error handler; who runs is as it was
-abbrev pub handler_seen : Image → State → Seen → ℕ → Trap → Frame → List Frame → Seen
-handler_seen i m s t why f fs = record (seen_so s t (handled i (state.thread m t) why f fs)
-    (handler_entered i m t why f fs)) { running = s.running }
+abbrev pub handler_seen : Image → State → EngineRow → ℕ → Trap → Frame → List Frame → EngineRow
+handler_seen i m s t why f fs =
+    with_running
+    (seen_so s t (handled i (state.thread m t) why f fs) (handler_entered i m t why f fs))
+    s.state.running
 
 -- ---- the whole state
 
 -- the state where this is seen, whose threads have these statuses
-abbrev pub state_with : State → Seen → List Status → State
+abbrev pub state_with : State → EngineRow → List Status → State
 state_with m s statuses = record m {
-  granules = s.granules;
-  threads = with_statuses s.threads statuses;
-  running = s.running;
-  objects = s.objects;
-  tokens = s.tokens;
-  next = s.next;
-  front = s.front;
+  granules = s.state.granules;
+  threads = with_statuses s.state.threads statuses;
+  running = s.state.running;
+  objects = s.state.objects;
+  tokens = s.state.tokens;
+  next = s.state.next;
+  front = s.state.front;
 }
 
 -- RAM begins where the image has it, and so do the threads' areas, one for each thread
-pub record HasAreas (i : Image) (s : Seen) : Type 0 where
+pub record HasAreas (i : Image) (s : EngineRow) : Type 0 where
   pub ram : s.region.ram ≡ i.ram
-  pub count : length s.areas ≡ length s.threads
+  pub count : length s.areas ≡ length s.state.threads
   pub begins : (t : ℕ) → t < length s.areas → (area_at s t).trusted ≡ area_of i t
 
 -- The heap lies where the image has it, and quotas may take what their entries say. So quota 0 may take nothing: no
 -- entry has that number.
-pub record HasHeap (i : Image) (s : Seen) : Type 0 where
+pub record HasHeap (i : Image) (s : EngineRow) : Type 0 where
   pub base : i.heap_base ≡ s.heap_base
   pub end : i.heap_end ≡ s.heap_end
   pub limits : (q : ℕ) → (root i q).limit ≡ limit_at s q
 
 -- the heap lies where the image has it, and this quota may take what its entry says
-pub record HasQuota (i : Image) (s : Seen) (quota : ℕ) : Type 0 where
+pub record HasQuota (i : Image) (s : EngineRow) (quota : ℕ) : Type 0 where
   pub base : i.heap_base ≡ s.heap_base
   pub end : i.heap_end ≡ s.heap_end
   pub limit : (root i quota).limit ≡ limit_at s quota
 
 -- the state's objects are those that are seen
-pub record SharesObjects (m : State) (s : Seen) : Type 0 where
-  pub objects : m.objects ≡ s.objects
-  pub next : m.next ≡ s.next
+pub record SharesObjects (m : State) (s : EngineRow) : Type 0 where
+  pub objects : m.objects ≡ s.state.objects
+  pub next : m.next ≡ s.state.next
 
 -- RAM, the heap and the quotas lie where the image has them, and there are as many statuses as threads
-pub record HasLayout (i : Image) (s : Seen) (ss : List Status) : Type 0 where
+pub record HasLayout (i : Image) (s : EngineRow) (ss : List Status) : Type 0 where
   pub ram : s.region.ram ≡ i.ram
   pub heap : HasHeap i s
-  pub statuses : length ss ≡ length s.threads
+  pub statuses : length ss ≡ length s.state.threads
 
 -- what neither a routine nor a slice of a sweep changes of an engine
-pub record StaysBeside (s new : Seen) : Type 0 where
+pub record StaysBeside (s new : EngineRow) : Type 0 where
   pub region : new.region ≡ s.region
   pub areas : new.areas ≡ s.areas
-  pub size : length new.granules ≡ length s.granules
-  pub threads : length new.threads ≡ length s.threads
+  pub size : length new.state.granules ≡ length s.state.granules
+  pub threads : length new.state.threads ≡ length s.state.threads
   pub heap_base : new.heap_base ≡ s.heap_base
   pub heap_end : new.heap_end ≡ s.heap_end
   pub limits : new.limits ≡ s.limits

@@ -16,10 +16,10 @@ use ct_threads::{Window, window_of};
 impl<M: Memory + Drop> Engine<M> {
     /// The addresses at which a fetch by the running thread need only ask for the tag and for a multiple of 4.
     pub fn window(&self, t: u32) -> Window
-        requires { self.now.running ≡ Some t }
+        requires { self.now.state.running ≡ Some t }
         ensures is { HasWindow self.now t result }
         ensures whole { HoldsEach result (thread self.now t).pcc self.now.region.ram
-            (8 * length self.now.granules) }
+            (8 * length self.now.state.granules) }
     {
         let pcc = &self.rows.list[t as usize].pcc;
         window_of(pcc, &self.mem, self.rows.region.ram)
@@ -32,7 +32,7 @@ impl<M: Memory + Drop> Engine<M> {
     /// capability, and while the thread goes on so, nothing is hidden that it may reach.
     #[inline(always)]
     pub fn burst(&mut self, t: u32, decoded: &mut Decoded, window: &mut Window, most: u32) -> u32
-        requires runs { self.old.running ≡ Some t }
+        requires runs { self.old.state.running ≡ Some t }
         requires even { self.old.region.ram % 16 ≡ 0 }
         requires window { HasWindow self.old t window.old }
         requires opened { StaysOpen t most self.old }
@@ -57,7 +57,7 @@ impl<M: Memory + Drop> Engine<M> {
     /// Conditions: as of `burst`, of one instruction.
     #[inline(always)]
     pub fn once(&mut self, t: u32, decoded: &mut Decoded, window: &mut Window) -> u32
-        requires runs { self.old.running ≡ Some t }
+        requires runs { self.old.state.running ≡ Some t }
         requires even { self.old.region.ram % 16 ≡ 0 }
         requires window { HasWindow self.old t window.old }
         requires opened { StaysOpen t 1 self.old }

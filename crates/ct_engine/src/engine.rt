@@ -44,10 +44,10 @@ pub struct Engine<M: Memory + Drop> {
 }
 
 impl<M: Memory + Drop> Model for Engine<M> {
-    ghost use Rattle.ct_engine.specs.Seen.{Seen, engine_view};
+    ghost use Rattle.ct_engine.specs.Seen.{EngineRow, engine_view};
     ghost use Rattle.ct_engine.specs.Kept.{IsEngine};
 
-    ghost Value = { Seen };
+    ghost Value = { EngineRow };
 
     ghost view = { λ m. engine_view (M.granules m.mem) m.rows };
 
@@ -57,30 +57,30 @@ impl<M: Memory + Drop> Model for Engine<M> {
 impl<M: Memory + Drop> Engine<M> {
     /// The bytes of RAM.
     pub fn size(&self) -> u32
-        ensures { result ≡ 8 * length self.now.granules }
+        ensures { result ≡ 8 * length self.now.state.granules }
     {
         self.mem.size()
     }
 
     /// How many threads there are, those that have ended too.
     pub fn count(&self) -> usize
-        ensures { result ≡ length self.now.threads }
+        ensures { result ≡ length self.now.state.threads }
     {
         self.rows.list.len()
     }
 
     /// The thread that runs.
     pub fn running(&self) -> Option<u32>
-        ensures { result ≡ self.now.running }
+        ensures { result ≡ self.now.state.running }
     {
         self.rows.running
     }
 
     /// The bytes at an offset of what isn't hidden. The width is 1, 2 or 4.
     pub fn load(&self, at: u32, width: u32) -> u32
-        requires access { IsAccess (8 * length self.now.granules) at width }
+        requires access { IsAccess (8 * length self.now.state.granules) at width }
         requires seen { hides self.now (at / 8) ≡ false }
-        ensures { result ≡ loaded self.now.granules at width }
+        ensures { result ≡ loaded self.now.state.granules at width }
     {
         self.mem.load(at, width)
     }
@@ -88,7 +88,7 @@ impl<M: Memory + Drop> Engine<M> {
     /// A register of the running thread.
     #[inline(always)]
     pub fn register(&self, t: u32, number: u32) -> Live
-        requires runs { self.now.running ≡ Some t }
+        requires runs { self.now.state.running ≡ Some t }
         requires number { number < 16 }
         ensures { result ≡ register (thread self.now t) number }
     {
@@ -98,7 +98,7 @@ impl<M: Memory + Drop> Engine<M> {
     /// The program counter capability of the running thread.
     #[inline(always)]
     pub fn pcc(&self, t: u32) -> Live
-        requires { self.now.running ≡ Some t }
+        requires { self.now.state.running ≡ Some t }
         ensures { result ≡ (thread self.now t).pcc }
     {
         self.rows.list[t as usize].pcc
@@ -106,7 +106,7 @@ impl<M: Memory + Drop> Engine<M> {
 
     /// The posture of the running thread.
     pub fn posture(&self, t: u32) -> Posture
-        requires { self.now.running ≡ Some t }
+        requires { self.now.state.running ≡ Some t }
         ensures { result ≡ (thread self.now t).posture }
     {
         self.rows.list[t as usize].posture
@@ -114,7 +114,7 @@ impl<M: Memory + Drop> Engine<M> {
 
     /// The compartment of the running thread's innermost frame, of which it has one.
     pub fn actor(&self, t: u32) -> u32
-        requires { self.now.running ≡ Some t }
+        requires { self.now.state.running ≡ Some t }
         ensures is { result ≡ actor_of (thread self.now t).frames }
         ensures some { 0 < length (thread self.now t).frames }
     {
@@ -123,7 +123,7 @@ impl<M: Memory + Drop> Engine<M> {
 
     /// The running thread goes on elsewhere, with this posture, and a register gets a value, which register 0 drops.
     pub fn jump_to(&mut self, t: u32, pcc: Live, posture: Posture, to: u32, value: Live)
-        requires runs { self.old.running ≡ Some t }
+        requires runs { self.old.state.running ≡ Some t }
         requires to { to < 16 }
         ensures { self.new ≡ after_jump self.old t pcc posture to value }
     {
@@ -132,7 +132,7 @@ impl<M: Memory + Drop> Engine<M> {
 
     /// The running thread stops. Nothing else changes.
     pub fn stop(&mut self, t: u32)
-        requires { self.old.running ≡ Some t }
+        requires { self.old.state.running ≡ Some t }
         ensures { self.new ≡ with_running self.old None }
     {
         self.rows.running = None;
@@ -142,7 +142,7 @@ impl<M: Memory + Drop> Engine<M> {
     /// A thread that hasn't ended goes on where it stopped, where none runs: its program counter capability and its
     /// registers pass the load filter.
     pub fn pick(&mut self, t: u32)
-        requires none { self.old.running ≡ None }
+        requires none { self.old.state.running ≡ None }
         requires alive { 0 < length (thread self.old t).frames }
         ensures { self.new ≡ resumed self.old t }
     {
@@ -157,7 +157,7 @@ impl<M: Memory + Drop> Engine<M> {
     /// Where a check fails, the thread is too deep or the callee's stack has too little room nothing changes; else the
     /// thread goes on in the callee, whose stack is zeroed. No memory is taken. docs/use/machine.md.
     pub fn call(&mut self, t: u32, e: &Entries) -> Called
-        requires runs { self.old.running ≡ Some t }
+        requires runs { self.old.state.running ≡ Some t }
         requires may { MayCall self.old t e.now }
         ensures result { result
             ≡ call_outcome (register (thread self.old t) 6) (switch_at self.old e.now t) }
@@ -170,7 +170,7 @@ impl<M: Memory + Drop> Engine<M> {
     /// values; the stack is zeroed up to the frame's top. `false` exactly where the frame was its last: then it has
     /// ended, and none runs. No memory is taken. docs/use/machine.md.
     pub fn return_to_caller(&mut self, t: u32, e: &Entries) -> bool
-        requires runs { self.old.running ≡ Some t }
+        requires runs { self.old.state.running ≡ Some t }
         requires top { TopLies self.old t }
         requires sorted { AreSorted e.now.gates }
         ensures result { result ≡ nat_lt 1 (length (thread self.old t).frames) }
@@ -182,7 +182,7 @@ impl<M: Memory + Drop> Engine<M> {
 
     /// The innermost frame of the running thread ends with a value. `false` exactly where it was the thread's last.
     fn end_with(&mut self, t: u32, value: u32) -> bool
-        requires runs { self.old.running ≡ Some t }
+        requires runs { self.old.state.running ≡ Some t }
         requires top { TopLies self.old t }
         ensures result { result ≡ nat_lt 1 (length (thread self.old t).frames) }
         ensures is { self.new ≡ ended_with self.old t value }
@@ -194,7 +194,7 @@ impl<M: Memory + Drop> Engine<M> {
     /// The innermost frame of the running thread is unwound after a trap: the return with c10 = -1 and c11 = 0. `false`
     /// exactly where the frame was the thread's last. docs/use/machine.md.
     pub fn unwind(&mut self, t: u32) -> bool
-        requires runs { self.old.running ≡ Some t }
+        requires runs { self.old.state.running ≡ Some t }
         requires top { TopLies self.old t }
         ensures result { result ≡ nat_lt 1 (length (thread self.old t).frames) }
         ensures is { self.new ≡ ended_with self.old t UNWOUND }
@@ -208,7 +208,7 @@ impl<M: Memory + Drop> Engine<M> {
     /// Then the record of the trap stands on the thread's stack, and the thread goes on in the handler with interrupts
     /// on; its innermost frame is marked. No memory is taken. docs/use/machine.md.
     pub fn handle(&mut self, t: u32, e: &Entries, handler: u32, trap: Trap) -> bool
-        requires runs { self.old.running ≡ Some t }
+        requires runs { self.old.state.running ≡ Some t }
         requires may { MayHandle self.old t e.now handler }
         ensures result { result ≡ is_handled_at self.old t handler }
         ensures is { self.new ≡ after_trap self.old e.now t handler trap }
@@ -224,7 +224,7 @@ impl<M: Memory + Drop> Engine<M> {
 
     /// Whether the error handler of the running thread's innermost frame was entered.
     pub fn is_handling(&self, t: u32) -> bool
-        requires { self.now.running ≡ Some t }
+        requires { self.now.state.running ≡ Some t }
         ensures { result ≡ is_marked (thread self.now t).frames }
     {
         self.rows.list[t as usize].handling
@@ -234,7 +234,7 @@ impl<M: Memory + Drop> Engine<M> {
     /// it is the return with c10 = that of c11 and c11 = 0, else the unwind. `false` exactly where the frame was the
     /// thread's last. docs/use/machine.md.
     pub fn end_handler(&mut self, t: u32) -> bool
-        requires runs { self.old.running ≡ Some t }
+        requires runs { self.old.state.running ≡ Some t }
         requires top { TopLies self.old t }
         ensures result { result ≡ nat_lt 1 (length (thread self.old t).frames) }
         ensures is { self.new ≡ ended_with self.old t (handler_value (thread self.old t)) }
@@ -270,10 +270,10 @@ impl<M: Memory + Drop> Engine<M> {
         requires access { is_access instruction ≡ true }
         requires heap { HeapLies self.old heap }
         requires seen { SeesAccess (hides self.old) self.old.region.ram instruction x y }
-        ensures is { IsMoved instruction x y (space_in self.old bus.old time) self.new.granules
-            bus.new result }
-        ensures kept { self.new ≡ with_granules self.old self.new.granules }
-        ensures size { length self.new.granules ≡ length self.old.granules }
+        ensures is { IsMoved instruction x y (space_in self.old bus.old time)
+            self.new.state.granules bus.new result }
+        ensures kept { self.new ≡ with_granules self.old self.new.state.granules }
+        ensures size { length self.new.state.granules ≡ length self.old.state.granules }
         ensures bases { bus.new.bases ≡ bus.old.bases }
     {
         access(

@@ -27,9 +27,10 @@ impl<M: Memory + Drop> Engine<M> {
     /// quota's limit would be passed; else `NoGap` exactly where no place is lawful. A refusal changes nothing.
     pub fn allocate(&mut self, quota: u32, size: u32) -> Result<Object, HeapRefusal>
         requires quota { quota < length self.old.limits }
-        requires few { self.old.next ≤ MOST_STEPS }
+        requires few { self.old.state.next ≤ MOST_STEPS }
         ensures is { self.new ≡ after_allocation self.old quota size result }
-        ensures answer { (i : Image) (m : State) → HasQuota i self.old quota → SharesObjects m self.old
+        ensures answer { (i : Image) (m : State)
+            → HasQuota i self.old quota → SharesObjects m self.old
             → allocation i m quota size ≡ allocation_told self.old quota size result }
         ensures told { IfOk result
             (λ o. IsTold self.new o (new_object self.old quota size o.base)) }
@@ -41,12 +42,13 @@ impl<M: Memory + Drop> Engine<M> {
     /// quarantined, its chunk is marked, its row goes where it is a key or a token, and then the registers of the
     /// running thread pass the load filter. `NotWhole` comes exactly where there is none; then nothing changes.
     pub fn free(&mut self, t: u32, quota: u32, base: u32, top: u64) -> Result<Object, NotWhole>
-        requires runs { self.old.running ≡ Some t }
+        requires runs { self.old.state.running ≡ Some t }
         requires quota { quota < length self.old.limits }
-        ensures is { self.new ≡ freed_by self.old t (whole_of quota base top self.old.objects) }
+        ensures is { self.new
+            ≡ freed_by self.old t (whole_of quota base top self.old.state.objects) }
         ensures told { MatchResult result
             (λ o. WasWhole self.old self.new quota base top o)
-            (λ why. whole_of quota base top self.old.objects ≡ None) }
+            (λ why. whole_of quota base top self.old.state.objects ≡ None) }
     {
         let object = self.rows.heap.free(&mut self.mem, quota, base, top)?;
         self.rows.tokens.drop_row(object.number);
@@ -56,7 +58,7 @@ impl<M: Memory + Drop> Engine<M> {
 
     /// How many objects were allocated.
     pub fn made(&self) -> u32
-        ensures { result ≡ self.now.next - 1 }
+        ensures { result ≡ self.now.state.next - 1 }
     {
         self.rows.heap.made()
     }
@@ -64,14 +66,14 @@ impl<M: Memory + Drop> Engine<M> {
     /// What a quota may still take, in bytes.
     pub fn remaining(&self, quota: u32) -> u32
         requires quota { quota < length self.now.limits }
-        ensures { result ≡ limit_at self.now quota - charges quota self.now.objects }
+        ensures { result ≡ limit_at self.now quota - charges quota self.now.state.objects }
     {
         self.rows.heap.remaining(quota)
     }
 
     /// Whether an object is quarantined, painted or not.
     pub fn quarantined(&self) -> bool
-        ensures { result ≡ has_quarantined self.now.objects }
+        ensures { result ≡ has_quarantined self.now.state.objects }
     {
         self.rows.heap.quarantined()
     }

@@ -22,14 +22,14 @@ impl<M: Memory + Drop> Engine<M> {
     /// is none.
     pub fn find(&self, base: u32, top: u64) -> Option<Found>
         ensures { result
-            ≡ found_as self.now.objects (whole_at base top self.now.objects) }
+            ≡ found_as self.now.state.objects (whole_at base top self.now.state.objects) }
     {
         self.rows.heap.find(&self.mem, base, top)
     }
 
     /// Whether a number is a key's.
     pub fn is_key(&self, number: u32) -> bool
-        ensures { result ≡ list_any (is_key_row number) self.now.tokens }
+        ensures { result ≡ list_any (is_key_row number) self.now.state.tokens }
     {
         self.rows.tokens.is_key(number)
     }
@@ -37,8 +37,8 @@ impl<M: Memory + Drop> Engine<M> {
     /// Whether a key opens a token: the one has a key's row, and the row of the other names it.
     pub fn opens(&self, key: u32, token: u32) -> bool
         ensures { result
-            ≡ (list_any (is_key_row key) self.now.tokens
-            && list_any (is_row_of key token) self.now.tokens) }
+            ≡ (list_any (is_key_row key) self.now.state.tokens
+            && list_any (is_row_of key token) self.now.state.tokens) }
     {
         self.rows.tokens.opens(key, token)
     }
@@ -54,10 +54,11 @@ impl<M: Memory + Drop> Engine<M> {
         key: Option<u32>,
     ) -> Result<Object, HeapRefusal>
         requires quota { quota < length self.old.limits }
-        requires few { self.old.next ≤ MOST_STEPS }
-        requires rows { RowsFit self.old.objects self.old.tokens }
+        requires few { self.old.state.next ≤ MOST_STEPS }
+        requires rows { RowsFit self.old.state.objects self.old.state.tokens }
         ensures is { self.new ≡ after_sealing self.old quota size key result }
-        ensures answer { (i : Image) (m : State) → HasQuota i self.old quota → SharesObjects m self.old
+        ensures answer { (i : Image) (m : State)
+            → HasQuota i self.old quota → SharesObjects m self.old
             → allocation i m quota size ≡ allocation_told self.old quota size result }
         ensures told { IfOk result
             (λ o. IsTold self.new o (new_object self.old quota size o.base)) }

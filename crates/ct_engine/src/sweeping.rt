@@ -12,14 +12,14 @@ impl<M: Memory + Drop> Engine<M> {
     /// Whether a sweep runs, or is to begin.
     #[inline(always)]
     pub fn has_sweep(&self) -> bool
-        ensures { result ≡ is_some self.now.front || has_quarantined self.now.objects }
+        ensures { result ≡ is_some self.now.state.front || has_quarantined self.now.state.objects }
     {
         self.rows.front.running() || self.rows.heap.quarantined()
     }
 
     /// Where no sweep runs and an object is quarantined, a sweep begins: every quarantined object is painted.
     fn begin(&mut self)
-        ensures { self.new ≡ began self.old self.old.front }
+        ensures { self.new ≡ began self.old self.old.state.front }
     {
         if self.rows.front.running() {
             return;
@@ -31,7 +31,7 @@ impl<M: Memory + Drop> Engine<M> {
 
     /// The sweep ends: the painted objects leave, of which no capability is left.
     fn finish(&mut self)
-        requires { NoneLeft self.old.objects self.old }
+        requires { NoneLeft self.old.state.objects self.old }
         ensures { self.new ≡ over self.old }
     {
         self.rows.front.end();
@@ -40,11 +40,11 @@ impl<M: Memory + Drop> Engine<M> {
 
     /// Where a sweep runs, it passes `rate` granules, or those that are left, and ends where it has passed all of RAM.
     fn pass(&mut self, rate: u32)
-        requires left { (front : ℕ) → self.old.front ≡ Some front
+        requires left { (front : ℕ) → self.old.state.front ≡ Some front
             → size_of self.old ≤ slice_end self.old rate front
-            → NoneLeft self.old.objects
+            → NoneLeft self.old.state.objects
             (with_slice self.old front (slice_end self.old rate front)) }
-        ensures { self.new ≡ passed_on self.old rate self.old.front }
+        ensures { self.new ≡ passed_on self.old rate self.old.state.front }
     {
         if !self.rows.front.running() {
             return;

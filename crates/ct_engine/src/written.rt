@@ -15,7 +15,7 @@ ghost use Rattle.def_machine.specs.Frames.{answer, left_by};
 ghost use Rattle.def_step.specs.Switch.{Enters, switch_of, frame_top};
 ghost use Rattle.def_step.specs.Handlers.{is_handled};
 ghost use Rattle.ct_switch.specs.Exports.{callee_of};
-ghost use Rattle.ct_engine.specs.Seen.{Seen, limit_at};
+ghost use Rattle.ct_engine.specs.Seen.{EngineRow, limit_at};
 ghost use Rattle.ct_engine.specs.Calls.{HeadStands, switch_at, after_call, returned, ended_with};
 ghost use Rattle.ct_engine.specs.Handling.{is_handled_at, after_trap};
 ghost use Rattle.ct_engine.specs.Grants.{with_object, with_row, freed};
@@ -25,32 +25,32 @@ ghost use Rattle.ct_engine.specs.Written.{Shows, written, callee_thread, handler
 /// Where a state of the machine holds what is seen, a call comes to what the written switch comes to. Where it enters
 /// an export, the head of whose table is as boot made it, it leaves what the written one leaves.
 pub fn calls_written()
-    ensures comes { (i : Image) (m : State) (s : Seen) (t : ℕ) → Shows i m s t
+    ensures comes { (i : Image) (m : State) (s : EngineRow) (t : ℕ) → Shows i m s t
         → switch_at s i.entries t
         ≡ switch_of i.entries (stack_base i t) (frame_top (thread m t).frames) (frames_most i t)
         (thread m t) }
-    ensures enters { (i : Image) (m : State) (s : Seen) (t export high : ℕ)
+    ensures enters { (i : Image) (m : State) (s : EngineRow) (t export high : ℕ)
         → Shows i m s t → HeadStands i s t export
         → after_call s i.entries t (Enters export high)
-        ≡ written i m s t high (callee_thread i m t export high) s.running }
+        ≡ written i m s t high (callee_thread i m t export high) s.state.running }
 {}
 
 /// And so do a return and a frame's end with a value, as -1 is at an unwind: where a frame goes on, and where the last
 /// one ended.
 pub fn ends_written()
-    ensures back { (i : Image) (m : State) (s : Seen) (t : ℕ) (f g : Frame) (fs : List Frame)
+    ensures back { (i : Image) (m : State) (s : EngineRow) (t : ℕ) (f g : Frame) (fs : List Frame)
         → Shows i m s t → (thread m t).frames ≡ f ∷ g ∷ fs
         → returned s i.entries t
         ≡ written i m s t f.top
         (left_by i m (thread m t) f (g ∷ fs) (answer i (thread m t) f 10)
         (answer i (thread m t) f 11))
-        s.running }
-    ensures value { (i : Image) (m : State) (s : Seen) (t v : ℕ) (f g : Frame) (fs : List Frame)
-        → Shows i m s t → (thread m t).frames ≡ f ∷ g ∷ fs
+        s.state.running }
+    ensures value { (i : Image) (m : State) (s : EngineRow) (t v : ℕ)
+        (f g : Frame) (fs : List Frame) → Shows i m s t → (thread m t).frames ≡ f ∷ g ∷ fs
         → ended_with s t v
         ≡ written i m s t f.top (left_by i m (thread m t) f (g ∷ fs) (plain v) (plain 0))
-        s.running }
-    ensures last { (i : Image) (m : State) (s : Seen) (t v : ℕ) (f : Frame)
+        s.state.running }
+    ensures last { (i : Image) (m : State) (s : EngineRow) (t v : ℕ) (f : Frame)
         → Shows i m s t → (thread m t).frames ≡ f ∷ []
         → (returned s i.entries t ≡ written i m s t f.top nobody None)
         × (ended_with s t v ≡ written i m s t f.top nobody None) }
@@ -60,11 +60,11 @@ pub fn ends_written()
 /// written one leaves, where the head of the handler's table is as boot made it and the handler is that compartment's;
 /// else nothing changes.
 pub fn handlers_written()
-    ensures comes { (i : Image) (m : State) (s : Seen) (t : ℕ) (f : Frame) (fs : List Frame)
+    ensures comes { (i : Image) (m : State) (s : EngineRow) (t : ℕ) (f : Frame) (fs : List Frame)
         → Shows i m s t → (thread m t).frames ≡ f ∷ fs
         → is_handled_at s t (handler_entry i f.actor)
         ≡ is_handled i (stack_base i t) (thread m t) f }
-    ensures enters { (i : Image) (m : State) (s : Seen) (t : ℕ) (why : Trap) (f : Frame)
+    ensures enters { (i : Image) (m : State) (s : EngineRow) (t : ℕ) (why : Trap) (f : Frame)
         (fs : List Frame)
         → Shows i m s t → HeadStands i s t (handler_entry i f.actor)
         → callee_of i.entries (handler_entry i f.actor) ≡ f.actor
@@ -72,7 +72,7 @@ pub fn handlers_written()
         → is_handled i (stack_base i t) (thread m t) f ≡ true
         → after_trap s i.entries t (handler_entry i f.actor) why
         ≡ handler_seen i m s t why f fs }
-    ensures stays { (i : Image) (m : State) (s : Seen) (t : ℕ) (why : Trap) (f : Frame)
+    ensures stays { (i : Image) (m : State) (s : EngineRow) (t : ℕ) (why : Trap) (f : Frame)
         (fs : List Frame)
         → Shows i m s t → (thread m t).frames ≡ f ∷ fs
         → is_handled i (stack_base i t) (thread m t) f ≡ false
@@ -83,23 +83,24 @@ pub fn handlers_written()
 /// allocation, of a row that comes with it and of a free leave what `allocate`, `allocate_sealed` and `free` leave of
 /// that; and a quota may still take what `remaining` says.
 pub fn grants_written()
-    ensures allocates { (m : State) (s : Seen) (statuses : List Status) (r : Object)
+    ensures allocates { (m : State) (s : EngineRow) (statuses : List Status) (r : Object)
         → machine.with_object (state_with m s statuses) r
         ≡ state_with m (with_object s r) statuses }
-    ensures seals { (m : State) (s : Seen) (statuses : List Status) (r : Object) (key : Option ℕ)
+    ensures seals { (m : State) (s : EngineRow) (statuses : List Status) (r : Object)
+        (key : Option ℕ)
         → tokens.with_row (state_with m s statuses) r key
         ≡ state_with m (with_row s r.number key) statuses }
-    ensures frees { (i : Image) (m : State) (s : Seen) (statuses : List Status) (t : ℕ)
+    ensures frees { (i : Image) (m : State) (s : EngineRow) (statuses : List Status) (t : ℕ)
         (r : Object) → s.region.ram ≡ i.ram
         → let_go i (state_with m s statuses) t r ≡ state_with m (freed s t r) statuses }
-    ensures remains { (i : Image) (m : State) (s : Seen) (quota : ℕ) → HasHeap i s
+    ensures remains { (i : Image) (m : State) (s : EngineRow) (quota : ℕ) → HasHeap i s
         → SharesObjects m s → (root i quota).limit - charges quota m.objects
-        ≡ limit_at s quota - charges quota s.objects }
+        ≡ limit_at s quota - charges quota s.state.objects }
 {}
 
 /// A Sweep event leaves of a state of the machine that holds what is seen, whatever the statuses of its threads, what
 /// `sweep` at the image's rate leaves of that.
 pub fn sweeps_written()
-    ensures { (i : Image) (m : State) (s : Seen) (statuses : List Status) → HasAreas i s
+    ensures { (i : Image) (m : State) (s : EngineRow) (statuses : List Status) → HasAreas i s
         → swept i (state_with m s statuses) ≡ state_with m (swept_by s i.sweep) statuses }
 {}

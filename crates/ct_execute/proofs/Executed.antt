@@ -22,14 +22,14 @@ use Rattle.def_step.specs.Checks.{first_failed}
 use Rattle.def_step.specs.Devices.{DeviceStates}
 use Rattle.def_step.specs.Instructions.{Effect, actor_of, after_fetch, carried_out, deed, executed, fetch_checks, goes_on, instructed, instruction_end, next_at, put_done, space_of}
 use Rattle.def_step.specs.Operands.{class_of, operands_of}
-use Rattle.ct_engine.specs.Seen.{Seen, thread, after_jump, with_granules}
+use Rattle.ct_engine.specs.Seen.{EngineRow, thread, after_jump, with_granules}
 use Rattle.ct_engine.specs.Steps.{next_in, space_in}
 use Rattle.ct_execute.specs.declared.ran.Ran.{Ran}
 use Rattle.ct_execute.specs.declared.ran.Ran.TheVariants.{Went, Trapped}
 use Rattle.ct_execute.specs.Deciding.{act_by, deed_by, finished, platform_with, state_at, ExecutesAsWritten, IfUnfinished, IsCarriedOut, Leaves, RanInRange, Stays}
 use Rattle.ct_execute.proofs.Statuses.{changed_with, like_with}
 
-module _ (e : Listed) (t time : ℕ) (s : Seen) (k : DeviceStates) where
+module _ (e : Listed) (t time : ℕ) (s : EngineRow) (k : DeviceStates) where
   -- what stands where the program counter capability points
   pub record Fetches (c : Cap) (at : ℕ) (n : Next) : Type 0 where
     pub pcc : c ≡ (thread s t).pcc
@@ -52,7 +52,7 @@ module _ (e : Listed) (t time : ℕ) (s : Seen) (k : DeviceStates) where
 
     -- the scheduler's status is no part of what a thread does
     pcc_is : (thread s t).pcc ≡ (state.thread here t).pcc
-    pcc_is = ap (λ (u : Thread). u.pcc) (sym (like_with s.threads ss t Ready))
+    pcc_is = ap (λ (u : Thread). u.pcc) (sym (like_with s.state.threads ss t Ready))
 
     fetched_is : (c : Cap) (o : Option Trap) → c ≡ (thread s t).pcc → o ≡ first_failed (fetch_checks c) → after_fetch b here t o ≡ executed b here t
     unfolding executed
@@ -78,18 +78,18 @@ module _ (e : Listed) (t time : ℕ) (s : Seen) (k : DeviceStates) where
     instructed_is x same =
         ap (λ (es : Listed). end_of x es (thread s t) (space_in s k time)) same
         ∙ ap (λ (p : MemoryAndDevices). end_of x i.entries (thread s t) p) space_is
-        ∙ ap (λ (u : Thread). end_of x i.entries u (space_of b here)) (sym (like_with s.threads ss t Ready))
+        ∙ ap (λ (u : Thread). end_of x i.entries u (space_of b here)) (sym (like_with s.state.threads ss t Ready))
 
     done_is : (d : Effect) → state_at m (with_granules (after_jump s t d.pcc d.posture d.to d.value) d.granules) ss d.bank time ≡ put_done here t d
     done_is d =
         ap (λ (ts : List Thread). record here { granules = d.granules; threads = ts; devices = d.bank.states })
-        (sym (changed_with (λ (u : Thread). jumped u d.pcc d.posture d.to d.value) (λ u q. refl) s.threads ss t))
+        (sym (changed_with (λ (u : Thread). jumped u d.pcc d.posture d.to d.value) (λ u q. refl) s.state.threads ss t))
 
     deed_is : (entry : ℕ) (act : Option Act) → deed_by t (actor_of (state.thread here t).frames) (Went (option_map (act_by entry) act)) ≡ option_map (deed here t entry) act
     deed_is entry None = refl
     deed_is entry (Some act) = refl
 
-    left_is : (c : Cap) (r : Result Effect Trap) (new : Seen) (bank : DeviceStates) (ran : Ran) → Leaves r c.shadow.root t s k new bank ran
+    left_is : (c : Cap) (r : Result Effect Trap) (new : EngineRow) (bank : DeviceStates) (ran : Ran) → Leaves r c.shadow.root t s k new bank ran
         → finished b t (actor_of (state.thread here t).frames) (state_at m new ss bank time) ran ≡ instruction_end b here t c r
     left_is c (Ok d) new bank ran h =
         rw (h.0, h.1, h.2)
@@ -97,13 +97,13 @@ module _ (e : Listed) (t time : ℕ) (s : Seen) (k : DeviceStates) where
         ∙ ap (λ (x : State). (x, option_map (deed here t c.shadow.root) d.act)) (done_is d))
     left_is c (Err why) new bank ran h = rw (h.0, h.1, h.2) refl
 
-  leaves_same : (r : Result Effect Trap) (entry : ℕ) (new : Seen) (bank : DeviceStates) (ran : Ran) → Leaves r entry t s k new bank ran
+  leaves_same : (r : Result Effect Trap) (entry : ℕ) (new : EngineRow) (bank : DeviceStates) (ran : Ran) → Leaves r entry t s k new bank ran
       → IfUnfinished ran ((new ≡ s) × (bank ≡ k)) × RanInRange ran
   leaves_same (Ok d) entry new bank ran h = rw h.2 (tt, tt)
   leaves_same (Err why) entry new bank ran h = rw h.2 ((h.0, h.1), tt)
 
   -- an instruction
-  pub executes_one : (pcc : Cap) (at : ℕ) (x : Instr) (new : Seen) (bank : DeviceStates) (ran : Ran) → Fetches pcc at (Instruction x)
+  pub executes_one : (pcc : Cap) (at : ℕ) (x : Instr) (new : EngineRow) (bank : DeviceStates) (ran : Ran) → Fetches pcc at (Instruction x)
       → IsCarriedOut (root_of e (register (thread s t) (operands_of x).first).shadow.root).of t time x s k new bank ran
       → Stays s new → bank.bases ≡ k.bases → ExecutesAsWritten e t time s k new bank ran × RanInRange ran
   executes_one pcc at x new bank ran f h stays bases =

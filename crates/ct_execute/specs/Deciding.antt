@@ -21,7 +21,7 @@ use Rattle.def_step.specs.Native.{native}
 use Rattle.ct_decode.specs.Reading.{AreRegisters}
 use Rattle.ct_threads.specs.Steps.{IsRoutine}
 use Rattle.ct_burst.specs.Going.{outcome}
-use Rattle.ct_engine.specs.Seen.{Seen, thread, after_jump, with_granules}
+use Rattle.ct_engine.specs.Seen.{EngineRow, thread, after_jump, with_granules}
 use Rattle.ct_engine.specs.Written.{state_with}
 use Rattle.ct_execute.specs.declared.ran.ActBy.{ActBy}
 use Rattle.ct_execute.specs.declared.ran.Ran.{Ran}
@@ -74,19 +74,24 @@ abbrev pub platform_with : Image → DeviceStates → Platform
 platform_with i k = record { image = i; bases = k.bases }
 
 -- the state where this is seen, with these devices at a time
-abbrev pub state_at : State → Seen → List Status → DeviceStates → ℕ → State
+abbrev pub state_at : State → EngineRow → List Status → DeviceStates → ℕ → State
 state_at m s ss k time = record (state_with m s ss) { devices = k.states; time = time }
 
 -- what no instruction changes of an engine
-pub record Stays (s new : Seen) : Type 0 where
-  pub beside : new ≡ record s { granules = new.granules; threads = new.threads }
-  pub size : length new.granules ≡ length s.granules
-  pub threads : length new.threads ≡ length s.threads
+pub record Stays (s new : EngineRow) : Type 0 where
+  pub beside : new ≡ record s {
+    state = record s.state {
+      granules = new.state.granules;
+      threads = new.state.threads;
+    };
+  }
+  pub size : length new.state.granules ≡ length s.state.granules
+  pub threads : length new.state.threads ≡ length s.state.threads
 
 -- Thread t of an engine with these devices at a time carried on, and the code came to this, which left these. With what
 -- is left to do that is the written step of each image whose entries they are, in each state that holds what is seen.
 -- Where something is left to do, nothing has changed.
-pub record ExecutesAsWritten (e : Listed) (t time : ℕ) (s : Seen) (k : DeviceStates) (new : Seen)
+pub record ExecutesAsWritten (e : Listed) (t time : ℕ) (s : EngineRow) (k : DeviceStates) (new : EngineRow)
     (bank : DeviceStates) (ran : Ran) : Type 0 where
   pub comes : (i : Image) (m : State) (ss : List Status) → s.region.ram ≡ i.ram → e ≡ i.entries
       → finished (platform_with i k) t
@@ -99,7 +104,7 @@ pub record ExecutesAsWritten (e : Listed) (t time : ℕ) (s : Seen) (k : DeviceS
 -- ---- an instruction, from what it comes to over the thread and what is around it
 
 -- what the code leaves of the engine and of the devices, and answers, where the capability that was used has this root
-abbrev pub Leaves : Result Effect words.Trap → ℕ → ℕ → Seen → DeviceStates → Seen → DeviceStates → Ran
+abbrev pub Leaves : Result Effect words.Trap → ℕ → ℕ → EngineRow → DeviceStates → EngineRow → DeviceStates → Ran
     → Type 0
 Leaves (Ok d) entry t s k new bank r =
     (new ≡ with_granules (after_jump s t d.pcc d.posture d.to d.value) d.granules) × (bank ≡ d.bank)
@@ -107,9 +112,9 @@ Leaves (Ok d) entry t s k new bank r =
 Leaves (Err why) entry t s k new bank r = (new ≡ s) × (bank ≡ k) × (r ≡ Trapped why)
 
 -- the same of an instruction of thread t, where the root of its first source names this export
-abbrev pub IsCarriedOut : ℕ → ℕ → ℕ → Instr → Seen → DeviceStates → Seen → DeviceStates → Ran → Type 0
+abbrev pub IsCarriedOut : ℕ → ℕ → ℕ → Instr → EngineRow → DeviceStates → EngineRow → DeviceStates → Ran → Type 0
 IsCarriedOut named t time i s k new bank r =
-    Leaves (outcome s.region.ram (thread s t) s.granules i named k time)
+    Leaves (outcome s.region.ram (thread s t) s.state.granules i named k time)
     (register (thread s t) (operands_of i).first).shadow.root t s k new bank r
 
 -- an instruction of the table has these operands, each a register's number

@@ -31,7 +31,7 @@ use def_step::{Class, Operands};
 
 /// Execution goes on after the instruction, and a register gets a value.
 fn advance<M: Memory + Drop>(engine: &mut Engine<M>, t: u32, to: u32, value: Live)
-    requires runs { engine.old.running ≡ Some t }
+    requires runs { engine.old.state.running ≡ Some t }
     requires to { to < 16 }
     ensures { engine.new ≡ advanced engine.old t to value }
 {
@@ -59,7 +59,7 @@ fn execute_jump<M: Memory + Drop>(
     engine: &mut Engine<M>,
     t: u32,
 ) -> Ran
-    requires runs { engine.old.running ≡ Some t }
+    requires runs { engine.old.state.running ≡ Some t }
     requires has { HasOperands instruction operands }
     requires class { class_of instruction ≡ kinds.Jump }
     requires jump { is_jump instruction ≡ true }
@@ -123,7 +123,7 @@ fn execute_value<M: Memory + Drop>(
     engine: &mut Engine<M>,
     t: u32,
 ) -> Ran
-    requires runs { engine.old.running ≡ Some t }
+    requires runs { engine.old.state.running ≡ Some t }
     requires has { HasOperands instruction operands }
     requires is { class ≡ class_of instruction }
     requires jump { class ≡ kinds.Jump → ⊥ }

@@ -24,7 +24,7 @@ use Rattle.ct_sched.specs.Sched.{SchedRow}
 use Rattle.ct_switch.specs.declared.calls.Called.{Called}
 use Rattle.ct_switch.specs.Calls.{call_outcome}
 use Rattle.ct_engine.specs.Seen as engine
-use Rattle.ct_engine.specs.Seen.{area_at, Seen}
+use Rattle.ct_engine.specs.Seen.{area_at, EngineRow}
 use Rattle.ct_engine.specs.Calls.{HeadStands, switch_at, after_call}
 use Rattle.ct_engine.specs.Written.{Shows, callee_thread}
 use Rattle.ct_engine.proofs.AsWritten.{enters_is}
@@ -39,12 +39,12 @@ use Rattle.ct_machine.proofs.Keeping.{machine_by, same_kept}
 use Rattle.ct_machine.proofs.Opened.{placed_at}
 use Rattle.ct_services.proofs.Serving.{answers_alike, register_alike}
 
-module _ (i : Image) (e : Seen) (r : SchedRow) (k : DeviceStates) (pending : Bool) (time : ℕ) (c : Counts) (t : ℕ) (kept : IsKept i e r)
+module _ (i : Image) (e : EngineRow) (r : SchedRow) (k : DeviceStates) (pending : Bool) (time : ℕ) (c : Counts) (t : ℕ) (kept : IsKept i e r)
     (base : (area_at e t).stack ≡ stack_base i t) (most : areas.frames_most (area_at e t) ≡ frames_most i t) where
   abbrev here : State
   here = state_by e r pending k.states time c
 
-  abbrev machine : Seen → MachineRow
+  abbrev machine : EngineRow → MachineRow
   machine x = machine_by i x r k pending time c
 
   -- what the written switch comes to
@@ -56,13 +56,13 @@ module _ (i : Image) (e : Seen) (r : SchedRow) (k : DeviceStates) (pending : Boo
       ap (λ (es : Listed). switch_at e es t) same
       ∙ ap (λ n. switch_of i.entries n (frame_top (engine.thread e t).frames) (areas.frames_most (area_at e t)) (engine.thread e t)) base
       ∙ ap (λ n. switch_of i.entries (stack_base i t) (frame_top (engine.thread e t).frames) n (engine.thread e t)) most
-      ∙ ap (λ (u : Thread). switch_of i.entries (stack_base i t) (frame_top u.frames) (frames_most i t) u) (sym (like_with e.threads r.statuses t Ended))
+      ∙ ap (λ (u : Thread). switch_of i.entries (stack_base i t) (frame_top u.frames) (frames_most i t) u) (sym (like_with e.state.threads r.statuses t Ended))
 
   -- ---- where it enters
 
   -- the engine's threads as a state's, all else the same
   abbrev twin : State
-  twin = record here { threads = e.threads }
+  twin = record here { threads = e.state.threads }
 
   shows : Shows i twin e t
   shows = record { ram = ram_is i e r kept; granules = refl; thread = refl; stack = base; frames = most }
@@ -72,16 +72,16 @@ module _ (i : Image) (e : Seen) (r : SchedRow) (k : DeviceStates) (pending : Boo
 
   enters_so : (export high : ℕ) → HeadStands i e t export
       → state_by ((after_call e i.entries t (Enters export high))) r pending k.states time c
-      ≡ frames.switched i here t high (entered i (thread here t) (callee export) export high (callee_start i (thread here t) t (callee export) export high)) e.running
+      ≡ frames.switched i here t high (entered i (thread here t) (callee export) export high (callee_start i (thread here t) t (callee export) export high)) e.state.running
   enters_so export high heads =
-      let there : with_statuses (set e.threads t (callee_thread i twin t export high)) r.statuses
-      ≡ set (with_statuses e.threads r.statuses) t (entered i (thread here t) (callee export) export high (callee_start i (thread here t) t (callee export) export high)) =
-      sym (changed_with (λ (u : Thread). entered i u (callee export) export high (callee_start i u t (callee export) export high)) (λ u q. refl) e.threads r.statuses t) in
-      ap (λ (x : Seen). state_by (x) r pending k.states time c) (enters_is i twin e t export high shows heads) ∙ rw there refl
+      let there : with_statuses (set e.state.threads t (callee_thread i twin t export high)) r.statuses
+      ≡ set (with_statuses e.state.threads r.statuses) t (entered i (thread here t) (callee export) export high (callee_start i (thread here t) t (callee export) export high)) =
+      sym (changed_with (λ (u : Thread). entered i u (callee export) export high (callee_start i u t (callee export) export high)) (λ u q. refl) e.state.threads r.statuses t) in
+      ap (λ (x : EngineRow). state_by (x) r pending k.states time c) (enters_is i twin e t export high shows heads) ∙ rw there refl
 
   -- ---- what a call came to
 
-  came_so : (w : Switched) (e' : Seen) (x : Called) → ((export high : ℕ) → w ≡ Enters export high → HeadStands i e t export) → x ≡ call_outcome (register (engine.thread e t) 6) w → e' ≡ switched_in e i.entries t w
+  came_so : (w : Switched) (e' : EngineRow) (x : Called) → ((export high : ℕ) → w ≡ Enters export high → HeadStands i e t export) → x ≡ call_outcome (register (engine.thread e t) 6) w → e' ≡ switched_in e i.entries t w
       → CameTo (machine e) (machine e') t (ran_by_call x) (ran (machine e).board here t (switched_to i here t w))
   came_so (Trapped why) e' x heads told_is now = rw (told_is, now) (record { is = refl; board = refl; counts = refl; unfinished = refl })
   came_so TooDeep e' x heads told_is now = rw (told_is, now, answers_alike here e r.statuses t (code 12)) (record { is = refl; board = refl; counts = refl; unfinished = tt })
@@ -91,13 +91,13 @@ module _ (i : Image) (e : Seen) (r : SchedRow) (k : DeviceStates) (pending : Boo
       let six : (register (engine.thread e t) 6).shadow.root ≡ (register (thread here t) 6).shadow.root = ap (λ (z : Cap). z.shadow.root) (register_alike here e r.statuses t 6) in
       rw (told_is, now) (record {
         is = ap (λ (s : State). (s, Some (deed here t (register (engine.thread e t) 6).shadow.root (Call export)))) left
-            ∙ ap (λ n. (frames.switched i here t high (entered i (thread here t) (callee export) export high (callee_start i (thread here t) t (callee export) export high)) e.running, Some (deed here t n (Call export)))) six;
+            ∙ ap (λ n. (frames.switched i here t high (entered i (thread here t) (callee export) export high (callee_start i (thread here t) t (callee export) export high)) e.state.running, Some (deed here t n (Call export)))) six;
         board = refl;
         counts = refl;
         unfinished = tt;
       })
 
-  pub came_call : (entries : Listed) (e' : Seen) (x : Called) → entries ≡ i.entries → ((export high : ℕ) → switch_at e i.entries t ≡ Enters export high → HeadStands i e t export)
+  pub came_call : (entries : Listed) (e' : EngineRow) (x : Called) → entries ≡ i.entries → ((export high : ℕ) → switch_at e i.entries t ≡ Enters export high → HeadStands i e t export)
       → x ≡ call_outcome (register (engine.thread e t) 6) (switch_at e entries t) → e' ≡ switched_in e entries t (switch_at e entries t)
       → CameTo (machine e) (machine e') t (ran_by_call x) (ran (machine e).board here t (switch i here t))
   came_call entries e' x same heads told_is now =
@@ -107,19 +107,19 @@ module _ (i : Image) (e : Seen) (r : SchedRow) (k : DeviceStates) (pending : Boo
 
   -- ---- what it asks, and what is kept
 
-  kept_so_far : (w : Switched) (e' : Seen) → e' ≡ switched_in e i.entries t w → IsKept i e' r
-  kept_so_far (Trapped why) e' now = subst (λ (x : Seen). IsKept i x r) (sym now) kept
-  kept_so_far TooDeep e' now = subst (λ (x : Seen). IsKept i x r) (sym now) (same_kept i e (answered_in e t (code 12)) r kept refl refl (length-set e.threads t _) kept.ready)
-  kept_so_far NoStack e' now = subst (λ (x : Seen). IsKept i x r) (sym now) (same_kept i e (answered_in e t (code 11)) r kept refl refl (length-set e.threads t _) kept.ready)
+  kept_so_far : (w : Switched) (e' : EngineRow) → e' ≡ switched_in e i.entries t w → IsKept i e' r
+  kept_so_far (Trapped why) e' now = subst (λ (x : EngineRow). IsKept i x r) (sym now) kept
+  kept_so_far TooDeep e' now = subst (λ (x : EngineRow). IsKept i x r) (sym now) (same_kept i e (answered_in e t (code 12)) r kept refl refl (length-set e.state.threads t _) kept.ready)
+  kept_so_far NoStack e' now = subst (λ (x : EngineRow). IsKept i x r) (sym now) (same_kept i e (answered_in e t (code 11)) r kept refl refl (length-set e.state.threads t _) kept.ready)
   kept_so_far (Enters export high) e' now =
-      subst (λ (x : Seen). IsKept i x r) (sym now)
-      (same_kept i e (after_call e i.entries t (Enters export high)) r kept refl (zeroed_length (area_at e t).stack high e.region.ram e.granules) (length-set e.threads t _) kept.ready)
+      subst (λ (x : EngineRow). IsKept i x r) (sym now)
+      (same_kept i e (after_call e i.entries t (Enters export high)) r kept refl (zeroed_length (area_at e t).stack high e.region.ram e.state.granules) (length-set e.state.threads t _) kept.ready)
 
-  pub call_kept : (entries : Listed) (e' : Seen) → entries ≡ i.entries → e' ≡ switched_in e entries t (switch_at e entries t) → IsKept i e' r
+  pub call_kept : (entries : Listed) (e' : EngineRow) → entries ≡ i.entries → e' ≡ switched_in e entries t (switch_at e entries t) → IsKept i e' r
   call_kept entries e' same now = kept_so_far (switch_at e entries t) e' (now ∙ ap (λ (es : Listed). (switched_in e es t (switch_at e entries t))) same)
 
 -- what an engine shows of the thread that calls
-pub shows_caller : (i : Image) (e : Seen) (r : SchedRow) (pending : Bool) (devices : List DeviceState) (time : ℕ) (c : Counts) (t : ℕ) → IsKept i e r → IsOfSound i → Confined i (state_by e r pending devices time c)
+pub shows_caller : (i : Image) (e : EngineRow) (r : SchedRow) (pending : Bool) (devices : List DeviceState) (time : ℕ) (c : Counts) (t : ℕ) → IsKept i e r → IsOfSound i → Confined i (state_by e r pending devices time c)
     → 0 < length (engine.thread e t).frames → ShowsCaller i (state_by e r pending devices time c) e t
 shows_caller i e r pending devices time c t kept sound confined some = record {
   parts = sound.parts;
@@ -130,6 +130,6 @@ shows_caller i e r pending devices time c t kept sound confined some = record {
   heap = kept.heap.base;
   granules = refl;
   placed = placed_at i e r pending devices time c t kept some;
-  registers = ap (λ (u : Thread). u.registers) (sym (like_with e.threads r.statuses t Ended));
-  frames = sym (frames_with e.threads r.statuses t);
+  registers = ap (λ (u : Thread). u.registers) (sym (like_with e.state.threads r.statuses t Ended));
+  frames = sym (frames_with e.state.threads r.statuses t);
 }

@@ -26,7 +26,7 @@ use Rattle.ct_sched.specs.Sched as sched
 use Rattle.ct_sched.specs.Sched.{SchedRow}
 use Rattle.ct_threads.specs.Handling.{record_place}
 use Rattle.ct_engine.specs.Seen as engine
-use Rattle.ct_engine.specs.Seen.{area_at, Seen}
+use Rattle.ct_engine.specs.Seen.{area_at, EngineRow}
 use Rattle.ct_switch.specs.Exports.{callee_of}
 use Rattle.law_events.proofs.Entered.{says}
 use Rattle.ct_engine.specs.Calls as calls
@@ -44,59 +44,59 @@ use Rattle.ct_machine.proofs.Taking.{ram_is, frames_with}
 
 -- the error handler of a compartment, where it has one: it is of that compartment, and its table's head is as boot made
 -- it
-pub record Handles (i : Image) (e : Seen) (t actor handler : ℕ) : Type 0 where
+pub record Handles (i : Image) (e : EngineRow) (t actor handler : ℕ) : Type 0 where
   pub is : handler ≡ handler_entry i actor
   pub own : (handler_entry i actor ≡ 0 → ⊥) → callee_of i.entries (handler_entry i actor) ≡ actor
   pub heads : (handler_entry i actor ≡ 0 → ⊥) → HeadStands i e t (handler_entry i actor)
 
 -- the stack stands where the image has it, the actor is the frame's, and the error handler is the actor's
-pub record Ends (i : Image) (e : Seen) (s : State) (t actor handler : ℕ) : Type 0 where
+pub record Ends (i : Image) (e : EngineRow) (s : State) (t actor handler : ℕ) : Type 0 where
   pub base : (area_at e t).stack ≡ stack_base i t
   pub some : 0 < length (engine.thread e t).frames
   pub acts : actor ≡ actor_of (thread s t).frames
   pub handles : Handles i e t actor handler
 
-module _ (i : Image) (e : Seen) (r : SchedRow) (pending : Bool) (devices : List DeviceState) (time : ℕ) (c : Counts) (t : ℕ) (kept : IsKept i e r) where
+module _ (i : Image) (e : EngineRow) (r : SchedRow) (pending : Bool) (devices : List DeviceState) (time : ℕ) (c : Counts) (t : ℕ) (kept : IsKept i e r) where
   -- what the code leaves is this state, beside which all is kept, and no object is made
-  pub record Leaves (new : Seen) (row : SchedRow) (x : State) : Type 0 where
+  pub record Leaves (new : EngineRow) (row : SchedRow) (x : State) : Type 0 where
     pub is : state_by new row pending devices time c ≡ x
     pub stands : IsKept i new row
-    pub next : new.next ≡ e.next
+    pub next : new.state.next ≡ e.state.next
 
   -- its last frame ends
   ended_one : (f : Frame) → (area_at e t).stack ≡ stack_base i t
       → Leaves (calls.switched e t f.top nobody None) (sched.with_statuses r (slice_set r.statuses t Ended))
       (frames.switched i (state_by e r pending devices time c) t f.top nobody None)
   ended_one f base = record {
-    is = rw (set_both e.threads r.statuses t nobody Ended kept.statuses, base, ram_is i e r kept) refl;
+    is = rw (set_both e.state.threads r.statuses t nobody Ended kept.statuses, base, ram_is i e r kept) refl;
     stands = switched_kept i e r t f.top nobody None (set r.statuses t Ended) kept (length-set r.statuses t Ended) (none_runs (calls.switched e t f.top nobody None) (set r.statuses t Ended) refl);
     next = refl;
   }
 
   -- one ends above others
   ended_more : (f : Frame) (fs : List Frame) (first second : Cap) → (area_at e t).stack ≡ stack_base i t
-      → Leaves (calls.switched e t f.top (left_with (filtered_in e.region.ram e.granules) (get_or e.threads t nobody) f fs first second) e.running) r
-      (frames.switched i (state_by e r pending devices time c) t f.top (left_by i (state_by e r pending devices time c) (get_or (with_statuses e.threads r.statuses) t nobody) f fs first second) e.running)
+      → Leaves (calls.switched e t f.top (left_with (filtered_in e.region.ram e.state.granules) (get_or e.state.threads t nobody) f fs first second) e.state.running) r
+      (frames.switched i (state_by e r pending devices time c) t f.top (left_by i (state_by e r pending devices time c) (get_or (with_statuses e.state.threads r.statuses) t nobody) f fs first second) e.state.running)
   ended_more f fs first second base =
-      let there : with_statuses (set e.threads t (left_with (filtered_in e.region.ram e.granules) (get_or e.threads t nobody) f fs first second)) r.statuses
-      ≡ set (with_statuses e.threads r.statuses) t (left_with (filtered_in e.region.ram e.granules) (get_or (with_statuses e.threads r.statuses) t nobody) f fs first second) =
-      sym (changed_with (λ (x : Thread). left_with (filtered_in e.region.ram e.granules) x f fs first second) (λ x q. refl) e.threads r.statuses t) in
+      let there : with_statuses (set e.state.threads t (left_with (filtered_in e.region.ram e.state.granules) (get_or e.state.threads t nobody) f fs first second)) r.statuses
+      ≡ set (with_statuses e.state.threads r.statuses) t (left_with (filtered_in e.region.ram e.state.granules) (get_or (with_statuses e.state.threads r.statuses) t nobody) f fs first second) =
+      sym (changed_with (λ (x : Thread). left_with (filtered_in e.region.ram e.state.granules) x f fs first second) (λ x q. refl) e.state.threads r.statuses t) in
       record {
         is = rw (there, base, ram_is i e r kept) refl;
-        stands = switched_kept i e r t f.top (left_with (filtered_in e.region.ram e.granules) (get_or e.threads t nobody) f fs first second) e.running r.statuses kept refl kept.ready;
+        stands = switched_kept i e r t f.top (left_with (filtered_in e.region.ram e.state.granules) (get_or e.state.threads t nobody) f fs first second) e.state.running r.statuses kept refl kept.ready;
         next = refl;
       }
 
   -- the return
   returned_by : (entries : Listed) (fs : List Frame) → entries ≡ i.entries → (area_at e t).stack ≡ stack_base i t → 0 < length fs
-      → Leaves (calls.ended_by e t (λ f. answer_by entries (get_or e.threads t nobody) f 10) (λ f. answer_by entries (get_or e.threads t nobody) f 11) fs) (status_after (nat_lt 1 (length fs)) r t)
+      → Leaves (calls.ended_by e t (λ f. answer_by entries (get_or e.state.threads t nobody) f 10) (λ f. answer_by entries (get_or e.state.threads t nobody) f 11) fs) (status_after (nat_lt 1 (length fs)) r t)
       (frames.returned i (state_by e r pending devices time c) t fs)
   returned_by entries [] same base some = absurd (omega (arith, some))
   returned_by entries (f ∷ []) same base some = ended_one f base
   returned_by entries (f ∷ g ∷ fs) same base some =
-      let alike : (n : ℕ) → answer_by entries (get_or e.threads t nobody) f n ≡ answer_by i.entries (get_or (with_statuses e.threads r.statuses) t nobody) f n =
-      λ n. ap (λ (es : Listed). answer_by es (get_or e.threads t nobody) f n) same ∙ ap (λ (x : Thread). answer_by i.entries x f n) (sym (like_with e.threads r.statuses t Ended)) in
-      rw (two_more (length fs), alike 10, alike 11) (ended_more f (g ∷ fs) (answer_by i.entries (get_or (with_statuses e.threads r.statuses) t nobody) f 10) (answer_by i.entries (get_or (with_statuses e.threads r.statuses) t nobody) f 11) base)
+      let alike : (n : ℕ) → answer_by entries (get_or e.state.threads t nobody) f n ≡ answer_by i.entries (get_or (with_statuses e.state.threads r.statuses) t nobody) f n =
+      λ n. ap (λ (es : Listed). answer_by es (get_or e.state.threads t nobody) f n) same ∙ ap (λ (x : Thread). answer_by i.entries x f n) (sym (like_with e.state.threads r.statuses t Ended)) in
+      rw (two_more (length fs), alike 10, alike 11) (ended_more f (g ∷ fs) (answer_by i.entries (get_or (with_statuses e.state.threads r.statuses) t nobody) f 10) (answer_by i.entries (get_or (with_statuses e.state.threads r.statuses) t nobody) f 11) base)
 
   -- the end with a value
   valued_by : (value : ℕ) (fs : List Frame) → (area_at e t).stack ≡ stack_base i t → 0 < length fs
@@ -115,50 +115,50 @@ module _ (i : Image) (e : Seen) (r : SchedRow) (pending : Bool) (devices : List 
   either P true false u v same yes_case no_case = absurd cc
   either P false true u v same yes_case no_case = absurd cc
 
-  value_alike : handler_value (get_or e.threads t nobody) ≡ handler_value (get_or (with_statuses e.threads r.statuses) t nobody)
-  value_alike = ap (λ (x : Thread). handler_value x) (sym (like_with e.threads r.statuses t Ended))
+  value_alike : handler_value (get_or e.state.threads t nobody) ≡ handler_value (get_or (with_statuses e.state.threads r.statuses) t nobody)
+  value_alike = ap (λ (x : Thread). handler_value x) (sym (like_with e.state.threads r.statuses t Ended))
 
   return_by : (entries : Listed) (fs : List Frame) → entries ≡ i.entries → (area_at e t).stack ≡ stack_base i t → 0 < length fs
-      → Leaves (cond (is_marked fs) (calls.ended_by e t (λ f. plain (handler_value (get_or e.threads t nobody))) (λ f. plain 0) fs)
-      (calls.ended_by e t (λ f. answer_by entries (get_or e.threads t nobody) f 10) (λ f. answer_by entries (get_or e.threads t nobody) f 11) fs)) (status_after (nat_lt 1 (length fs)) r t)
+      → Leaves (cond (is_marked fs) (calls.ended_by e t (λ f. plain (handler_value (get_or e.state.threads t nobody))) (λ f. plain 0) fs)
+      (calls.ended_by e t (λ f. answer_by entries (get_or e.state.threads t nobody) f 10) (λ f. answer_by entries (get_or e.state.threads t nobody) f 11) fs)) (status_after (nat_lt 1 (length fs)) r t)
       (return_taken i (state_by e r pending devices time c) t fs)
   return_by entries [] same base some = absurd (omega (arith, some))
   return_by entries (f ∷ fs) same base some =
-      either (λ b z. Leaves (cond b (calls.ended_by e t (λ g. plain (handler_value (get_or e.threads t nobody))) (λ g. plain 0) (f ∷ fs))
-      (calls.ended_by e t (λ g. answer_by entries (get_or e.threads t nobody) g 10) (λ g. answer_by entries (get_or e.threads t nobody) g 11) (f ∷ fs))) (status_after (nat_lt 1 (length (f ∷ fs))) r t) z)
+      either (λ b z. Leaves (cond b (calls.ended_by e t (λ g. plain (handler_value (get_or e.state.threads t nobody))) (λ g. plain 0) (f ∷ fs))
+      (calls.ended_by e t (λ g. answer_by entries (get_or e.state.threads t nobody) g 10) (λ g. answer_by entries (get_or e.state.threads t nobody) g 11) (f ∷ fs))) (status_after (nat_lt 1 (length (f ∷ fs))) r t) z)
       f.handling f.handling
-      (frames.ended_with i (state_by e r pending devices time c) t (handler_value (get_or (with_statuses e.threads r.statuses) t nobody)) (f ∷ fs))
+      (frames.ended_with i (state_by e r pending devices time c) t (handler_value (get_or (with_statuses e.state.threads r.statuses) t nobody)) (f ∷ fs))
       (frames.returned i (state_by e r pending devices time c) t (f ∷ fs)) refl
-      (λ is. subst (λ n. Leaves (calls.ended_by e t (λ g. plain (handler_value (get_or e.threads t nobody))) (λ g. plain 0) (f ∷ fs)) (status_after (nat_lt 1 (length (f ∷ fs))) r t)
-      (frames.ended_with i (state_by e r pending devices time c) t n (f ∷ fs))) value_alike (valued_by (handler_value (get_or e.threads t nobody)) (f ∷ fs) base some))
+      (λ is. subst (λ n. Leaves (calls.ended_by e t (λ g. plain (handler_value (get_or e.state.threads t nobody))) (λ g. plain 0) (f ∷ fs)) (status_after (nat_lt 1 (length (f ∷ fs))) r t)
+      (frames.ended_with i (state_by e r pending devices time c) t n (f ∷ fs))) value_alike (valued_by (handler_value (get_or e.state.threads t nobody)) (f ∷ fs) base some))
       (λ not_. returned_by entries (f ∷ fs) same base some)
 
   -- a handler is entered where the written one is
   handled_alike : (f : Frame) (handler : ℕ) → handler ≡ handler_entry i f.actor → (area_at e t).stack ≡ stack_base i t
-      → is_handled_by handler (area_at e t).stack (get_or e.threads t nobody) f ≡ is_handled i (stack_base i t) (get_or (with_statuses e.threads r.statuses) t nobody) f
+      → is_handled_by handler (area_at e t).stack (get_or e.state.threads t nobody) f ≡ is_handled i (stack_base i t) (get_or (with_statuses e.state.threads r.statuses) t nobody) f
   handled_alike f handler is base =
-      ap (λ n. is_handled_by n (area_at e t).stack (get_or e.threads t nobody) f) is
-      ∙ ap (λ n. is_handled_by (handler_entry i f.actor) n (get_or e.threads t nobody) f) base
-      ∙ ap (λ (x : Thread). is_handled_by (handler_entry i f.actor) (stack_base i t) x f) (sym (like_with e.threads r.statuses t Ended))
+      ap (λ n. is_handled_by n (area_at e t).stack (get_or e.state.threads t nobody) f) is
+      ∙ ap (λ n. is_handled_by (handler_entry i f.actor) n (get_or e.state.threads t nobody) f) base
+      ∙ ap (λ (x : Thread). is_handled_by (handler_entry i f.actor) (stack_base i t) x f) (sym (like_with e.state.threads r.statuses t Ended))
 
   handler_by : (entries : Listed) (handler : ℕ) (why : words.Trap) (f : Frame) (fs : List Frame) → entries ≡ i.entries → handler ≡ handler_entry i f.actor
       → HeadStands i e t (handler_entry i f.actor) → callee_of i.entries (handler_entry i f.actor) ≡ f.actor
       → Leaves (handler_begun e entries t handler why (f ∷ fs)) r (handler_entered i (state_by e r pending devices time c) t why f fs)
   handler_by entries handler why f fs same is heads own =
-      let old : Thread = get_or e.threads t nobody in
-      let new : Thread = get_or (with_statuses e.threads r.statuses) t nobody in
+      let old : Thread = get_or e.state.threads t nobody in
+      let new : Thread = get_or (with_statuses e.state.threads r.statuses) t nobody in
       let whole : List Granule → List Thread → State = λ gs ts. record (state_by e r pending devices time c) { granules = gs; threads = ts } in
-      let written : ℕ → Thread → List Granule = λ n x. words_written e.granules (record_place n (register x 2)) (record_words x why) in
-      let begun : Handed → List Thread = λ h. with_statuses (set e.threads t (handled_by h (get_or e.threads t nobody) why f fs)) r.statuses in
+      let written : ℕ → Thread → List Granule = λ n x. words_written e.state.granules (record_place n (register x 2)) (record_words x why) in
+      let begun : Handed → List Thread = λ h. with_statuses (set e.state.threads t (handled_by h (get_or e.state.threads t nobody) why f fs)) r.statuses in
       let made : handed_at e entries handler ≡ handed i f.actor =
       ap (λ (es : Listed). handed_at e es handler) same ∙ ap (λ n. handed_at e i.entries n) is ∙ handed_made i e t f.actor heads own in
-      let there : with_statuses (set e.threads t (handled_by (handed i f.actor) (get_or e.threads t nobody) why f fs)) r.statuses
-      ≡ set (with_statuses e.threads r.statuses) t (handled i (get_or (with_statuses e.threads r.statuses) t nobody) why f fs) =
-      sym (changed_with (λ (x : Thread). handled_by (handed i f.actor) x why f fs) (λ x q. refl) e.threads r.statuses t) in
+      let there : with_statuses (set e.state.threads t (handled_by (handed i f.actor) (get_or e.state.threads t nobody) why f fs)) r.statuses
+      ≡ set (with_statuses e.state.threads r.statuses) t (handled i (get_or (with_statuses e.state.threads r.statuses) t nobody) why f fs) =
+      sym (changed_with (λ (x : Thread). handled_by (handed i f.actor) x why f fs) (λ x q. refl) e.state.threads r.statuses t) in
       record {
         is = ap (λ (h : Handed). whole (written e.region.ram old) (begun h)) made
             ∙ ap (λ n. whole (written n old) (begun (handed i f.actor))) (ram_is i e r kept)
-            ∙ ap (λ (x : Thread). whole (written i.ram x) (begun (handed i f.actor))) (sym (like_with e.threads r.statuses t Ended))
+            ∙ ap (λ (x : Thread). whole (written i.ram x) (begun (handed i f.actor))) (sym (like_with e.state.threads r.statuses t Ended))
             ∙ ap (λ (ts : List Thread). whole (written i.ram new) ts) there;
         stands = begun_kept i e r entries t handler why f fs kept;
         next = refl;
@@ -173,7 +173,7 @@ module _ (i : Image) (e : Seen) (r : SchedRow) (pending : Bool) (devices : List 
   trap_by entries handler why (f ∷ fs) same base handles some =
       either (λ b z. Leaves (cond b (handler_begun e entries t handler why (f ∷ fs)) (calls.ended_by e t (λ g. plain UNWOUND) (λ g. plain 0) (f ∷ fs)))
       (status_after (cond b true (nat_lt 1 (length (f ∷ fs)))) r t) z)
-      (is_handled_by handler (area_at e t).stack (get_or e.threads t nobody) f) (is_handled i (stack_base i t) (get_or (with_statuses e.threads r.statuses) t nobody) f)
+      (is_handled_by handler (area_at e t).stack (get_or e.state.threads t nobody) f) (is_handled i (stack_base i t) (get_or (with_statuses e.state.threads r.statuses) t nobody) f)
       (handler_entered i (state_by e r pending devices time c) t why f fs) (frames.unwound i (state_by e r pending devices time c) t (f ∷ fs))
       (handled_alike f handler handles.is base)
       (λ on.
@@ -181,7 +181,7 @@ module _ (i : Image) (e : Seen) (r : SchedRow) (pending : Bool) (devices : List 
       handler_by entries handler why f fs same handles.is (handles.heads has) (handles.own has))
       (λ off. valued_by UNWOUND (f ∷ fs) base some)
 
-module _ (i : Image) (entries : Listed) (e : Seen) (r : SchedRow) (k : DeviceStates) (pending : Bool) (time : ℕ) (c : Counts) (t : ℕ) (kept : IsKept i e r) (same : entries ≡ i.entries) where
+module _ (i : Image) (entries : Listed) (e : EngineRow) (r : SchedRow) (k : DeviceStates) (pending : Bool) (time : ℕ) (c : Counts) (t : ℕ) (kept : IsKept i e r) (same : entries ≡ i.entries) where
   abbrev board : Platform
   board = record { image = i; bases = k.bases }
 
@@ -191,13 +191,13 @@ module _ (i : Image) (entries : Listed) (e : Seen) (r : SchedRow) (k : DeviceSta
   -- ---- an instruction
 
   -- a machine of the same image
-  abbrev machine : Seen → DeviceStates → MachineRow
+  abbrev machine : EngineRow → DeviceStates → MachineRow
   machine x b = machine_by i x r b pending time c
 
-  same_machine : (e' : Seen) (k' : DeviceStates) → (e' ≡ e) × (k' ≡ k) → machine e' k' ≡ machine e k
+  same_machine : (e' : EngineRow) (k' : DeviceStates) → (e' ≡ e) × (k' ≡ k) → machine e' k' ≡ machine e k
   same_machine e' k' h = rw (h.0, h.1) refl
 
-  pub came : (e' : Seen) (k' : DeviceStates) (ran : Ran) → ExecutesAsWritten entries t time e k e' k' ran → CameTo (machine e k) (machine e' k') t ran (executed board here t)
+  pub came : (e' : EngineRow) (k' : DeviceStates) (ran : Ran) → ExecutesAsWritten entries t time e k e' k' ran → CameTo (machine e k) (machine e' k') t ran (executed board here t)
   came e' k' ran h = record {
     is = h.comes i here r.statuses (ram_is i e r kept) same;
     board = ap (λ (bs : List ℕ). record { image = i; bases = bs }) h.bases;
@@ -207,7 +207,7 @@ module _ (i : Image) (entries : Listed) (e : Seen) (r : SchedRow) (k : DeviceSta
 
   -- ---- what is left to do
 
-  abbrev Left : Seen → SchedRow → State → Type 0
+  abbrev Left : EngineRow → SchedRow → State → Type 0
   Left new row x = Leaves i e r pending k.states time c t kept new row x
 
   -- the state, and the deed
@@ -215,21 +215,21 @@ module _ (i : Image) (entries : Listed) (e : Seen) (r : SchedRow) (k : DeviceSta
       → Left (left_after ran e entries t handler) (status_after (goes_after ran e t handler) r t) (finished board t actor here ran).0 × ((finished board t actor here ran).1 ≡ deed_by t actor ran)
   finishes actor handler (Went acted) done h = (record { is = refl; stands = kept; next = refl }, refl)
   finishes actor handler Returned done h = (
-    subst (λ (fs : List Frame). Left (return_at e entries t) (status_after (nat_lt 1 (length (engine.thread e t).frames)) r t) (return_taken i here t fs)) (sym (frames_with e.threads r.statuses t))
+    subst (λ (fs : List Frame). Left (return_at e entries t) (status_after (nat_lt 1 (length (engine.thread e t).frames)) r t) (return_taken i here t fs)) (sym (frames_with e.state.threads r.statuses t))
         (return_by i e r pending k.states time c t kept entries (engine.thread e t).frames same h.base h.some),
     refl,
   )
   finishes actor handler (Native number) done h = absurd done
   finishes actor handler (Trapped why) done h =
-      let handles : Handles i e t (actor_of (engine.thread e t).frames) handler = subst (λ n. Handles i e t n handler) (h.acts ∙ ap actor_of (frames_with e.threads r.statuses t)) h.handles in (
-        subst (λ (fs : List Frame). Left (trap_at e entries t handler why) (status_after (goes_trapped e t handler) r t) (trap_taken i here t why fs)) (sym (frames_with e.threads r.statuses t))
+      let handles : Handles i e t (actor_of (engine.thread e t).frames) handler = subst (λ n. Handles i e t n handler) (h.acts ∙ ap actor_of (frames_with e.state.threads r.statuses t)) h.handles in (
+        subst (λ (fs : List Frame). Left (trap_at e entries t handler why) (status_after (goes_trapped e t handler) r t) (trap_taken i here t why fs)) (sym (frames_with e.state.threads r.statuses t))
             (trap_by i e r pending k.states time c t kept entries handler why (engine.thread e t).frames same h.base handles h.some),
         ap (λ n. deed_by t n (Trapped why)) (sym h.acts),
       )
 
-  pub finished_so : (e'' : Seen) (r'' : SchedRow) (c'' : Counts) (actor handler : ℕ) (ran : Ran) (d : Option Deed) → IsDone ran → IfUnfinished ran (Ends i e here t actor handler)
+  pub finished_so : (e'' : EngineRow) (r'' : SchedRow) (c'' : Counts) (actor handler : ℕ) (ran : Ran) (d : Option Deed) → IsDone ran → IfUnfinished ran (Ends i e here t actor handler)
       → e'' ≡ left_after ran e entries t handler → r'' ≡ status_after (goes_after ran e t handler) r t → d ≡ deed_by t actor ran → c'' ≡ with_deed c d
-      → ((state_by e'' r'' pending k.states time c'', d) ≡ noted (finished board t actor here ran)) × IsKept i e'' r'' × (e''.next ≡ e.next)
+      → ((state_by e'' r'' pending k.states time c'', d) ≡ noted (finished board t actor here ran)) × IsKept i e'' r'' × (e''.state.next ≡ e.state.next)
   finished_so e'' r'' c'' actor handler ran d done h left status deed_is counts =
       let l = finishes actor handler ran done h in
       rw (left, status, counts, deed_is)

@@ -24,7 +24,7 @@ use Rattle.ct_sched.specs.Sched.{SchedRow, with_statuses, after_pick}
 use Rattle.ct_threads.specs.Steps.{IsHeapPlaced}
 use Rattle.ct_threads.specs.Handling.{record_place}
 use Rattle.ct_engine.specs.Seen as engine
-use Rattle.ct_engine.specs.Seen.{area_at, resumed, with_running, Seen}
+use Rattle.ct_engine.specs.Seen.{area_at, resumed, with_running, EngineRow}
 use Rattle.ct_engine.specs.Written.{StaysBeside, HasHeap}
 use Rattle.ct_engine.specs.Calls.{switched}
 use Rattle.ct_engine.specs.Handling.{handler_begun}
@@ -38,17 +38,17 @@ use Rattle.ct_machine.specs.Parts.{state_by, IsKept, IsCounted}
 use Rattle.ct_machine.specs.Going.{CameTo}
 
 -- the machine that these parts make
-abbrev pub machine_by : Image → Seen → SchedRow → DeviceStates → Bool → ℕ → Counts → MachineRow
+abbrev pub machine_by : Image → EngineRow → SchedRow → DeviceStates → Bool → ℕ → Counts → MachineRow
 machine_by i e r k pending time c = record { board = record { image = i; bases = k.bases }; state = state_by e r pending k.states time c }
 
 pub two_more : (n : ℕ) → nat_lt 1 (suc (suc n)) ≡ true
 two_more n = elim (lt_tells 1 (suc (suc n))) [ inl a ↦ a.0 | inr a ↦ absurd (let few = a.1 in omega (arith, few)) ]
 
-pub none_runs : (e : Seen) (ss : List Status) → e.running ≡ None → RunsReady e ss
+pub none_runs : (e : EngineRow) (ss : List Status) → e.state.running ≡ None → RunsReady e ss
 none_runs e ss none t runs = absurd (let clash : None ≡ Some t = sym none ∙ runs in cc)
 
 -- the heap stays where it is, and so do its limits
-heap_stays : (i : Image) (e new : Seen) → HasHeap i e → new.heap_base ≡ e.heap_base → new.heap_end ≡ e.heap_end → new.limits ≡ e.limits → HasHeap i new
+heap_stays : (i : Image) (e new : EngineRow) → HasHeap i e → new.heap_base ≡ e.heap_base → new.heap_end ≡ e.heap_end → new.limits ≡ e.limits → HasHeap i new
 heap_stays i e new heap base end limits = record {
   base = heap.base ∙ sym base;
   end = heap.end ∙ sym end;
@@ -56,13 +56,13 @@ heap_stays i e new heap base end limits = record {
 }
 
 -- an engine of the same places, and as many statuses
-pub stays_kept : (i : Image) (e new : Seen) (r : SchedRow) (ss : List Status) → IsKept i e r → StaysBeside e new → length ss ≡ length r.statuses → RunsReady new ss → IsKept i new (with_statuses r ss)
+pub stays_kept : (i : Image) (e new : EngineRow) (r : SchedRow) (ss : List Status) → IsKept i e r → StaysBeside e new → length ss ≡ length r.statuses → RunsReady new ss → IsKept i new (with_statuses r ss)
 stays_kept i e new r ss kept stays many ready = record {
   region = stays.region ∙ kept.region;
   placed = subst (λ (n : ℕ). IsHeapPlaced i.ram i.heap_base n) (sym stays.size) kept.placed;
   heap = heap_stays i e new kept.heap stays.heap_base stays.heap_end stays.limits;
   quotas = λ q is. subst (λ (xs : List ℕ). q < length xs) (sym stays.limits) (kept.quotas q is);
-  areas = subst (λ (n : ℕ). ArePlaced i (8 * n) new.areas) (sym stays.size) (subst (λ (xs : List Area). ArePlaced i (8 * length e.granules) xs) (sym stays.areas) kept.areas);
+  areas = subst (λ (n : ℕ). ArePlaced i (8 * n) new.areas) (sym stays.size) (subst (λ (xs : List Area). ArePlaced i (8 * length e.state.granules) xs) (sym stays.areas) kept.areas);
   threads = ap length stays.areas ∙ kept.threads ∙ sym stays.threads;
   priorities = kept.priorities;
   statuses = many ∙ kept.statuses ∙ sym stays.threads;
@@ -71,41 +71,41 @@ stays_kept i e new r ss kept stays many ready = record {
 }
 
 -- all else than memory, threads, who runs, and what a sweep changes of objects is as it was
-abbrev pub StaysElse : Seen → Seen → Type 0
+abbrev pub StaysElse : EngineRow → EngineRow → Type 0
 StaysElse e new = new
-    ≡ record e { granules = new.granules; threads = new.threads; running = new.running; objects = new.objects; front = new.front }
+    ≡ record e { state = record e.state { granules = new.state.granules; threads = new.state.threads; running = new.state.running; objects = new.state.objects; front = new.state.front } }
 
-pub kept_so : (i : Image) (e new : Seen) (r : SchedRow) (ss : List Status) → IsKept i e r → StaysElse e new → length new.granules ≡ length e.granules → length new.threads ≡ length e.threads
+pub kept_so : (i : Image) (e new : EngineRow) (r : SchedRow) (ss : List Status) → IsKept i e r → StaysElse e new → length new.state.granules ≡ length e.state.granules → length new.state.threads ≡ length e.state.threads
     → length ss ≡ length r.statuses → RunsReady new ss → IsKept i new (with_statuses r ss)
 kept_so i e new r ss kept else_ size threads many ready =
     stays_kept i e new r ss kept (record {
-      region = ap (λ (x : Seen). x.region) else_;
-      areas = ap (λ (x : Seen). x.areas) else_;
+      region = ap (λ (x : EngineRow). x.region) else_;
+      areas = ap (λ (x : EngineRow). x.areas) else_;
       size = size;
       threads = threads;
-      heap_base = ap (λ (x : Seen). x.heap_base) else_;
-      heap_end = ap (λ (x : Seen). x.heap_end) else_;
-      limits = ap (λ (x : Seen). x.limits) else_;
+      heap_base = ap (λ (x : EngineRow). x.heap_base) else_;
+      heap_end = ap (λ (x : EngineRow). x.heap_end) else_;
+      limits = ap (λ (x : EngineRow). x.limits) else_;
     }) many ready
 
-pub same_kept : (i : Image) (e new : Seen) (r : SchedRow) → IsKept i e r → StaysElse e new → length new.granules ≡ length e.granules → length new.threads ≡ length e.threads
+pub same_kept : (i : Image) (e new : EngineRow) (r : SchedRow) → IsKept i e r → StaysElse e new → length new.state.granules ≡ length e.state.granules → length new.state.threads ≡ length e.state.threads
     → RunsReady new r.statuses → IsKept i new r
 same_kept i e new r kept else_ size threads ready = kept_so i e new r r.statuses kept else_ size threads refl ready
 
 -- where the same thread runs, or none
-pub still_ready : (e new : Seen) (ss : List Status) → RunsReady e ss → new.running ≡ e.running → RunsReady new ss
+pub still_ready : (e new : EngineRow) (ss : List Status) → RunsReady e ss → new.state.running ≡ e.state.running → RunsReady new ss
 still_ready e new ss ready is t runs = ready t (sym is ∙ runs)
 
 -- a thread stops
-pub stopped_so : (i : Image) (e new : Seen) (r : SchedRow) (c : Counts) (time : ℕ) → IsKept i e r × IsCounted c time e.next → new ≡ with_running e None → IsKept i new r × IsCounted c time new.next
+pub stopped_so : (i : Image) (e new : EngineRow) (r : SchedRow) (c : Counts) (time : ℕ) → IsKept i e r × IsCounted c time e.state.next → new ≡ with_running e None → IsKept i new r × IsCounted c time new.state.next
 stopped_so i e new r c time h is = rw is (same_kept i e (with_running e None) r h.0 refl refl refl (none_runs (with_running e None) r.statuses refl), h.1)
 
 -- ---- and no object is made
 
-pub counted_so : (c : Counts) (time : ℕ) (e e' x : Seen) → e' ≡ x → x.next ≡ e.next → IsCounted c time e.next → IsCounted c time e'.next
-counted_so c time e e' x is same h = subst (λ (n : ℕ). IsCounted c time n) (sym (ap (λ (y : Seen). y.next) is ∙ same)) h
+pub counted_so : (c : Counts) (time : ℕ) (e e' x : EngineRow) → e' ≡ x → x.state.next ≡ e.state.next → IsCounted c time e.state.next → IsCounted c time e'.state.next
+counted_so c time e e' x is same h = subst (λ (n : ℕ). IsCounted c time n) (sym (ap (λ (y : EngineRow). y.state.next) is ∙ same)) h
 
-pub switched_next : (e : Seen) (entries : Listed) (t : ℕ) (w : Switched) → (switched_in e entries t w).next ≡ e.next
+pub switched_next : (e : EngineRow) (entries : Listed) (t : ℕ) (w : Switched) → (switched_in e entries t w).state.next ≡ e.state.next
 switched_next e entries t (NotMade why) = refl
 switched_next e entries t TooDeep = refl
 switched_next e entries t NoStack = refl
@@ -113,22 +113,22 @@ switched_next e entries t (Enters export high) = refl
 
 -- ---- an instruction
 
-pub ran_kept : (i : Image) (e new : Seen) (r : SchedRow) → IsKept i e r → Stays e new → IsKept i new r
+pub ran_kept : (i : Image) (e new : EngineRow) (r : SchedRow) → IsKept i e r → Stays e new → IsKept i new r
 ran_kept i e new r kept stays =
-    same_kept i e new r kept (subst (StaysElse e) (sym stays.beside) refl) stays.size stays.threads (still_ready e new r.statuses kept.ready (ap (λ (x : Seen). x.running) stays.beside))
+    same_kept i e new r kept (subst (StaysElse e) (sym stays.beside) refl) stays.size stays.threads (still_ready e new r.statuses kept.ready (ap (λ (x : EngineRow). x.state.running) stays.beside))
 
 -- ---- a frame ends
 
-pub switched_kept : (i : Image) (e : Seen) (r : SchedRow) (t high : ℕ) (x : Thread) (run : Option ℕ) (ss : List Status) → IsKept i e r → length ss ≡ length r.statuses
+pub switched_kept : (i : Image) (e : EngineRow) (r : SchedRow) (t high : ℕ) (x : Thread) (run : Option ℕ) (ss : List Status) → IsKept i e r → length ss ≡ length r.statuses
     → RunsReady (switched e t high x run) ss → IsKept i (switched e t high x run) (with_statuses r ss)
 switched_kept i e r t high x run ss kept many ready =
-    kept_so i e (switched e t high x run) r ss kept refl (zeroed_length (area_at e t).stack high e.region.ram e.granules) (length-set e.threads t x) many ready
+    kept_so i e (switched e t high x run) r ss kept refl (zeroed_length (area_at e t).stack high e.region.ram e.state.granules) (length-set e.state.threads t x) many ready
 
 -- a handler is entered
-pub begun_kept : (i : Image) (e : Seen) (r : SchedRow) (entries : Listed) (t handler : ℕ) (why : Trap) (f : Frame) (fs : List Frame) → IsKept i e r → IsKept i (handler_begun e entries t handler why (f ∷ fs)) r
+pub begun_kept : (i : Image) (e : EngineRow) (r : SchedRow) (entries : Listed) (t handler : ℕ) (why : Trap) (f : Frame) (fs : List Frame) → IsKept i e r → IsKept i (handler_begun e entries t handler why (f ∷ fs)) r
 begun_kept i e r entries t handler why f fs kept =
     same_kept i e (handler_begun e entries t handler why (f ∷ fs)) r kept refl
-    (all_length e.granules (record_place e.region.ram (register (engine.thread e t) 2)) (map plain (record_words (engine.thread e t) why))) (length-set e.threads t _) kept.ready
+    (all_length e.state.granules (record_place e.region.ram (register (engine.thread e t) 2)) (map plain (record_words (engine.thread e t) why))) (length-set e.state.threads t _) kept.ready
 
 -- ---- of what is to be done, where something is
 
@@ -153,9 +153,9 @@ picked_ready r t is = ready_is (status_of r.statuses t) (both_left (is_ready (st
 same_some : (t u : ℕ) → Some t ≡ Some u → t ≡ u
 same_some t u is = cc
 
-pub picked_kept : (i : Image) (e new : Seen) (r row : SchedRow) (t : ℕ) → IsKept i e r → Some t ≡ pick r.priorities r.statuses r.order → new ≡ resumed e t → row ≡ after_pick r (Some t) → IsKept i new row
+pub picked_kept : (i : Image) (e new : EngineRow) (r row : SchedRow) (t : ℕ) → IsKept i e r → Some t ≡ pick r.priorities r.statuses r.order → new ≡ resumed e t → row ≡ after_pick r (Some t) → IsKept i new row
 picked_kept i e new r row t kept is now turn =
-    let k = same_kept i e (resumed e t) r kept refl refl (length-set e.threads t _) (λ u runs. ap (λ n. status_of r.statuses n) (sym (same_some t u runs)) ∙ picked_ready r t (sym is)) in
+    let k = same_kept i e (resumed e t) r kept refl refl (length-set e.state.threads t _) (λ u runs. ap (λ n. status_of r.statuses n) (sym (same_some t u runs)) ∙ picked_ready r t (sym is)) in
     rw (now, turn)
     (record { region = k.region; placed = k.placed; heap = k.heap; quotas = k.quotas; areas = k.areas; threads = k.threads; priorities = k.priorities; statuses = k.statuses; few = k.few; ready = k.ready })
 
@@ -164,7 +164,7 @@ ticked_at [] t is = absurd (let clash : Ended ≡ Ready = is in cc)
 ticked_at (s ∷ ss) zero is = ap after_tick is
 ticked_at (s ∷ ss) (suc t) is = ticked_at ss t is
 
-pub ticked_kept : (i : Image) (e : Seen) (r row : SchedRow) → IsKept i e r → row ≡ with_statuses r (map after_tick r.statuses) → IsKept i e row
+pub ticked_kept : (i : Image) (e : EngineRow) (r row : SchedRow) → IsKept i e r → row ≡ with_statuses r (map after_tick r.statuses) → IsKept i e row
 ticked_kept i e r row kept turn =
     rw turn (kept_so i e e r (map after_tick r.statuses) kept refl refl refl (length-map r.statuses after_tick) (λ t runs. ticked_at r.statuses t (kept.ready t runs)))
 

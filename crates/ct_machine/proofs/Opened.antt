@@ -8,7 +8,7 @@ use Rattle.def_machine.specs.Image.{Image, stack_base}
 use Rattle.def_machine.specs.State.{Thread, Frame, DeviceState, Counts, thread, nobody}
 use Rattle.ct_sched.specs.Sched.{SchedRow}
 use Rattle.ct_engine.specs.Seen as engine
-use Rattle.ct_engine.specs.Seen.{area_at, Seen}
+use Rattle.ct_engine.specs.Seen.{area_at, EngineRow}
 use Rattle.ct_engine.specs.Calls.{TopLies}
 use Rattle.ct_engine.specs.Bursts.{IsOpen}
 use Rattle.ct_execute.proofs.Opens.{running_open}
@@ -23,8 +23,8 @@ some_within [] t some = absurd (omega (arith, some))
 some_within (x ∷ ts) zero some = omega arith
 some_within (x ∷ ts) (suc t) some = let rest = some_within ts t some in omega (arith, rest)
 
-module _ (i : Image) (e : Seen) (r : SchedRow) (pending : Bool) (devices : List DeviceState) (time : ℕ) (c : Counts) (t : ℕ) where
-  pub is_open : IsKept i e r → Shut i → Confined i (state_by e r pending devices time c) → e.running ≡ Some t → IsOpen e t
+module _ (i : Image) (e : EngineRow) (r : SchedRow) (pending : Bool) (devices : List DeviceState) (time : ℕ) (c : Counts) (t : ℕ) where
+  pub is_open : IsKept i e r → Shut i → Confined i (state_by e r pending devices time c) → e.state.running ≡ Some t → IsOpen e t
   is_open kept shut held runs =
       running_open i (state_by e r pending devices time c) e t shut held
       (record {
@@ -33,17 +33,17 @@ module _ (i : Image) (e : Seen) (r : SchedRow) (pending : Bool) (devices : List 
         heap_base = sym kept.heap.base;
         heap_end = sym kept.heap.end;
         objects = refl;
-        registers = sym (ap (λ (u : Thread). u.registers) (like_with e.threads r.statuses t Ready));
-        pcc = sym (ap (λ (u : Thread). u.pcc) (like_with e.threads r.statuses t Ready));
+        registers = sym (ap (λ (u : Thread). u.registers) (like_with e.state.threads r.statuses t Ready));
+        pcc = sym (ap (λ (u : Thread). u.pcc) (like_with e.state.threads r.statuses t Ready));
       })
 
   pub some_seen : 0 < length (thread (state_by e r pending devices time c) t).frames → 0 < length (engine.thread e t).frames
-  some_seen some = subst (λ (fs : List Frame). 0 < length fs) (frames_with e.threads r.statuses t) some
+  some_seen some = subst (λ (fs : List Frame). 0 < length fs) (frames_with e.state.threads r.statuses t) some
 
-  pub placed_at : IsKept i e r → 0 < length (engine.thread e t).frames → IsPlaced i (8 * length e.granules) t (area_at e t)
+  pub placed_at : IsKept i e r → 0 < length (engine.thread e t).frames → IsPlaced i (8 * length e.state.granules) t (area_at e t)
   placed_at kept some =
-      let within : t < length e.threads = some_within e.threads t some in
-      let count : length e.areas ≡ length e.threads = kept.threads in
+      let within : t < length e.state.threads = some_within e.state.threads t some in
+      let count : length e.areas ≡ length e.state.threads = kept.threads in
       kept.areas.each t (omega (arith, within, count))
 
   pub base_of : IsKept i e r → 0 < length (engine.thread e t).frames → (area_at e t).stack ≡ stack_base i t
@@ -51,4 +51,4 @@ module _ (i : Image) (e : Seen) (r : SchedRow) (pending : Bool) (devices : List 
 
   pub tops : IsKept i e r → Confined i (state_by e r pending devices time c) → 0 < length (engine.thread e t).frames → TopLies e t
   tops kept held some =
-      top_lies i (state_by e r pending devices time c) e (8 * length e.granules) t held (placed_at kept some) (sym (frames_with e.threads r.statuses t)) some
+      top_lies i (state_by e r pending devices time c) e (8 * length e.state.granules) t held (placed_at kept some) (sym (frames_with e.state.threads r.statuses t)) some

@@ -11,7 +11,7 @@ use Rattle.def_step.specs.declared.Event.TheVariants.{Step, Sweep}
 use Rattle.def_step.specs.Events.{begun_since, end_of, happens, holder, holder_by, one_more_step, preempted, run, run_on, scheduled, told_of}
 use Rattle.ct_engine.specs.Bursts.{GoesFor, GoesOnce, IsOpen, StaysOpen}
 use Rattle.ct_engine.specs.Seen as engine
-use Rattle.ct_engine.specs.Seen.{Seen}
+use Rattle.ct_engine.specs.Seen.{EngineRow}
 use Rattle.ct_execute.proofs.Quiet.{goes_stays}
 use Rattle.ct_machine.specs.declared.parts.Parts.TheInside.{Inside}
 use Rattle.ct_machine.specs.Parts.{IsKept}
@@ -30,30 +30,30 @@ use Rattle.ct_machine.proofs.Taking.{none_preempted, posture_with}
 
 -- ---- the first of so many instructions
 
-front : (t n : ℕ) (e new : Seen) → GoesFor t (suc n) e new → (mid : Seen) × GoesOnce t e mid × GoesFor t n mid new
-front t zero e new goes = (new, subst (λ (x : Seen). GoesOnce t x new) goes.1 goes.2, refl)
+front : (t n : ℕ) (e new : EngineRow) → GoesFor t (suc n) e new → (mid : EngineRow) × GoesOnce t e mid × GoesFor t n mid new
+front t zero e new goes = (new, subst (λ (x : EngineRow). GoesOnce t x new) goes.1 goes.2, refl)
 front t (suc n) e new goes = let first = front t n e goes.0 goes.1 in (first.0, first.1, (goes.0, first.2, goes.2))
 
 -- of a machine of these parts, in which a thread runs, no tick is pending and no sweep has work
 module _ {M : Type 0} (i : Inside M) (t : ℕ) (kept : IsKept i.plan i.engine i.sched) {now : MachineRow} (is : machine_by i.plan i.engine i.sched i.bus i.pending i.time i.counts ≡ now)
-    (runs : i.engine.running ≡ Some t) (pending : now.state.pending ≡ false) (next : GuardsNext now) (idle : has_sweep now.state ≡ false) where
+    (runs : i.engine.state.running ≡ Some t) (pending : now.state.pending ≡ false) (next : GuardsNext now) (idle : has_sweep now.state ≡ false) where
   -- with another engine
-  abbrev machine_with : Seen → MachineRow
+  abbrev machine_with : EngineRow → MachineRow
   machine_with x = machine_by i.plan x i.sched i.bus i.pending i.time i.counts
 
   none : i.pending ≡ false
   none = ap (λ (m : MachineRow). m.state.pending) is ∙ pending
 
-  quiet_from : (mid : Seen) → GoesOnce t i.engine mid → ((machine_with mid).state, None) ≡ run_on now.board now.state
+  quiet_from : (mid : EngineRow) → GoesOnce t i.engine mid → ((machine_with mid).state, None) ≡ run_on now.board now.state
   quiet_from mid goes = quietly_run i.plan i.engine mid i.sched i.bus i.pending i.time i.counts t kept runs goes ∙ ap (λ (m : MachineRow). run_on m.board m.state) is
 
-  first_guarded : (mid : Seen) → GoesOnce t i.engine mid → Guarded (machine_with mid)
+  first_guarded : (mid : EngineRow) → GoesOnce t i.engine mid → Guarded (machine_with mid)
   first_guarded mid goes = subst (λ (b : Platform). Guarded (record { board = b; state = (machine_with mid).state })) (sym (ap (λ (m : MachineRow). m.board) is)) (next.each (machine_with mid).state (quiet_from mid goes))
 
-  first_runs : (mid : Seen) → GoesOnce t i.engine mid → mid.running ≡ Some t
-  first_runs mid goes = ap (λ (x : Seen). x.running) (goes_stays i.engine mid t goes).beside ∙ runs
+  first_runs : (mid : EngineRow) → GoesOnce t i.engine mid → mid.state.running ≡ Some t
+  first_runs mid goes = ap (λ (x : EngineRow). x.state.running) (goes_stays i.engine mid t goes).beside ∙ runs
 
-  still_idle : (mid : Seen) → GoesOnce t i.engine mid → has_sweep (machine_with mid).state ≡ false
+  still_idle : (mid : EngineRow) → GoesOnce t i.engine mid → has_sweep (machine_with mid).state ≡ false
   still_idle mid goes = sweep_stays i.engine mid i.sched i.pending i.bus.states i.time i.counts (goes_stays i.engine mid t goes) ∙ ap (λ (m : MachineRow). has_sweep m.state) is ∙ idle
 
   -- before the first, nothing is hidden that the thread may reach, since its state is confined; later since the machine
@@ -61,20 +61,20 @@ module _ {M : Type 0} (i : Inside M) (t : ℕ) (kept : IsKept i.plan i.engine i.
   pub open_on : MayGoOn now → (most : ℕ) → StaysOpen t most i.engine
   open_on may most zero mid few goes =
       let here = subst MayGoOn (sym is) may in
-      subst (λ (x : Seen). IsOpen x t) (sym goes) (is_open i.plan i.engine i.sched i.pending i.bus.states i.time i.counts t kept here.shut here.keeps.confined runs)
+      subst (λ (x : EngineRow). IsOpen x t) (sym goes) (is_open i.plan i.engine i.sched i.pending i.bus.states i.time i.counts t kept here.shut here.keeps.confined runs)
   open_on may most (suc n) mid few goes =
       let f = front t n i.engine mid goes in
       stays_open i.plan f.0 i.sched t (once_kept i.plan i.engine f.0 i.sched t kept f.1) i.bus i.pending i.time i.counts (first_runs f.0 f.1) none (first_guarded f.0 f.1) (still_idle f.0 f.1) (suc n) n mid (omega arith) f.2
 
-  none_held : (mid : Seen) → GoesOnce t i.engine mid → (engine.thread i.engine t).posture.off ≡ false → holder (machine_with mid).state ≡ None
+  none_held : (mid : EngineRow) → GoesOnce t i.engine mid → (engine.thread i.engine t).posture.off ≡ false → holder (machine_with mid).state ≡ None
   none_held mid goes on =
       ap (holder_by (machine_with mid).state) (first_runs mid goes)
       ∙ ap (λ (p : Posture). if p.off then Some (t, p.source) else None)
-      (still_posture i.plan i.engine mid i.sched i.bus i.pending i.time i.counts t kept runs goes ∙ posture_with i.engine.threads i.sched.statuses t)
+      (still_posture i.plan i.engine mid i.sched i.bus i.pending i.time i.counts t kept runs goes ∙ posture_with i.engine.state.threads i.sched.statuses t)
       ∙ ap (λ (b : Bool). if b then Some (t, (engine.thread i.engine t).posture.source) else None) on
 
   -- of so many as were counted
-  pub carried_by : (made : ℕ) (new : Seen) (m : MachineRow) → (engine.thread i.engine t).posture.off ≡ false → GoesFor t made i.engine new
+  pub carried_by : (made : ℕ) (new : EngineRow) (m : MachineRow) → (engine.thread i.engine t).posture.off ≡ false → GoesFor t made i.engine new
       → m.state ≡ with_rounds (machine_with new).state (made - 1) → m.board ≡ (machine_with new).board → 1 ≤ made → CarriedOn now m made
   carried_by zero new m on goes state board some = absurd (omega (arith, some))
   carried_by (suc n) new m on goes state board some =

@@ -13,7 +13,7 @@ use Rattle.def_machine.specs.Platform.{Platform, MachineRow}
 use Rattle.def_step.specs.Events.{holder_by, holder, begun_since, begun, preempted, scheduled, one_more_step, run_on, continued, noted, told_of, happens, end_of}
 use Rattle.ct_sched.specs.Sched.{SchedRow}
 use Rattle.ct_engine.specs.Seen as engine
-use Rattle.ct_engine.specs.Seen.{Seen}
+use Rattle.ct_engine.specs.Seen.{EngineRow}
 use Rattle.ct_engine.specs.Bursts.{GoesOnce}
 use Rattle.ct_engine.specs.Steps.{HasWindow}
 use Rattle.ct_threads.specs.declared.window.Window.{Window}
@@ -36,10 +36,10 @@ set_posture [] t x is = refl
 set_posture (y ∷ ts) zero x is = is
 set_posture (y ∷ ts) (suc t) x is = set_posture ts t x is
 
-same_posture : (t : ℕ) (s new : Seen) → GoesOnce t s new → (engine.thread new t).posture ≡ (engine.thread s t).posture
+same_posture : (t : ℕ) (s new : EngineRow) → GoesOnce t s new → (engine.thread new t).posture ≡ (engine.thread s t).posture
 same_posture t s new g =
-    ap (λ (x : Seen). (engine.thread x t).posture) g.is
-    ∙ set_posture s.threads t g.to (ap (λ (u : Thread). u.posture) (once_gone s.region.ram (engine.thread s t) s.granules g.to g.after g.goes).is)
+    ap (λ (x : EngineRow). (engine.thread x t).posture) g.is
+    ∙ set_posture s.state.threads t g.to (ap (λ (u : Thread). u.posture) (once_gone s.region.ram (engine.thread s t) s.state.granules g.to g.after g.goes).is)
 
 -- ---- no span with interrupts off begins
 
@@ -69,20 +69,20 @@ still_told b s new t none runs still posture is =
 
 -- ---- windows
 
-module _ (i : Image) (e : Seen) (r : SchedRow) (k : DeviceStates) (pending : Bool) (time : ℕ) (c : Counts) where
+module _ (i : Image) (e : EngineRow) (r : SchedRow) (k : DeviceStates) (pending : Bool) (time : ℕ) (c : Counts) where
   abbrev here : MachineRow
   here = machine_by i e r k pending time c
 
   -- a window of the engine's thread is one of the machine's, and the other way round
   pub window_in : (t : ℕ) (w : Window) → IsKept i e r → IsThreadWindow here t w → HasWindow e t w
   window_in t w kept has =
-      subst (λ n. IsWindow w (engine.thread e t).pcc n (8 * length e.granules)) (sym (ram_is i e r kept))
-      (subst (λ (u : Thread). IsWindow w u.pcc i.ram (8 * length e.granules)) (given_status e.threads r.statuses t kept.statuses) has)
+      subst (λ n. IsWindow w (engine.thread e t).pcc n (8 * length e.state.granules)) (sym (ram_is i e r kept))
+      (subst (λ (u : Thread). IsWindow w u.pcc i.ram (8 * length e.state.granules)) (given_status e.state.threads r.statuses t kept.statuses) has)
 
   pub window_out : (t : ℕ) (w : Window) → IsKept i e r → HasWindow e t w → IsThreadWindow here t w
   window_out t w kept has =
-      subst (λ (u : Thread). IsWindow w u.pcc i.ram (8 * length e.granules)) (sym (given_status e.threads r.statuses t kept.statuses))
-      (subst (λ n. IsWindow w (engine.thread e t).pcc n (8 * length e.granules)) (ram_is i e r kept) has)
+      subst (λ (u : Thread). IsWindow w u.pcc i.ram (8 * length e.state.granules)) (sym (given_status e.state.threads r.statuses t kept.statuses))
+      (subst (λ n. IsWindow w (engine.thread e t).pcc n (8 * length e.state.granules)) (ram_is i e r kept) has)
 
 -- ---- who runs, where no tick is pending
 
@@ -95,15 +95,15 @@ undisturbed_parts s t is = parts_of s.pending s.running t is
 
 -- ---- an instruction of a burst
 
-pub once_kept : (i : Image) (e new : Seen) (r : SchedRow) (t : ℕ) → IsKept i e r → GoesOnce t e new → IsKept i new r
+pub once_kept : (i : Image) (e new : EngineRow) (r : SchedRow) (t : ℕ) → IsKept i e r → GoesOnce t e new → IsKept i new r
 once_kept i e new r t kept goes = ran_kept i e new r kept (goes_stays e new t goes)
 
-module _ (i : Image) (e new : Seen) (r : SchedRow) (k : DeviceStates) (pending : Bool) (time : ℕ) (c : Counts) (t : ℕ)
-    (kept : IsKept i e r) (runs : e.running ≡ Some t) (goes : GoesOnce t e new) where
+module _ (i : Image) (e new : EngineRow) (r : SchedRow) (k : DeviceStates) (pending : Bool) (time : ℕ) (c : Counts) (t : ℕ)
+    (kept : IsKept i e r) (runs : e.state.running ≡ Some t) (goes : GoesOnce t e new) where
   abbrev board : Platform
   board = record { image = i; bases = k.bases }
 
-  abbrev stood : Seen → State
+  abbrev stood : EngineRow → State
   stood x = state_by x r pending k.states time c
 
   -- the thread carries on so
@@ -114,26 +114,26 @@ module _ (i : Image) (e new : Seen) (r : SchedRow) (k : DeviceStates) (pending :
 
   pub still_posture : (thread (stood new) t).posture ≡ (thread (stood e) t).posture
   still_posture =
-      posture_with new.threads r.statuses t ∙ same_posture t e new goes ∙ sym (posture_with e.threads r.statuses t)
+      posture_with new.state.threads r.statuses t ∙ same_posture t e new goes ∙ sym (posture_with e.state.threads r.statuses t)
 
 -- its step, which counts first, tells nothing where no tick is pending
-pub quietly_is : (i : Image) (e new : Seen) (r : SchedRow) (k : DeviceStates) (pending : Bool) (time : ℕ) (c : Counts) (t : ℕ) → IsKept i e r → e.running ≡ Some t → pending ≡ false → GoesOnce t e new
+pub quietly_is : (i : Image) (e new : EngineRow) (r : SchedRow) (k : DeviceStates) (pending : Bool) (time : ℕ) (c : Counts) (t : ℕ) → IsKept i e r → e.state.running ≡ Some t → pending ≡ false → GoesOnce t e new
     → (one_more_step (state_by new r pending k.states time c), silence) ≡ happens (record { image = i; bases = k.bases }) (state_by e r pending k.states time c) Step
 quietly_is i e new r k pending time c t kept runs none goes =
     let counted : Counts = record c { steps = c.steps + 1 } in
     still_told (record { image = i; bases = k.bases }) (state_by e r pending k.states time c) (state_by new r pending k.states time counted) t none runs
-    (ap (λ (x : Seen). x.running) (goes_stays e new t goes).beside ∙ runs)
+    (ap (λ (x : EngineRow). x.state.running) (goes_stays e new t goes).beside ∙ runs)
     (still_posture i e new r k pending time counted t kept runs goes) (quietly_run i e new r k pending time counted t kept runs goes)
 
 -- ---- beside it
 
 -- whether a sweep has work stays as it was
-pub sweep_stays : (e new : Seen) (r : SchedRow) (pending : Bool) (devices : List DeviceState) (time : ℕ) (c : Counts) → Stays e new
+pub sweep_stays : (e new : EngineRow) (r : SchedRow) (pending : Bool) (devices : List DeviceState) (time : ℕ) (c : Counts) → Stays e new
     → has_sweep (state_by new r pending devices time c) ≡ has_sweep (state_by e r pending devices time c)
-sweep_stays e new r pending devices time c stays = ap (λ (x : Seen). is_some x.front || has_quarantined x.objects) stays.beside
+sweep_stays e new r pending devices time c stays = ap (λ (x : EngineRow). is_some x.state.front || has_quarantined x.state.objects) stays.beside
 
 -- where a thread runs the machine has come to no end
-pub none_ended : (i : Image) (e : Seen) (r : SchedRow) (pending : Bool) (devices : List DeviceState) (time : ℕ) (c : Counts) (t : ℕ) → IsKept i e r → e.running ≡ Some t
+pub none_ended : (i : Image) (e : EngineRow) (r : SchedRow) (pending : Bool) (devices : List DeviceState) (time : ℕ) (c : Counts) (t : ℕ) → IsKept i e r → e.state.running ≡ Some t
     → end_of (state_by e r pending devices time c) ≡ None
 none_ended i e r pending devices time c t kept runs =
-    sym (end_none (state_by e r pending devices time c) e.threads r.statuses refl kept.statuses (ready_goes r.statuses t (kept.ready t runs)))
+    sym (end_none (state_by e r pending devices time c) e.state.threads r.statuses refl kept.statuses (ready_goes r.statuses t (kept.ready t runs)))

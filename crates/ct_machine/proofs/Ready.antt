@@ -13,7 +13,7 @@ use Rattle.law_events.proofs.Events.{ready_keeps}
 use Rattle.ct_switch.specs.Exports.{AreSorted}
 use Rattle.ct_sched.specs.Sched.{SchedRow}
 use Rattle.ct_engine.specs.Seen as engine
-use Rattle.ct_engine.specs.Seen.{Seen}
+use Rattle.ct_engine.specs.Seen.{EngineRow}
 use Rattle.ct_engine.specs.Calls.{IsEnterable}
 use Rattle.ct_engine.specs.Handling.{MayHandle}
 use Rattle.law_callable.proofs.Calls.{handlers_asked, handlers_own, handlers_stand}
@@ -41,7 +41,7 @@ may_go_on m n g board state =
     (record { shut = g.shut; facts = g.facts; keeps = ready_keeps m.board m.state g.partitioned g.keeps; rows = ready_fit m.board m.state g.rows })
 
 -- what the trap of a thread of a confined state asks, of its compartment's error handler
-pub may_handle : (i : Image) (e : Seen) (r : SchedRow) (pending : Bool) (devices : List DeviceState) (time : ℕ) (c : Counts) (t actor : ℕ) → IsKept i e r → IsOfSound i
+pub may_handle : (i : Image) (e : EngineRow) (r : SchedRow) (pending : Bool) (devices : List DeviceState) (time : ℕ) (c : Counts) (t actor : ℕ) → IsKept i e r → IsOfSound i
     → Confined i (state_by e r pending devices time c) → 0 < length (engine.thread e t).frames → (entries : Listed) → entries ≡ i.entries → AreSorted entries.gates
     → (handler : ℕ) → handler ≡ handler_entry i actor → MayHandle e t entries handler
 may_handle i e r pending devices time c t actor kept sound confined some entries same sorted handler is = record {
@@ -54,7 +54,7 @@ may_handle i e r pending devices time c t actor kept sound confined some entries
 }
 
 -- and what the end of its frame asks
-pub ends_so : (i : Image) (e : Seen) (r : SchedRow) (k : DeviceStates) (pending : Bool) (time : ℕ) (c : Counts) (t actor handler : ℕ) → IsKept i e r → IsOfSound i → handler ≡ handler_entry i actor
+pub ends_so : (i : Image) (e : EngineRow) (r : SchedRow) (k : DeviceStates) (pending : Bool) (time : ℕ) (c : Counts) (t actor handler : ℕ) → IsKept i e r → IsOfSound i → handler ≡ handler_entry i actor
     → MayEnd (machine_by i e r k pending time c) t actor → Ends i e (machine_by i e r k pending time c).state t actor handler
 ends_so i e r k pending time c t actor handler kept sound is m =
     let some = some_seen i e r pending k.states time c t m.runs.some in

@@ -20,7 +20,7 @@ use Rattle.def_step.specs.Instructions.{ran, served, trapped}
 use Rattle.law_moves.proofs.JumpsMoves.{in_rooted}
 use Rattle.ct_sched.specs.Sched as sched
 use Rattle.ct_sched.specs.Sched.{SchedRow}
-use Rattle.ct_engine.specs.Seen.{Seen}
+use Rattle.ct_engine.specs.Seen.{EngineRow}
 use Rattle.ct_execute.specs.declared.ran.Ran.{Ran}
 use Rattle.ct_execute.specs.declared.ran.Ran.TheVariants.{Went, Returned, Native, Trapped}
 use Rattle.ct_execute.specs.Deciding.{IfUnfinished}
@@ -48,12 +48,12 @@ done_by after (Trapped why) x is = tt
 done_by after Returned x is = absurd is
 done_by after (Native number) x is = absurd is
 
-module _ (i : Image) (e : Seen) (r : SchedRow) (k : DeviceStates) (pending : Bool) (time : ℕ) (c : Counts) (t : ℕ)
+module _ (i : Image) (e : EngineRow) (r : SchedRow) (k : DeviceStates) (pending : Bool) (time : ℕ) (c : Counts) (t : ℕ)
     (kept : IsKept i e r) where
   abbrev here : State
   here = state_by e r pending k.states time c
 
-  abbrev machine : Seen → SchedRow → MachineRow
+  abbrev machine : EngineRow → SchedRow → MachineRow
   machine x y = machine_by i x y k pending time c
 
   abbrev board : Platform
@@ -74,7 +74,7 @@ module _ (i : Image) (e : Seen) (r : SchedRow) (k : DeviceStates) (pending : Boo
       subst (λ (z : Cap). z.shadow.root < length e.limits) (sym ten) (kept.quotas c10.shadow.root (ap is_quota origin))
 
   pub may_serve : (ram : ℕ) (m : MachineRow) → machine e r ≡ m → MayGoOn m → Runs m t
-      → m.state.next ≤ m.state.counts.steps → IsCounted c time e.next → ram ≡ i.ram → MayServe e r.statuses t ram
+      → m.state.next ≤ m.state.counts.steps → IsCounted c time e.state.next → ram ≡ i.ram → MayServe e r.statuses t ram
   may_serve ram m is may_now runs_now few_now counted place =
       let may = subst MayGoOn (sym is) may_now in
       let runs = subst (λ (x : MachineRow). Runs x t) (sym is) runs_now in
@@ -84,7 +84,7 @@ module _ (i : Image) (e : Seen) (r : SchedRow) (k : DeviceStates) (pending : Boo
         ready = kept.ready t runs.runs;
         quota = names_quota may.facts may.keeps.confined;
         opens = is_open i e r pending k.states time c t kept may.shut may.keeps.confined runs.runs;
-        few = few_by c time e.next counted few;
+        few = few_by c time e.state.next counted few;
         rows = may.rows;
         place = place ∙ sym (ram_is i e r kept);
         even = subst (λ n. n % 16 ≡ 0) (sym place) kept.placed.even;
@@ -109,7 +109,7 @@ module _ (i : Image) (e : Seen) (r : SchedRow) (k : DeviceStates) (pending : Boo
   came_ran m Returned x board_is counts is same = absurd is
   came_ran m (Native number) x board_is counts is same = absurd is
 
-  module _ (number : ℕ) (new : Seen) (row : SchedRow) (q : Ran) (turn : row ≡ sched.with_statuses r row.statuses)
+  module _ (number : ℕ) (new : EngineRow) (row : SchedRow) (q : Ran) (turn : row ≡ sched.with_statuses r row.statuses)
       (h : IsServed e r.statuses new row.statuses q (λ j m. routine_or_trap (native j m t number))) where
     -- the machine that it left, and what the written routine comes to
     abbrev left : MachineRow
@@ -126,7 +126,7 @@ module _ (i : Image) (e : Seen) (r : SchedRow) (k : DeviceStates) (pending : Boo
     stays =
         unfinished_map q _ _
         (λ same.
-        ap (λ (x : Seen). machine x (sched.with_statuses r row.statuses)) same.0
+        ap (λ (x : EngineRow). machine x (sched.with_statuses r row.statuses)) same.0
         ∙ ap (λ (ss : List Status). machine e (sched.with_statuses r ss)) same.1)
         h.same
 
@@ -141,9 +141,9 @@ module _ (i : Image) (e : Seen) (r : SchedRow) (k : DeviceStates) (pending : Boo
 
     -- one object is made at most
     pub served_kept : (m : MachineRow) → machine e r ≡ m → m.state.next ≤ m.state.counts.steps
-        → IsCounted c time e.next → IsKept i new row × IsCounted c time new.next
+        → IsCounted c time e.state.next → IsKept i new row × IsCounted c time new.state.next
     served_kept m is few counted = (
       subst (IsKept i new) (sym turn) (stays_kept i e new r row.statuses kept h.beside h.many (h.ready kept.ready)),
-      made_by c time e.next new.next counted
+      made_by c time e.state.next new.state.next counted
           (subst (λ (x : MachineRow). x.state.next ≤ x.state.counts.steps) (sym is) few) h.made,
     )

@@ -21,7 +21,7 @@ use Rattle.law_boot.proofs.Contents.{granules_count}
 use Rattle.def_boot.specs.Boot.{boot_state, booted_machine, first_thread, first_threads, image_of}
 use Rattle.def_boot.specs.Contents.{boot_granules, granules_in}
 use Rattle.ct_threads.specs.Steps.{IsHeapPlaced}
-use Rattle.ct_engine.specs.Seen.{Seen}
+use Rattle.ct_engine.specs.Seen.{EngineRow}
 use Rattle.ct_engine.specs.Written.{HasHeap}
 use Rattle.ct_sched.specs.Sched.{SchedRow}
 use Rattle.ct_boot.specs.Launching.{launched}
@@ -37,14 +37,14 @@ ready_with : (p : PartsRow) (n : ℕ) (ts : List ThreadRow) → with_statuses (f
 ready_with p n [] = refl
 ready_with p n (t ∷ ts) = ap (λ (us : List Thread). first_thread p n t ∷ us) (ready_with p (n + 1) ts)
 
-abbrev pub row_of : Image → Seen → SchedRow → DeviceStates → MachineRow
+abbrev pub row_of : Image → EngineRow → SchedRow → DeviceStates → MachineRow
 row_of i e r k = machine_by i e r k false 0 no_counts
 
 booted_is : (p : PartsRow) (limits : List ℕ) → row_of (image_of p) (launched p limits) (rows_of p) (bank_of p) ≡ booted_machine p
 unfolding boot_state
 booted_is p limits = rw (ready_with p 0 p.threads) refl
 
-pub started_is : (p : PartsRow) (limits : List ℕ) (i : Image) (e : Seen) (r : SchedRow) (k : DeviceStates) → i ≡ image_of p → e ≡ launched p limits → r ≡ rows_of p → k ≡ bank_of p → row_of i e r k ≡ booted_machine p
+pub started_is : (p : PartsRow) (limits : List ℕ) (i : Image) (e : EngineRow) (r : SchedRow) (k : DeviceStates) → i ≡ image_of p → e ≡ launched p limits → r ≡ rows_of p → k ≡ bank_of p → row_of i e r k ≡ booted_machine p
 started_is p limits i e r k image engine rows bank = rw (image, engine, rows, bank) (booted_is p limits)
 
 -- ---- what it keeps
@@ -130,10 +130,10 @@ quotas_has p = quota_listed (entries_of p)
 
 -- ---- what is kept
 
-abbrev first : PartsRow → Seen
+abbrev first : PartsRow → EngineRow
 first p = launched p (limits_of (entries_of p))
 
-kept : (p : PartsRow) → Sound p → ArePlaced (image_of p) (8 * length (first p).granules) (first p).areas → IsKept (image_of p) (first p) (rows_of p)
+kept : (p : PartsRow) → Sound p → ArePlaced (image_of p) (8 * length (first p).state.granules) (first p).areas → IsKept (image_of p) (first p) (rows_of p)
 kept p s placed =
     let few = few_threads p s.few in
     let count = statuses_count p in
@@ -150,10 +150,10 @@ kept p s placed =
       ready = λ t runs. absurd cc;
     }
 
-pub started_kept : (p : PartsRow) (i : Image) (e : Seen) (r : SchedRow) → Sound p → i ≡ image_of p → e ≡ launched p (limits_of (entries_of p)) → ArePlaced (image_of p) (8 * length e.granules) e.areas → r ≡ rows_of p
-    → IsKept i e r × IsCounted no_counts 0 e.next
+pub started_kept : (p : PartsRow) (i : Image) (e : EngineRow) (r : SchedRow) → Sound p → i ≡ image_of p → e ≡ launched p (limits_of (entries_of p)) → ArePlaced (image_of p) (8 * length e.state.granules) e.areas → r ≡ rows_of p
+    → IsKept i e r × IsCounted no_counts 0 e.state.next
 started_kept p i e r s image engine placed rows = rw (image, rows, engine) (
-  kept p s (subst (λ (x : Seen). ArePlaced (image_of p) (8 * length x.granules) x.areas) engine placed),
+  kept p s (subst (λ (x : EngineRow). ArePlaced (image_of p) (8 * length x.state.granules) x.areas) engine placed),
   record { steps = omega arith; ticks = omega arith; sweeps = omega arith; inputs = omega arith; deeds = omega arith; clock = omega arith; made = omega arith },
 )
 

@@ -30,7 +30,7 @@ use Rattle.law_truly.proofs.Changes.{sweep_calm}
 use Rattle.law_truly.proofs.Spans.{calm_begins_none}
 use Rattle.ct_engine.specs.Seen as engine
 use Rattle.ct_engine.specs.Written.{HasAreas}
-use Rattle.ct_engine.specs.Seen.{Seen}
+use Rattle.ct_engine.specs.Seen.{EngineRow}
 use Rattle.ct_engine.specs.Sweeps.{NoneLeft, size_of, began, with_slice, over, slice_end, passed_on, swept_by}
 use Rattle.ct_engine.proofs.Shown.{began_shown, began_areas, swept_shown}
 use Rattle.ct_engine.proofs.Sliced.{slice_written}
@@ -87,21 +87,21 @@ swept_leaves i s =
 
 -- ---- and of an engine, beside threads and memory
 
-passed_else : (e : Seen) (rate : ℕ) (o : Option ℕ) → StaysElse e (passed_on e rate o)
+passed_else : (e : EngineRow) (rate : ℕ) (o : Option ℕ) → StaysElse e (passed_on e rate o)
 passed_else e rate None = refl
 passed_else e rate (Some front) =
-    let w : Seen = with_slice e front (slice_end e rate front) in
+    let w : EngineRow = with_slice e front (slice_end e rate front) in
     chosen (StaysElse e) (nat_le (size_of w) (slice_end e rate front)) (over w) w (λ is. refl) (λ not_. refl)
 
-swept_else : (e : Seen) (rate : ℕ) → StaysElse e (swept_by e rate)
-swept_else e rate = by e.front
+swept_else : (e : EngineRow) (rate : ℕ) → StaysElse e (swept_by e rate)
+swept_else e rate = by e.state.front
   where
-    by : (o : Option ℕ) → StaysElse e (passed_on (began e o) rate (began e o).front)
-    by (Some front) = passed_else e rate e.front
+    by : (o : Option ℕ) → StaysElse e (passed_on (began e o) rate (began e o).state.front)
+    by (Some front) = passed_else e rate e.state.front
     by None =
-        let begun_ : Seen = record e { objects = painted e.objects; front = Some 0 } in
-        chosen (λ (x : Seen). StaysElse e (passed_on x rate x.front)) (has_quarantined e.objects) begun_ e
-        (λ is. passed_else begun_ rate (Some 0)) (λ not_. passed_else e rate e.front)
+        let begun_ : EngineRow = record e { state = record e.state { objects = painted e.state.objects; front = Some 0 } } in
+        chosen (λ (x : EngineRow). StaysElse e (passed_on x rate x.state.front)) (has_quarantined e.state.objects) begun_ e
+        (λ is. passed_else begun_ rate (Some 0)) (λ not_. passed_else e rate e.state.front)
 
 -- ---- what it asks where it ends
 
@@ -110,40 +110,40 @@ module _ {M : Type 0} (p : Inside M) (kept : IsKept p.plan p.engine p.sched) whe
   areas_are = record { ram = ram_is p.plan p.engine p.sched kept; count = kept.threads; begins = λ t within. (kept.areas.each t within).begin_is }
 
   -- what the state holds nowhere the engine doesn't either
-  none_in : (x : Seen) → IsClean (state_with_row p x p.sched) → NoneLeft x.objects x
+  none_in : (x : EngineRow) → IsClean (state_with_row p x p.sched) → NoneLeft x.state.objects x
   none_in x h = record {
     granules = h.granules;
-    frames = λ t. subst (λ (fs : List Frame). Each (SavedClean x.objects) fs) (frames_with x.threads p.sched.statuses t) (h.frames t);
+    frames = λ t. subst (λ (fs : List Frame). Each (SavedClean x.state.objects) fs) (frames_with x.state.threads p.sched.statuses t) (h.frames t);
     stopped = λ t other.
         let clean = h.stopped t other in
-        let alike = like_with x.threads p.sched.statuses t Ready in
-        let same : StoppedClean x.objects (with_status (engine.thread x t) Ready) =
-        subst (λ (u : Thread). StoppedClean x.objects u) alike (record { pcc = clean.pcc; registers = clean.registers }) in
+        let alike = like_with x.state.threads p.sched.statuses t Ready in
+        let same : StoppedClean x.state.objects (with_status (engine.thread x t) Ready) =
+        subst (λ (u : Thread). StoppedClean x.state.objects u) alike (record { pcc = clean.pcc; registers = clean.registers }) in
         record { pcc = same.pcc; registers = same.registers };
   }
 
-  pub none_left : (rate : ℕ) → rate ≡ p.plan.sweep → Partitioned p.plan → RootsAway p.plan → Keeps p.plan (state_in p) → (front : ℕ) → (began p.engine p.engine.front).front ≡ Some front → size_of p.engine ≤ slice_end p.engine rate front
-      → NoneLeft (began p.engine p.engine.front).objects (with_slice (began p.engine p.engine.front) front (slice_end p.engine rate front))
+  pub none_left : (rate : ℕ) → rate ≡ p.plan.sweep → Partitioned p.plan → RootsAway p.plan → Keeps p.plan (state_in p) → (front : ℕ) → (began p.engine p.engine.state.front).state.front ≡ Some front → size_of p.engine ≤ slice_end p.engine rate front
+      → NoneLeft (began p.engine p.engine.state.front).state.objects (with_slice (began p.engine p.engine.state.front) front (slice_end p.engine rate front))
   none_left rate same parts away keeps front runs whole =
-      let there : (heap.sweep_began (state_in p) (state_in p).front).front ≡ Some front = ap (λ (s : State). s.front) (began_shown p.plan (state_in p) p.engine p.sched.statuses p.engine.front) ∙ runs in
+      let there : (heap.sweep_began (state_in p) (state_in p).front).front ≡ Some front = ap (λ (s : State). s.front) (began_shown p.plan (state_in p) p.engine p.sched.statuses p.engine.state.front) ∙ runs in
       let end : slice_end p.engine rate front ≡ heap.slice_end p.plan (state_in p) front = ap (λ n. min (front + 8 * n) (size_of p.engine)) same in
       let law = ends_clean p.plan (state_in p) front parts away keeps there (subst (λ n. size_of p.engine ≤ n) end whole) in
-      let seen = ap (λ (s : State). heap.with_slice p.plan s front (heap.slice_end p.plan (state_in p) front)) (began_shown p.plan (state_in p) p.engine p.sched.statuses p.engine.front)
-      ∙ slice_written p.plan (state_in p) (began p.engine p.engine.front) p.sched.statuses front (heap.slice_end p.plan (state_in p) front) (began_areas p.plan p.engine p.engine.front areas_are) in
-      subst (λ n. NoneLeft (began p.engine p.engine.front).objects (with_slice (began p.engine p.engine.front) front n)) (sym end)
-      (none_in (with_slice (began p.engine p.engine.front) front (heap.slice_end p.plan (state_in p) front)) (subst IsClean seen law))
+      let seen = ap (λ (s : State). heap.with_slice p.plan s front (heap.slice_end p.plan (state_in p) front)) (began_shown p.plan (state_in p) p.engine p.sched.statuses p.engine.state.front)
+      ∙ slice_written p.plan (state_in p) (began p.engine p.engine.state.front) p.sched.statuses front (heap.slice_end p.plan (state_in p) front) (began_areas p.plan p.engine p.engine.state.front areas_are) in
+      subst (λ n. NoneLeft (began p.engine p.engine.state.front).state.objects (with_slice (began p.engine p.engine.state.front) front n)) (sym end)
+      (none_in (with_slice (began p.engine p.engine.state.front) front (heap.slice_end p.plan (state_in p) front)) (subst IsClean seen law))
 
   -- what it leaves is what the written sweep leaves
-  pub swept_is : (new : Seen) (rate : ℕ) → rate ≡ p.plan.sweep → new ≡ swept_by p.engine rate → state_with_row p new p.sched ≡ heap.swept p.plan (state_in p)
+  pub swept_is : (new : EngineRow) (rate : ℕ) → rate ≡ p.plan.sweep → new ≡ swept_by p.engine rate → state_with_row p new p.sched ≡ heap.swept p.plan (state_in p)
   swept_is new rate same is =
       ap (λ x. state_with_row p x p.sched) is ∙ ap (λ n. state_with_row p (swept_by p.engine n) p.sched) same ∙ sym (swept_shown p.plan (state_in p) p.engine p.sched.statuses areas_are)
 
-  pub swept_kept : (new : Seen) (rate : ℕ) → rate ≡ p.plan.sweep → new ≡ swept_by p.engine rate → IsCounted p.counts p.time p.engine.next → IsKept p.plan new p.sched × IsCounted p.counts p.time new.next
+  pub swept_kept : (new : EngineRow) (rate : ℕ) → rate ≡ p.plan.sweep → new ≡ swept_by p.engine rate → IsCounted p.counts p.time p.engine.state.next → IsKept p.plan new p.sched × IsCounted p.counts p.time new.state.next
   swept_kept new rate same is counted =
       let whole = swept_is new rate same is in
       let left = swept_leaves p.plan (state_in p) in (
         same_kept p.plan p.engine new p.sched kept (subst (StaysElse p.engine) (sym is) (swept_else p.engine rate)) (ap (λ (s : State). length s.granules) whole ∙ left.size)
-            (sym (given_length new.threads p.sched.statuses) ∙ ap (λ (s : State). length s.threads) whole ∙ left.threads ∙ given_length p.engine.threads p.sched.statuses)
+            (sym (given_length new.state.threads p.sched.statuses) ∙ ap (λ (s : State). length s.threads) whole ∙ left.threads ∙ given_length p.engine.state.threads p.sched.statuses)
             (still_ready p.engine new p.sched.statuses kept.ready (ap (λ (s : State). s.running) whole ∙ left.running)),
         subst (IsCounted p.counts p.time) (sym (ap (λ (s : State). s.next) whole ∙ left.next)) counted,
       )

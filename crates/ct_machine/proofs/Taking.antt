@@ -22,7 +22,7 @@ use Rattle.ct_sched.specs.Sched.{SchedRow, after_pick}
 use Rattle.ct_sched.specs.Sched as sched
 use Rattle.ct_engine.specs.declared.rows.Region.{Region}
 use Rattle.ct_engine.specs.Seen as engine
-use Rattle.ct_engine.specs.Seen.{resumed, Seen}
+use Rattle.ct_engine.specs.Seen.{resumed, EngineRow}
 use Rattle.ct_machine.specs.declared.parts.Parts.TheInside.{Inside}
 use Rattle.ct_machine.specs.Parts.{state_by, IsKept}
 use Rattle.ct_machine.specs.Going.{clock_on, sleepers_on}
@@ -36,14 +36,14 @@ module _ {M : Type 0} (i : Inside M) where
   abbrev pub board_in : Platform
   board_in = record { image = i.plan; bases = i.bus.bases }
 
-  abbrev pub state_with_row : Seen → SchedRow → State
+  abbrev pub state_with_row : EngineRow → SchedRow → State
   state_with_row e r = state_by e r i.pending i.bus.states i.time i.counts
 
   abbrev pub state_in : State
   state_in = state_with_row i.engine i.sched
 
 -- RAM begins where the image says
-pub ram_is : (i : Image) (e : Seen) (r : SchedRow) → IsKept i e r → e.region.ram ≡ i.ram
+pub ram_is : (i : Image) (e : EngineRow) (r : SchedRow) → IsKept i e r → e.region.ram ≡ i.ram
 ram_is i e r kept = ap (λ (g : Region). g.ram) kept.region
 
 -- ---- who holds interrupts off
@@ -62,8 +62,8 @@ pub record RunsAs (s : State) (t : ℕ) (p : Posture) : Type 0 where
   pub runs : s.running ≡ Some t
   pub posture : (thread s t).posture ≡ p
 
-pub runs_as : {M : Type 0} (i : Inside M) {t : ℕ} {p : Posture} → Some t ≡ i.engine.running → p ≡ (engine.thread i.engine t).posture → RunsAs (state_in i) t p
-runs_as i {t} runs is = record { runs = sym runs; posture = posture_with i.engine.threads i.sched.statuses t ∙ sym is }
+pub runs_as : {M : Type 0} (i : Inside M) {t : ℕ} {p : Posture} → Some t ≡ i.engine.state.running → p ≡ (engine.thread i.engine t).posture → RunsAs (state_in i) t p
+runs_as i {t} runs is = record { runs = sym runs; posture = posture_with i.engine.state.threads i.sched.statuses t ∙ sym is }
 
 module _ {s : State} {t : ℕ} {p : Posture} (h : RunsAs s t p) where
   pub holder_on : p.off ≡ true → Some (t, p.source) ≡ holder s
@@ -121,20 +121,20 @@ module _ {M : Type 0} (i : Inside M) (kept : IsKept i.plan i.engine i.sched) whe
   pub pick_is : pick i.sched.priorities i.sched.statuses i.sched.order ≡ pick i.plan.priorities (statuses_of (state_in i).threads) i.sched.order
   pick_is =
       ap (λ ps. pick ps i.sched.statuses i.sched.order) kept.priorities
-      ∙ ap (λ ss. pick i.plan.priorities ss i.sched.order) (sym (statuses_with i.engine.threads i.sched.statuses kept.statuses))
+      ∙ ap (λ ss. pick i.plan.priorities ss i.sched.order) (sym (statuses_with i.engine.state.threads i.sched.statuses kept.statuses))
 
-  picks_as : (o : Option ℕ) → None ≡ i.engine.running → o ≡ pick i.sched.priorities i.sched.statuses i.sched.order
+  picks_as : (o : Option ℕ) → None ≡ i.engine.state.running → o ≡ pick i.sched.priorities i.sched.statuses i.sched.order
       → picked_as (board_in i) (state_in i) o ≡ scheduled (board_in i) (state_in i)
   picks_as o idle is = ap (picked_as (board_in i) (state_in i)) (is ∙ pick_is) ∙ ap (picked_from (board_in i) (state_in i)) idle
 
-  pub none_is : (r : SchedRow) → None ≡ i.engine.running → None ≡ pick i.sched.priorities i.sched.statuses i.sched.order → r ≡ after_pick i.sched None
+  pub none_is : (r : SchedRow) → None ≡ i.engine.state.running → None ≡ pick i.sched.priorities i.sched.statuses i.sched.order → r ≡ after_pick i.sched None
       → state_with_row i i.engine r ≡ scheduled (board_in i) (state_in i)
   none_is r idle is row = ap (state_with_row i i.engine) row ∙ picks_as None idle is
 
-  pub some_is : (e : Seen) (r : SchedRow) (t : ℕ) → None ≡ i.engine.running → Some t ≡ pick i.sched.priorities i.sched.statuses i.sched.order → e ≡ resumed i.engine t → r ≡ after_pick i.sched (Some t)
+  pub some_is : (e : EngineRow) (r : SchedRow) (t : ℕ) → None ≡ i.engine.state.running → Some t ≡ pick i.sched.priorities i.sched.statuses i.sched.order → e ≡ resumed i.engine t → r ≡ after_pick i.sched (Some t)
       → state_with_row i e r ≡ scheduled (board_in i) (state_in i)
   some_is e r t idle is now row =
-      let there = sym (changed_with (picked_with (filtered_in i.engine.region.ram i.engine.granules)) (λ x q. refl) i.engine.threads i.sched.statuses t) in
+      let there = sym (changed_with (picked_with (filtered_in i.engine.region.ram i.engine.state.granules)) (λ x q. refl) i.engine.state.threads i.sched.statuses t) in
       rw (now, row, there, ram_is i.plan i.engine i.sched kept) (picks_as (Some t) idle is)
 
 -- ---- who is picked has frames
@@ -146,21 +146,21 @@ some_frames : (fs : List Frame) → (fs ≡ [] → ⊥) → 0 < length fs
 some_frames [] some = absurd (some refl)
 some_frames (f ∷ fs) some = omega arith
 
-pub picked_alive : {M : Type 0} (i : Inside M) (t : ℕ) → length i.sched.statuses ≡ length i.engine.threads → EndsFit (state_in i)
+pub picked_alive : {M : Type 0} (i : Inside M) (t : ℕ) → length i.sched.statuses ≡ length i.engine.state.threads → EndsFit (state_in i)
     → Some t ≡ pick i.sched.priorities i.sched.statuses i.sched.order → 0 < length (engine.thread i.engine t).frames
 picked_alive i t many ends is =
-    let e : Seen = i.engine in
+    let e : EngineRow = i.engine in
     let r : SchedRow = i.sched in
     let ready : is_ready (status_of r.statuses t) ≡ true = both_left (is_ready (status_of r.statuses t)) _ (find_tells (is_foremost r.priorities r.statuses r.order) r.order t (sym is)).passes in
-    let status : (get_or (with_statuses e.threads r.statuses) t nobody).status ≡ get_or r.statuses t Ended = ap (λ (u : Thread). u.status) (given_status e.threads r.statuses t many) in
+    let status : (get_or (with_statuses e.state.threads r.statuses) t nobody).status ≡ get_or r.statuses t Ended = ap (λ (u : Thread). u.status) (given_status e.state.threads r.statuses t many) in
     some_frames (engine.thread e t).frames
-    (λ none. unready (status_of r.statuses t) (sym status ∙ ((ends t).none (frames_with e.threads r.statuses t ∙ none)).0) ready)
+    (λ none. unready (status_of r.statuses t) (sym status ∙ ((ends t).none (frames_with e.state.threads r.statuses t ∙ none)).0) ready)
 
 -- ---- a tick
 
-pub timed_is : {M : Type 0} (i : Inside M) (r : SchedRow) → length i.sched.statuses ≡ length i.engine.threads → r ≡ sched.with_statuses i.sched (map after_tick i.sched.statuses)
+pub timed_is : {M : Type 0} (i : Inside M) (r : SchedRow) → length i.sched.statuses ≡ length i.engine.state.threads → r ≡ sched.with_statuses i.sched (map after_tick i.sched.statuses)
     → state_with_row i i.engine r ≡ sleepers_on (state_in i)
-timed_is i r many is = rw (is, timed_with i.engine.threads i.sched.statuses many) refl
+timed_is i r many is = rw (is, timed_with i.engine.state.threads i.sched.statuses many) refl
 
 pub ticked_as : (s mid new : State) (before : Option (ℕ × ℕ)) (off : Option Owned) → mid ≡ sleepers_on (clock_on s) → new ≡ interrupted mid mid.running → before ≡ holder s → off ≡ begun_since before new (holder new)
     → (new, record { deed = None; off = off }) ≡ told_of s (ticked s, None)

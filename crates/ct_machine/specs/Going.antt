@@ -22,7 +22,7 @@ use Rattle.def_step.specs.Instructions.{actor_of}
 use Rattle.ct_sched.specs.Sched.{SchedRow, with_statuses}
 use Rattle.ct_switch.specs.declared.calls.Called.{Called}
 use Rattle.ct_switch.specs.declared.calls.Called.TheVariants as called
-use Rattle.ct_engine.specs.Seen.{Seen, thread}
+use Rattle.ct_engine.specs.Seen.{EngineRow, thread}
 use Rattle.ct_engine.specs.Calls.{returned, ended_with}
 use Rattle.ct_engine.specs.Handling.{is_marked, is_handled_at, handler_begun}
 use Rattle.ct_execute.specs.declared.ran.Ran.{Ran}
@@ -87,29 +87,29 @@ ran_by_call (called.Trapped why) = Trapped why
 -- ---- where its innermost frame ends
 
 -- by a return: where the frame's error handler was entered, with what that answers
-abbrev pub return_at : Seen → Listed → ℕ → Seen
+abbrev pub return_at : EngineRow → Listed → ℕ → EngineRow
 return_at s e t =
     cond (is_marked (thread s t).frames) (ended_with s t (handler_value (thread s t)))
     (returned s e t)
 
 -- and by a trap: this error handler is entered, or it is unwound
-abbrev pub trap_at : Seen → Listed → ℕ → ℕ → words.Trap → Seen
+abbrev pub trap_at : EngineRow → Listed → ℕ → ℕ → words.Trap → EngineRow
 trap_at s e t handler why =
     cond (is_handled_at s t handler) (handler_begun s e t handler why (thread s t).frames)
     (ended_with s t UNWOUND)
 
-abbrev pub goes_trapped : Seen → ℕ → ℕ → Bool
+abbrev pub goes_trapped : EngineRow → ℕ → ℕ → Bool
 goes_trapped s t handler =
     cond (is_handled_at s t handler) true (nat_lt 1 (length (thread s t).frames))
 
-abbrev pub left_after : Ran → Seen → Listed → ℕ → ℕ → Seen
+abbrev pub left_after : Ran → EngineRow → Listed → ℕ → ℕ → EngineRow
 left_after (Went acted) s e t handler = s
 left_after Returned s e t handler = return_at s e t
 left_after (Native number) s e t handler = s
 left_after (Trapped why) s e t handler = trap_at s e t handler why
 
 -- whether the thread has a frame left
-abbrev pub goes_after : Ran → Seen → ℕ → ℕ → Bool
+abbrev pub goes_after : Ran → EngineRow → ℕ → ℕ → Bool
 goes_after (Went acted) s t handler = true
 goes_after Returned s t handler = nat_lt 1 (length (thread s t).frames)
 goes_after (Native number) s t handler = true

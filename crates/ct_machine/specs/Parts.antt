@@ -8,22 +8,22 @@ use Rattle.def_machine.specs.State.{State, DeviceState, Counts}
 use Rattle.def_machine.specs.Threads.{with_statuses}
 use Rattle.def_reach.specs.Roots.{is_quota}
 use Rattle.ct_threads.specs.Steps.{IsHeapPlaced}
-use Rattle.ct_engine.specs.Seen.{Seen, region_of}
+use Rattle.ct_engine.specs.Seen.{EngineRow, region_of}
 use Rattle.ct_engine.specs.Written.{HasHeap}
 use Rattle.ct_boot.specs.Placed.{ArePlaced}
 use Rattle.ct_sched.specs.Sched.{SchedRow}
 
 -- The statuses of threads and the order of their last picks are the scheduler's.
-abbrev pub state_by : Seen → SchedRow → Bool → List DeviceState → ℕ → Counts → State
+abbrev pub state_by : EngineRow → SchedRow → Bool → List DeviceState → ℕ → Counts → State
 state_by e r pending devices time counts = record {
-  granules = e.granules;
-  threads = with_statuses e.threads r.statuses;
-  running = e.running;
+  granules = e.state.granules;
+  threads = with_statuses e.state.threads r.statuses;
+  running = e.state.running;
   pending = pending;
-  objects = e.objects;
-  next = e.next;
-  tokens = e.tokens;
-  front = e.front;
+  objects = e.state.objects;
+  next = e.state.next;
+  tokens = e.state.tokens;
+  front = e.state.front;
   devices = devices;
   time = time;
   picks = r.order;
@@ -31,22 +31,22 @@ state_by e r pending devices time counts = record {
 }
 
 -- each quota of the image is one of the heap's
-abbrev pub HasQuotas : Image → Seen → Type 0
+abbrev pub HasQuotas : Image → EngineRow → Type 0
 HasQuotas i e = (q : ℕ) → is_quota (root i q).origin ≡ true → q < length e.limits
 
 -- What is kept beside the state: where the image has the threads' areas and stacks, RAM and the heap, what each
 -- quota may take, a status and a priority for each thread, and that the running one is ready.
-pub record IsKept (i : Image) (e : Seen) (r : SchedRow) : Type 0 where
+pub record IsKept (i : Image) (e : EngineRow) (r : SchedRow) : Type 0 where
   pub region : e.region ≡ region_of i
-  pub placed : IsHeapPlaced i.ram i.heap_base (length e.granules)
+  pub placed : IsHeapPlaced i.ram i.heap_base (length e.state.granules)
   pub heap : HasHeap i e
   pub quotas : HasQuotas i e
-  pub areas : ArePlaced i (8 * length e.granules) e.areas
-  pub threads : length e.areas ≡ length e.threads
+  pub areas : ArePlaced i (8 * length e.state.granules) e.areas
+  pub threads : length e.areas ≡ length e.state.threads
   pub priorities : r.priorities ≡ i.priorities
-  pub statuses : length r.statuses ≡ length e.threads
+  pub statuses : length r.statuses ≡ length e.state.threads
   pub few : length r.statuses < 2 ^ 32
-  pub ready : (t : ℕ) → e.running ≡ Some t → status_of r.statuses t ≡ Ready
+  pub ready : (t : ℕ) → e.state.running ≡ Some t → status_of r.statuses t ≡ Ready
 
 -- ---- counts
 

@@ -23,7 +23,7 @@ use def_words::Trap;
 /// The running thread returned: its innermost frame ends, by its error handler where that was entered. `false` exactly
 /// where it has none left.
 fn take_return<M: Memory + Drop>(engine: &mut Engine<M>, t: u32, entries: &Entries) -> bool
-    requires runs { engine.old.running ≡ Some t }
+    requires runs { engine.old.state.running ≡ Some t }
     requires top { TopLies engine.old t }
     requires sorted { AreSorted entries.now.gates }
     ensures result { result ≡ nat_lt 1 (length (thread engine.old t).frames) }
@@ -44,7 +44,7 @@ fn take_trap<M: Memory + Drop>(
     handler: u32,
     trap: Trap,
 ) -> bool
-    requires runs { engine.old.running ≡ Some t }
+    requires runs { engine.old.state.running ≡ Some t }
     requires may { MayHandle engine.old t entries.now handler }
     ensures result { result ≡ goes_trapped engine.old t handler }
     ensures is { engine.new ≡ trap_at engine.old entries.now t handler trap }
@@ -65,7 +65,7 @@ fn leave<M: Memory + Drop>(
     ran: Ran,
 ) -> bool
     requires { IfUnfinished ran
-        ((engine.old.running ≡ Some t) × MayHandle engine.old t entries.now handler) }
+        ((engine.old.state.running ≡ Some t) × MayHandle engine.old t entries.now handler) }
     ensures result { result ≡ goes_after ran engine.old t handler }
     ensures is { engine.new
         ≡ left_after ran engine.old entries.now t handler }

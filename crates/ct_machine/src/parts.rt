@@ -45,7 +45,7 @@ impl<M: Memory + Drop> Model for Parts<M> {
     } };
 
     ghost invariant = { λ m. IsKept m.plan m.engine m.sched
-        × IsCounted m.counts m.time m.engine.next };
+        × IsCounted m.counts m.time m.engine.state.next };
 }
 
 impl<M: Memory + Drop> Parts<M> {

@@ -82,7 +82,7 @@ fn booted<M: Memory + Drop>(
         (λ t. t ≡ launched image.now (limits_of (entries_of image.now))) }
     ensures placed { IfOk result
         (λ t.
-        ArePlaced (image_of image.now) (8 * length t.granules) t.areas) }
+        ArePlaced (image_of image.now) (8 * length t.state.granules) t.areas) }
 {
     match limits(alloc, plan.entries()) {
         Ok(limits) => {
@@ -128,7 +128,7 @@ fn put_together<M: Memory + Drop>(
     requires sound { Sound parts.now }
     requires plan { plan ≡ image_of parts.now }
     requires engine { engine ≡ launched parts.now (limits_of (entries_of parts.now)) }
-    requires placed { ArePlaced (image_of parts.now) (8 * length engine.granules)
+    requires placed { ArePlaced (image_of parts.now) (8 * length engine.state.granules)
         engine.areas }
     requires bus { bus ≡ bank_of parts.now }
     requires sched { sched ≡ rows_of parts.now }

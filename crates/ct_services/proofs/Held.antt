@@ -6,7 +6,7 @@ use Rattle.def_words.specs.declared.Cap.{Cap}
 use Rattle.def_words.specs.Authority.{cap_address, cap_base, cap_top}
 use Rattle.def_memory.specs.Accesses.{IsAccess}
 use Rattle.def_machine.specs.State.{register}
-use Rattle.ct_engine.specs.Seen.{thread, Seen, hides}
+use Rattle.ct_engine.specs.Seen.{thread, EngineRow, hides}
 use Rattle.ct_engine.specs.Bursts.{IsOpen}
 use Rattle.ct_services.specs.Answering.{IsWord}
 
@@ -23,7 +23,7 @@ word_accessed ram size at c is even w = rw is (accessed ram size (cap_address c)
 pub word_low : (ram size at : ℕ) (c : Cap) → at ≡ cap_address c → IsWord ram size c → ram ≤ at
 word_low ram size at c is w = rw is w.low
 
-seen_word : (s : Seen) (t ram size : ℕ) → ram ≡ s.region.ram → IsOpen s t → IsWord ram size (register (thread s t) 10)
+seen_word : (s : EngineRow) (t ram size : ℕ) → ram ≡ s.region.ram → IsOpen s t → IsWord ram size (register (thread s t) 10)
     → hides s ((cap_address (register (thread s t) 10) - ram) / 8) ≡ false
 seen_word s t ram size ram_is opens w =
     let base : cap_base (register (thread s t) 10) ≤ cap_address (register (thread s t) 10) = leb-true _ _ (both_left _ _ w.inside) in
@@ -32,6 +32,6 @@ seen_word s t ram size ram_is opens w =
     let low : s.region.ram ≤ cap_address (register (thread s t) 10) = rw (sym ram_is) w.low in
     rw ram_is (opens.registers 10 (cap_address (register (thread s t) 10)) low w.tag (inl w.loads) base high)
 
-pub word_seen : (s : Seen) (t ram size at : ℕ) → at ≡ cap_address (register (thread s t) 10) → ram ≡ s.region.ram → IsOpen s t → IsWord ram size (register (thread s t) 10)
+pub word_seen : (s : EngineRow) (t ram size at : ℕ) → at ≡ cap_address (register (thread s t) 10) → ram ≡ s.region.ram → IsOpen s t → IsWord ram size (register (thread s t) 10)
     → hides s ((at - ram) / 8) ≡ false
 word_seen s t ram size at is ram_is opens w = rw is (seen_word s t ram size ram_is opens w)

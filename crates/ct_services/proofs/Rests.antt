@@ -12,7 +12,7 @@ use Rattle.def_machine.specs.Image.{Image}
 use Rattle.def_machine.specs.State.{State, Thread}
 use Rattle.def_machine.specs.Threads.{with_statuses}
 use Rattle.def_step.specs.Routines.{Leaves, answered, stops, threads_woken}
-use Rattle.ct_engine.specs.Seen.{Seen, thread, with_thread, with_running}
+use Rattle.ct_engine.specs.Seen.{EngineRow, thread, with_thread, with_running}
 use Rattle.ct_engine.specs.Written.{HasLayout, state_with}
 use Rattle.ct_execute.specs.declared.ran.Ran.TheVariants.{Went}
 use Rattle.ct_services.specs.Answering.{answered_in, rested}
@@ -34,9 +34,9 @@ woken_ready address most ss t is = elim (lt_tells t (length ss)) [
   | inr past ↦ absurd (let clash : Ended ≡ Ready = sym (get_or_past ss t Ended past.1) ∙ is in cc)
 ]
 
-module _ (s : Seen) (ss : List Status) (t : ℕ) where
+module _ (s : EngineRow) (ss : List Status) (t : ℕ) where
   -- the thread becomes this, this one runs, and these are the statuses
-  abbrev becomes : Thread → Option ℕ → Seen
+  abbrev becomes : Thread → Option ℕ → EngineRow
   becomes u run = with_running (with_thread s t u) run
 
   serves_went : (u : Thread) (run : Option ℕ) (after : List Status) (x : Routine)
@@ -51,7 +51,7 @@ module _ (s : Seen) (ss : List Status) (t : ℕ) where
       region = refl;
       areas = refl;
       size = refl;
-      threads = length-set s.threads t u;
+      threads = length-set s.state.threads t u;
       heap_base = refl;
       heap_end = refl;
       limits = refl;
@@ -69,9 +69,9 @@ module _ (s : Seen) (ss : List Status) (t : ℕ) where
       serves_went (answered (thread s t) (integer 0)) None (set ss t status) (λ i m. stops m t status)
       (λ i m h.
       ap (λ (us : List Thread). Leaves (record (state_with m s ss) { threads = us; running = None }) None)
-      (ap (λ (u : Thread). set (with_statuses s.threads ss) t (answered u (integer 0)))
-      (like_with s.threads ss t status)
-      ∙ sym (set_both s.threads ss t (answered (thread s t) (integer 0)) status h.statuses)))
+      (ap (λ (u : Thread). set (with_statuses s.state.threads ss) t (answered u (integer 0)))
+      (like_with s.state.threads ss t status)
+      ∙ sym (set_both s.state.threads ss t (answered (thread s t) (integer 0)) status h.statuses)))
       (length-set ss t status) (λ ready u runs. absurd (let clash : None ≡ Some u = runs in cc))
 
   -- ---- it wakes others
@@ -82,10 +82,10 @@ module _ (s : Seen) (ss : List Status) (t : ℕ) where
   serves_woken address most =
       let gives : Thread → Thread = λ u. answered u (integer (woken_count address most ss)) in
       let after : List Status = woken address most ss in
-      let ts : List Thread = set s.threads t (gives (thread s t)) in
-      serves_went (gives (thread s t)) s.running after (λ i m. Leaves (threads_woken m t address most) None)
+      let ts : List Thread = set s.state.threads t (gives (thread s t)) in
+      serves_went (gives (thread s t)) s.state.running after (λ i m. Leaves (threads_woken m t address most) None)
       (λ i m h.
-      let long : length ss ≡ length ts = h.statuses ∙ sym (length-set s.threads t (gives (thread s t))) in
-      rw (statuses_with s.threads ss h.statuses, changed_with gives (λ u q. refl) s.threads ss t)
+      let long : length ss ≡ length ts = h.statuses ∙ sym (length-set s.state.threads t (gives (thread s t))) in
+      rw (statuses_with s.state.threads ss h.statuses, changed_with gives (λ u q. refl) s.state.threads ss t)
       (rw (twice_with ts ss after long (woken_many address most ss ∙ long)) refl))
       (woken_many address most ss) (λ ready u runs. woken_ready address most ss u (ready u runs))

@@ -16,7 +16,7 @@ use Rattle.def_step.specs.Routines.{Traps, Leaves, answered, answers, tells, che
 use Rattle.def_step.specs.Switch.{return_checks}
 use Rattle.def_step.specs.Tokens.{as_key, by_key, key_of, sealed_object}
 use Rattle.def_profile.specs.declared.answers.TheConstants.{NO_KEY}
-use Rattle.ct_engine.specs.Seen.{Seen, thread}
+use Rattle.ct_engine.specs.Seen.{EngineRow, thread}
 use Rattle.ct_engine.specs.Written.{HasLayout, StaysBeside, state_with}
 use Rattle.ct_execute.specs.declared.ran.ActBy.{ActBy}
 use Rattle.ct_execute.specs.declared.ran.Ran.{Ran}
@@ -29,31 +29,31 @@ use Rattle.ct_execute.proofs.Statuses.{like_with}
 
 -- ---- the running thread in a state that holds what is seen
 
-pub register_alike : (m : State) (s : Seen) (ss : List Status) (t n : ℕ)
+pub register_alike : (m : State) (s : EngineRow) (ss : List Status) (t n : ℕ)
     → register (thread s t) n ≡ register (state.thread (state_with m s ss) t) n
-register_alike m s ss t n = ap (λ (u : Thread). register u n) (sym (like_with s.threads ss t Ended))
+register_alike m s ss t n = ap (λ (u : Thread). register u n) (sym (like_with s.state.threads ss t Ended))
 
-pub registers_alike : (m : State) (s : Seen) (ss : List Status) (t : ℕ)
+pub registers_alike : (m : State) (s : EngineRow) (ss : List Status) (t : ℕ)
     → (state.thread (state_with m s ss) t).registers ≡ (thread s t).registers
-registers_alike m s ss t = ap (λ (u : Thread). u.registers) (like_with s.threads ss t Ended)
+registers_alike m s ss t = ap (λ (u : Thread). u.registers) (like_with s.state.threads ss t Ended)
 
-pub answers_alike : (m : State) (s : Seen) (ss : List Status) (t : ℕ) (v : Cap)
+pub answers_alike : (m : State) (s : EngineRow) (ss : List Status) (t : ℕ) (v : Cap)
     → answers (state_with m s ss) t v ≡ state_with m (answered_in s t v) ss
 answers_alike m s ss t v =
     ap (λ (ts : List Thread). record (state_with m s ss) { threads = ts })
-    (changed_with (λ (u : Thread). answered u v) (λ u q. refl) s.threads ss t)
+    (changed_with (λ (u : Thread). answered u v) (λ u q. refl) s.state.threads ss t)
 
 -- ---- an answer
 
 -- what a routine makes of an engine before it answers
-pub record Becomes (s u : Seen) : Type 0 where
-  pub size : length u.granules ≡ length s.granules
-  pub threads : length u.threads ≡ length s.threads
-  pub made : u.next ≤ s.next + 1
+pub record Becomes (s u : EngineRow) : Type 0 where
+  pub size : length u.state.granules ≡ length s.state.granules
+  pub threads : length u.state.threads ≡ length s.state.threads
+  pub made : u.state.next ≤ s.state.next + 1
   pub same : u
-      ≡ record s { granules = u.granules; threads = u.threads; objects = u.objects; tokens = u.tokens; next = u.next }
+      ≡ record s { state = record s.state { granules = u.state.granules; threads = u.state.threads; objects = u.state.objects; tokens = u.state.tokens; next = u.state.next } }
 
-pub same_beside : (s : Seen) → StaysBeside s s
+pub same_beside : (s : EngineRow) → StaysBeside s s
 same_beside s = record {
   region = refl;
   areas = refl;
@@ -65,7 +65,7 @@ same_beside s = record {
 }
 
 -- of an engine that became this
-pub serves_answer : (s u : Seen) (t : ℕ) (v : Cap) (done : Option ActBy) (x : Routine) → Becomes s u
+pub serves_answer : (s u : EngineRow) (t : ℕ) (v : Cap) (done : Option ActBy) (x : Routine) → Becomes s u
     → ((i : Image) (m : State) (ss : List Status) → HasLayout i s ss
     → x i (state_with m s ss) ≡ Leaves (answers (state_with m u ss) t v) (option_map act_row done))
     → ServesAlone s (answered_in u t v) (Went done) x
@@ -73,20 +73,20 @@ serves_answer s u t v done x became comes ss = record {
   comes = λ i m h. comes i m ss h ∙ ap (λ (y : State). Leaves y (option_map act_row done)) (answers_alike m u ss t v);
   same = tt;
   beside = record {
-    region = ap (λ (y : Seen). y.region) became.same;
-    areas = ap (λ (y : Seen). y.areas) became.same;
+    region = ap (λ (y : EngineRow). y.region) became.same;
+    areas = ap (λ (y : EngineRow). y.areas) became.same;
     size = became.size;
-    threads = length-set u.threads t _ ∙ became.threads;
-    heap_base = ap (λ (y : Seen). y.heap_base) became.same;
-    heap_end = ap (λ (y : Seen). y.heap_end) became.same;
-    limits = ap (λ (y : Seen). y.limits) became.same;
+    threads = length-set u.state.threads t _ ∙ became.threads;
+    heap_base = ap (λ (y : EngineRow). y.heap_base) became.same;
+    heap_end = ap (λ (y : EngineRow). y.heap_end) became.same;
+    limits = ap (λ (y : EngineRow). y.limits) became.same;
   };
   made = became.made;
   many = refl;
-  ready = λ ready n runs. ready n (sym (ap (λ (y : Seen). y.running) became.same) ∙ runs);
+  ready = λ ready n runs. ready n (sym (ap (λ (y : EngineRow). y.state.running) became.same) ∙ runs);
 }
 
-pub serves_tell : (s new : Seen) (t : ℕ) (v : Cap) → new ≡ answered_in s t v
+pub serves_tell : (s new : EngineRow) (t : ℕ) (v : Cap) → new ≡ answered_in s t v
     → ServesAlone s new (Went None) (λ i m. tells m t v)
 serves_tell s new t v is =
     rw is
@@ -95,7 +95,7 @@ serves_tell s new t v is =
 
 -- ---- what comes to the same
 
-pub serves_alike : {s new : Seen} {ss after : List Status} {ran : Ran} {x y : Routine}
+pub serves_alike : {s new : EngineRow} {ss after : List Status} {ran : Ran} {x y : Routine}
     → IsServed s ss new after ran x
     → ((i : Image) (m : State) → HasLayout i s ss → y i (state_with m s ss) ≡ x i (state_with m s ss))
     → IsServed s ss new after ran y
@@ -108,7 +108,7 @@ serves_alike {new = new} {after = after} {ran = ran} h alike = record {
   ready = h.ready;
 }
 
-pub serves_as : {s new : Seen} {ran : Ran} {x y : Routine} → ServesAlone s new ran x
+pub serves_as : {s new : EngineRow} {ran : Ran} {x y : Routine} → ServesAlone s new ran x
     → ((i : Image) (m : State) (ss : List Status) → HasLayout i s ss → y i (state_with m s ss) ≡ x i (state_with m s ss))
     → ServesAlone s new ran y
 serves_as serves alike ss = serves_alike (serves ss) (λ i m h. alike i m ss h)
@@ -116,14 +116,14 @@ serves_as serves alike ss = serves_alike (serves ss) (λ i m h. alike i m ss h)
 -- ---- a trap
 
 -- where the routine traps nothing has changed
-pub serves_trapped : (s : Seen) (ss : List Status) (why : Trap) (x : Routine)
+pub serves_trapped : (s : EngineRow) (ss : List Status) (why : Trap) (x : Routine)
     → ((i : Image) (m : State) → HasLayout i s ss → x i (state_with m s ss) ≡ Traps why)
     → IsServed s ss s ss (Trapped why) x
 serves_trapped s ss why x is =
     record { comes = is; same = (refl, refl); beside = same_beside s; made = omega arith; many = refl; ready = λ r. r }
 
 -- as it does where c1 doesn't lead back
-pub serves_no_return : {s : Seen} {t : ℕ} {c : Cap} {why : Trap} {x : Routine} (ss : List Status) → c ≡ register (thread s t) 1
+pub serves_no_return : {s : EngineRow} {t : ℕ} {c : Cap} {why : Trap} {x : Routine} (ss : List Status) → c ≡ register (thread s t) 1
     → Some why ≡ first_failed (return_checks c)
     → IsServed s ss s ss (Trapped why) (λ i m. checked (return_checks (register (state.thread m t) 1)) (x i m))
 serves_no_return {s} {t} {c} {why} {x} ss is fails =
@@ -131,7 +131,7 @@ serves_no_return {s} {t} {c} {why} {x} ss is fails =
 
 -- ---- a quota
 
-pub serves_by_quota : {s u new : Seen} {t quota : ℕ} {ran : Ran} {x y : Routine} → NamesThisQuota s u t quota → ServesAlone u new ran x
+pub serves_by_quota : {s u new : EngineRow} {t quota : ℕ} {ran : Ran} {x y : Routine} → NamesThisQuota s u t quota → ServesAlone u new ran x
     → ((i : Image) (m : State) (ss : List Status) → HasLayout i s ss → y i (state_with m s ss) ≡ x i (state_with m s ss))
     → ServesAlone s new ran (λ i m. by_quota m t (y i m))
 serves_by_quota {s} {t = t} w serves alike =
@@ -139,14 +139,14 @@ serves_by_quota {s} {t = t} w serves alike =
 
 -- ---- a key
 
-pub serves_by_key : {s u new : Seen} {t n key : ℕ} {ran : Ran} {x : Routine} {y : Image → State → ℕ → routine.Ran} → NamesThisKey s u t n key
+pub serves_by_key : {s u new : EngineRow} {t n key : ℕ} {ran : Ran} {x : Routine} {y : Image → State → ℕ → routine.Ran} → NamesThisKey s u t n key
     → ServesAlone u new ran x
     → ((i : Image) (m : State) (ss : List Status) → HasLayout i s ss → y i (state_with m s ss) key ≡ x i (state_with m s ss))
     → ServesAlone s new ran (λ i m. by_key m t (key_of m (register (state.thread m t) n)) (y i m))
 serves_by_key {s} {t = t} {n = n} w serves alike =
     serves_as (rw w.same at serves) (λ i m ss h. rw (← register_alike m s ss t n, w.is, ← w.number) (alike i m ss h))
 
-pub serves_no_key : {s new : Seen} {t n : ℕ} {ran : Ran} → ServesAlone s new ran (λ i m. tells m t (code NO_KEY))
-    → as_key s.tokens (sealed_object s.objects (register (thread s t) n)) ≡ None → (y : Image → State → ℕ → routine.Ran)
+pub serves_no_key : {s new : EngineRow} {t n : ℕ} {ran : Ran} → ServesAlone s new ran (λ i m. tells m t (code NO_KEY))
+    → as_key s.state.tokens (sealed_object s.state.objects (register (thread s t) n)) ≡ None → (y : Image → State → ℕ → routine.Ran)
     → ServesAlone s new ran (λ i m. by_key m t (key_of m (register (state.thread m t) n)) (y i m))
 serves_no_key {s} {t = t} {n = n} serves none y = serves_as serves (λ i m ss h. rw (← register_alike m s ss t n, none) refl)

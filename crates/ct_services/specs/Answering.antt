@@ -10,14 +10,14 @@ use Rattle.ct_entry.specs.Listed.{Listed}
 use Rattle.def_step.specs.Routines.{answered, code}
 use Rattle.def_step.specs.Switch.{Switched, Trapped, TooDeep, NoStack, Enters}
 use Rattle.ct_engine.specs.Calls.{after_call}
-use Rattle.ct_engine.specs.Seen.{Seen, thread, with_thread, with_running}
+use Rattle.ct_engine.specs.Seen.{EngineRow, thread, with_thread, with_running}
 
 -- the running thread goes on where c1 leads, with an answer
-abbrev pub answered_in : Seen → ℕ → Cap → Seen
+abbrev pub answered_in : EngineRow → ℕ → Cap → EngineRow
 answered_in s t value = with_thread s t (answered (thread s t) value)
 
 -- it stops running, with the answer 0
-abbrev pub rested : Seen → ℕ → Seen
+abbrev pub rested : EngineRow → ℕ → EngineRow
 rested s t = with_running (answered_in s t (integer 0)) None
 
 -- a capability through which an aligned word of RAM may be loaded, of RAM of so many bytes
@@ -34,7 +34,7 @@ IfPasses (Some why) P = Unit {0}
 IfPasses None P = P
 
 -- where a call isn't made for want of frames or of stack, the thread goes on with -12 or -11
-abbrev pub switched_in : Seen → Listed → ℕ → Switched → Seen
+abbrev pub switched_in : EngineRow → Listed → ℕ → Switched → EngineRow
 switched_in s e t (Trapped why) = s
 switched_in s e t TooDeep = answered_in s t (code TOO_DEEP)
 switched_in s e t NoStack = answered_in s t (code NO_STACK)

@@ -12,7 +12,7 @@ use Rattle.def_machine.specs.Image.{Image}
 use Rattle.def_machine.specs.State.{State}
 use Rattle.def_step.specs.Routines as routine
 use Rattle.def_step.specs.Routines.{Traps, Leaves}
-use Rattle.ct_engine.specs.Seen.{Seen}
+use Rattle.ct_engine.specs.Seen.{EngineRow}
 use Rattle.ct_engine.specs.Written.{HasLayout, StaysBeside, state_with}
 use Rattle.ct_execute.specs.declared.ran.ActBy.{ActBy}
 use Rattle.ct_execute.specs.declared.ran.Ran.{Ran}
@@ -36,24 +36,24 @@ ComesTo after Returned x = ⊥
 ComesTo after (Native number) x = ⊥
 
 -- the running thread is ready
-abbrev pub RunsReady : Seen → List Status → Type 0
-RunsReady s ss = (t : ℕ) → s.running ≡ Some t → status_of ss t ≡ Ready
+abbrev pub RunsReady : EngineRow → List Status → Type 0
+RunsReady s ss = (t : ℕ) → s.state.running ≡ Some t → status_of ss t ≡ Ready
 
 -- An engine and the threads' statuses became these, and the code came to this: what the written routine comes to, of
 -- each image whose RAM, heap and quotas lie where the engine's do. Where it traps nothing has changed. One object is made
 -- at most, and the running thread stays ready.
-pub record IsServed (s : Seen) (ss : List Status) (new : Seen) (after : List Status) (ran : Ran)
+pub record IsServed (s : EngineRow) (ss : List Status) (new : EngineRow) (after : List Status) (ran : Ran)
     (x : Routine) : Type 0 where
   pub comes : (i : Image) (m : State) → HasLayout i s ss
       → ComesTo (state_with m new after) ran (x i (state_with m s ss))
   pub same : IfUnfinished ran ((new ≡ s) × (after ≡ ss))
   pub beside : StaysBeside s new
-  pub made : new.next ≤ s.next + 1
+  pub made : new.state.next ≤ s.state.next + 1
   pub many : length after ≡ length ss
   pub ready : RunsReady s ss → RunsReady new after
 
 -- the same where the statuses stay
-abbrev pub ServesAlone : Seen → Seen → Ran → Routine → Type 0
+abbrev pub ServesAlone : EngineRow → EngineRow → Ran → Routine → Type 0
 ServesAlone s new ran x = (ss : List Status) → IsServed s ss new ss ran x
 
 -- what the routine of a number comes to; no number of none is served

@@ -15,7 +15,7 @@ use ct_mem::Memory;
 /// c10 and 0 in c11.
 #[tactic(auto, using(crate::proofs::Answers::answers))]
 pub fn answer<M: Memory + Drop>(engine: &mut Engine<M>, t: u32, value: Live)
-    requires { engine.old.running ≡ Some t }
+    requires { engine.old.state.running ≡ Some t }
     ensures { engine.new ≡ answered_in engine.old t value }
 {
     let link = engine.register(t, 1);
@@ -35,7 +35,7 @@ pub(crate) fn code(n: u32) -> Live
 
 /// The running thread goes on with an answer, and nothing else happened.
 pub(crate) fn tell<M: Memory + Drop>(engine: &mut Engine<M>, t: u32, value: Live) -> Ran
-    requires { engine.old.running ≡ Some t }
+    requires { engine.old.state.running ≡ Some t }
     ensures { ServesAlone engine.old engine.new result (λ i m. routine.tells m t value) }
 {
     answer(engine, t, value);
@@ -44,7 +44,7 @@ pub(crate) fn tell<M: Memory + Drop>(engine: &mut Engine<M>, t: u32, value: Live
 
 /// The running thread goes on with a negative answer, and nothing else happened.
 pub(crate) fn refuse<M: Memory + Drop>(engine: &mut Engine<M>, t: u32, n: u32) -> Ran
-    requires runs { engine.old.running ≡ Some t }
+    requires runs { engine.old.state.running ≡ Some t }
     requires some { 0 < n }
     ensures { ServesAlone engine.old engine.new result
         (λ i m. routine.tells m t (routine.code n)) }

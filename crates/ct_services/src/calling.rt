@@ -19,7 +19,7 @@ use def_profile::answers::{NO_STACK, TOO_DEEP};
 /// Where it has as many frames as it may have, it goes on where c1 leads with -12 in c10; where the callee's
 /// stack has too little room, with -11. Where a check fails nothing changes.
 pub fn switch<M: Memory + Drop>(engine: &mut Engine<M>, t: u32, e: &Entries) -> Called
-    requires runs { engine.old.running ≡ Some t }
+    requires runs { engine.old.state.running ≡ Some t }
     requires may { MayCall engine.old t e.now }
     ensures result { result
         ≡ call_outcome (register (thread engine.old t) 6) (switch_at engine.old e.now t) }

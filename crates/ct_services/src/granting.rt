@@ -39,7 +39,7 @@ fn is_quota(c: Live) -> bool
 /// The quota's entry that c10 names. The error is what any routine of a quota comes to where there is none: the trap at
 /// the check of c1 that fails, or the running thread goes on with -1.
 pub(crate) fn quota_named<M: Memory + Drop>(engine: &mut Engine<M>, t: u32) -> Result<u32, Ran>
-    requires { engine.old.running ≡ Some t }
+    requires { engine.old.state.running ≡ Some t }
     ensures { MatchResult result (NamesThisQuota engine.old engine.new t)
         (λ ran. (x : Routine)
         → ServesAlone engine.old engine.new ran (λ i m. quotas.by_quota m t (x i m))) }
@@ -91,7 +91,7 @@ fn refused(why: HeapRefusal, waits: bool) -> u32
 
 /// The running thread goes on with -2 to -5 after an allocation was refused, and nothing else happened.
 pub(crate) fn decline<M: Memory + Drop>(engine: &mut Engine<M>, t: u32, why: HeapRefusal) -> Ran
-    requires { engine.old.running ≡ Some t }
+    requires { engine.old.state.running ≡ Some t }
     ensures { ServesAlone engine.old engine.new result
         (λ i m. routine.tells m t
         (routine.code (refusal_code why (has_quarantined m.objects)))) }
@@ -108,7 +108,7 @@ pub(crate) fn hand_out<M: Memory + Drop>(
     object: Object,
     value: Live,
 ) -> Ran
-    requires { engine.old.running ≡ Some t }
+    requires { engine.old.state.running ≡ Some t }
     ensures engine { engine.new ≡ answered_in engine.old t value }
     ensures told { result
         ≡ Went (Some (act_by quota
@@ -130,9 +130,9 @@ pub(crate) fn hand_out<M: Memory + Drop>(
 
 /// An object of so many bytes is charged to a quota.
 fn grant<M: Memory + Drop>(engine: &mut Engine<M>, t: u32, quota: u32, size: u32) -> Ran
-    requires runs { engine.old.running ≡ Some t }
+    requires runs { engine.old.state.running ≡ Some t }
     requires quota { quota < length engine.old.limits }
-    requires few { engine.old.next ≤ MOST_STEPS }
+    requires few { engine.old.state.next ≤ MOST_STEPS }
     ensures { ServesAlone engine.old engine.new result
         (λ i m. quotas.allocated m t (allocation i m quota size)) }
 {
@@ -149,9 +149,9 @@ fn grant<M: Memory + Drop>(engine: &mut Engine<M>, t: u32, quota: u32, size: u32
 /// else with -2 where the quota's limit would be passed; else, where no place is lawful, with -5 where an object is
 /// quarantined and with -3 where none is. The trap is the check of c1 that fails; then nothing changes.
 pub(crate) fn allocate<M: Memory + Drop>(engine: &mut Engine<M>, t: u32) -> Ran
-    requires runs { engine.old.running ≡ Some t }
+    requires runs { engine.old.state.running ≡ Some t }
     requires quota { NamesQuota engine.old t }
-    requires few { engine.old.next ≤ MOST_STEPS }
+    requires few { engine.old.state.next ≤ MOST_STEPS }
     ensures { ServesAlone engine.old engine.new result (λ i m. quotas.allocate i m t) }
 {
     match quota_named(engine, t) {
@@ -180,7 +180,7 @@ pub(crate) fn free_whole<M: Memory + Drop>(
     base: u32,
     top: u64,
 ) -> Ran
-    requires runs { engine.old.running ≡ Some t }
+    requires runs { engine.old.state.running ≡ Some t }
     requires quota { quota < length engine.old.limits }
     ensures { ServesAlone engine.old engine.new result
         (λ i m. quotas.freed_as i m t (find (spans_of quota base top) m.objects)) }
@@ -206,7 +206,7 @@ pub(crate) fn free_whole<M: Memory + Drop>(
 
 /// The live object of a quota that a capability is the whole of, tagged and unsealed, is freed.
 fn free_named<M: Memory + Drop>(engine: &mut Engine<M>, t: u32, quota: u32, c: Live) -> Ran
-    requires runs { engine.old.running ≡ Some t }
+    requires runs { engine.old.state.running ≡ Some t }
     requires quota { quota < length engine.old.limits }
     ensures { ServesAlone engine.old engine.new result
         (λ i m. quotas.freed_as i m t (quotas.whole_of m.objects quota c)) }
@@ -223,7 +223,7 @@ fn free_named<M: Memory + Drop>(engine: &mut Engine<M>, t: u32, quota: u32, c: L
 /// It goes on with -1 exactly where c10 is no quota; else with -6 where there is no such object. The trap is the check
 /// of c1 that fails; then nothing changes.
 pub(crate) fn free<M: Memory + Drop>(engine: &mut Engine<M>, t: u32) -> Ran
-    requires runs { engine.old.running ≡ Some t }
+    requires runs { engine.old.state.running ≡ Some t }
     requires quota { NamesQuota engine.old t }
     ensures { ServesAlone engine.old engine.new result (λ i m. quotas.free i m t) }
 {
@@ -239,7 +239,7 @@ pub(crate) fn free<M: Memory + Drop>(engine: &mut Engine<M>, t: u32) -> Ran
 /// Remaining: the running thread goes on with what the quota that c10 names may still take, in bytes, or with -1
 /// exactly where c10 is no quota. The trap is the check of c1 that fails; then nothing changes.
 pub(crate) fn remaining<M: Memory + Drop>(engine: &mut Engine<M>, t: u32) -> Ran
-    requires runs { engine.old.running ≡ Some t }
+    requires runs { engine.old.state.running ≡ Some t }
     requires quota { NamesQuota engine.old t }
     ensures { ServesAlone engine.old engine.new result (λ i m. quotas.remaining i m t) }
 {

@@ -29,7 +29,7 @@ use def_profile::answers::DIFFERS;
 
 /// The running thread stops, with the answer 0.
 fn stop<M: Memory + Drop>(engine: &mut Engine<M>, t: u32) -> Ran
-    requires { engine.old.running ≡ Some t }
+    requires { engine.old.state.running ≡ Some t }
     ensures engine { engine.new ≡ rested engine.old t }
     ensures ran { result ≡ Went None }
 {
@@ -46,7 +46,7 @@ pub(crate) fn rest<M: Memory + Drop>(
     t: u32,
     ticks: u32,
 ) -> Ran
-    requires runs { engine.old.running ≡ Some t }
+    requires runs { engine.old.state.running ≡ Some t }
     requires ready { status_of sched.old.statuses t ≡ Ready }
     ensures serves { IsServed engine.old sched.old.statuses engine.new sched.new.statuses result
         (λ i m. checked (return_checks (register (state.thread m t) 1))
@@ -63,14 +63,15 @@ pub(crate) fn rest<M: Memory + Drop>(
 /// What the word holds that c10 names.
 #[tactic(auto, using(crate::proofs::Held::word_low, crate::proofs::Held::word_accessed, crate::proofs::Held::word_seen))]
 fn word_held<M: Memory + Drop>(engine: &Engine<M>, t: u32, ram: u32) -> u32
-    requires runs { engine.now.running ≡ Some t }
+    requires runs { engine.now.state.running ≡ Some t }
     requires opens { IsOpen engine.now t }
     requires ram { ram ≡ engine.now.region.ram }
     requires even { ram % 16 ≡ 0 }
-    requires word { IsWord ram (8 * length engine.now.granules)
+    requires word { IsWord ram (8 * length engine.now.state.granules)
         (register (thread engine.now t) 10) }
     ensures { result
-        ≡ loaded engine.now.granules (cap_address (register (thread engine.now t) 10) - ram) 4 }
+        ≡ loaded engine.now.state.granules
+        (cap_address (register (thread engine.now t) 10) - ram) 4 }
 {
     let address = engine.register(t, 10).address();
     engine.load(address - ram, 4)
@@ -85,7 +86,7 @@ fn wait_for<M: Memory + Drop>(
     held: u32,
     wanted: u32,
 ) -> Ran
-    requires runs { engine.old.running ≡ Some t }
+    requires runs { engine.old.state.running ≡ Some t }
     requires ready { status_of sched.old.statuses t ≡ Ready }
     ensures serves { IsServed engine.old sched.old.statuses engine.new sched.new.statuses result
         (λ i m. waits m t address held wanted) }
@@ -108,7 +109,7 @@ pub(crate) fn wait<M: Memory + Drop>(
     t: u32,
     ram: u32,
 ) -> Ran
-    requires runs { engine.old.running ≡ Some t }
+    requires runs { engine.old.state.running ≡ Some t }
     requires ready { status_of sched.old.statuses t ≡ Ready }
     requires opens { IsOpen engine.old t }
     requires ram { ram ≡ engine.old.region.ram }
@@ -138,7 +139,7 @@ pub(crate) fn wake<M: Memory + Drop>(
     t: u32,
     ram: u32,
 ) -> Ran
-    requires runs { engine.old.running ≡ Some t }
+    requires runs { engine.old.state.running ≡ Some t }
     requires ram { ram ≡ engine.old.region.ram }
     ensures serves { IsServed engine.old sched.old.statuses engine.new sched.new.statuses result
         (λ i m. routine.wake i m t) }

@@ -28,7 +28,7 @@ use def_profile::seals::TOKEN_TYPE;
 
 /// The live object that a capability is the whole of, where it is sealed as a key or a token.
 fn sealed_in<M: Memory + Drop>(engine: &Engine<M>, c: Live) -> Option<Found>
-    ensures { Finds engine.now.objects c (sealed_object engine.now.objects c) result }
+    ensures { Finds engine.now.state.objects c (sealed_object engine.now.state.objects c) result }
 {
     if !c.cap.tag || c.seal != TOKEN_TYPE {
         return None;
@@ -39,7 +39,7 @@ fn sealed_in<M: Memory + Drop>(engine: &Engine<M>, c: Live) -> Option<Found>
 /// The number of the live key that a register is. The error is what any routine of a key comes to where there is none:
 /// the running thread goes on with -7.
 fn key_named<M: Memory + Drop>(engine: &mut Engine<M>, t: u32, n: u32) -> Result<u32, Ran>
-    requires runs { engine.old.running ≡ Some t }
+    requires runs { engine.old.state.running ≡ Some t }
     requires register { n < 16 }
     ensures { MatchResult result (NamesThisKey engine.old engine.new t n)
         (λ ran. (x : Image → State → ℕ → routine.Ran)
@@ -60,9 +60,9 @@ fn key_named<M: Memory + Drop>(engine: &mut Engine<M>, t: u32, n: u32) -> Result
 
 /// The live token that a capability is of, where it was made with this key.
 fn token_in<M: Memory + Drop>(engine: &Engine<M>, key: u32, c: Live) -> Option<Found>
-    requires { list_any (is_key_row key) engine.now.tokens ≡ true }
-    ensures { Finds engine.now.objects c
-        (as_token engine.now.tokens key (sealed_object engine.now.objects c)) result }
+    requires { list_any (is_key_row key) engine.now.state.tokens ≡ true }
+    ensures { Finds engine.now.state.objects c
+        (as_token engine.now.state.tokens key (sealed_object engine.now.state.objects c)) result }
 {
     match sealed_in(engine, c) {
         Some(found) => {
@@ -85,10 +85,10 @@ fn seal_new<M: Memory + Drop>(
     size: u32,
     key: Option<u32>,
 ) -> Ran
-    requires runs { engine.old.running ≡ Some t }
+    requires runs { engine.old.state.running ≡ Some t }
     requires quota { quota < length engine.old.limits }
-    requires few { engine.old.next ≤ MOST_STEPS }
-    requires rows { RowsFit engine.old.objects engine.old.tokens }
+    requires few { engine.old.state.next ≤ MOST_STEPS }
+    requires rows { RowsFit engine.old.state.objects engine.old.state.tokens }
     ensures { ServesAlone engine.old engine.new result
         (λ i m. tokens.made_token m t key (allocation i m quota size)) }
 {
@@ -112,10 +112,10 @@ fn seal_new<M: Memory + Drop>(
 ///
 /// Condition: each row is of a live object, and no two are of one.
 pub(crate) fn token_key<M: Memory + Drop>(engine: &mut Engine<M>, t: u32) -> Ran
-    requires runs { engine.old.running ≡ Some t }
+    requires runs { engine.old.state.running ≡ Some t }
     requires quota { NamesQuota engine.old t }
-    requires few { engine.old.next ≤ MOST_STEPS }
-    requires rows { RowsFit engine.old.objects engine.old.tokens }
+    requires few { engine.old.state.next ≤ MOST_STEPS }
+    requires rows { RowsFit engine.old.state.objects engine.old.state.tokens }
     ensures { ServesAlone engine.old engine.new result (λ i m. tokens.token_key i m t) }
 {
     match quota_named(engine, t) {
@@ -126,10 +126,10 @@ pub(crate) fn token_key<M: Memory + Drop>(engine: &mut Engine<M>, t: u32) -> Ran
 
 /// A token of the key that c12 is, of as many bytes as c11's address says, is charged to a quota.
 fn make_token<M: Memory + Drop>(engine: &mut Engine<M>, t: u32, quota: u32) -> Ran
-    requires runs { engine.old.running ≡ Some t }
+    requires runs { engine.old.state.running ≡ Some t }
     requires quota { quota < length engine.old.limits }
-    requires few { engine.old.next ≤ MOST_STEPS }
-    requires rows { RowsFit engine.old.objects engine.old.tokens }
+    requires few { engine.old.state.next ≤ MOST_STEPS }
+    requires rows { RowsFit engine.old.state.objects engine.old.state.tokens }
     ensures { ServesAlone engine.old engine.new result
         (λ i m. tokens.by_key m t (key_of m (register (thread m t) 12))
         (λ key. tokens.made_token m t (Some key)
@@ -152,10 +152,10 @@ fn make_token<M: Memory + Drop>(engine: &mut Engine<M>, t: u32, quota: u32) -> R
 ///
 /// Condition: each row is of a live object, and no two are of one.
 pub(crate) fn token_new<M: Memory + Drop>(engine: &mut Engine<M>, t: u32) -> Ran
-    requires runs { engine.old.running ≡ Some t }
+    requires runs { engine.old.state.running ≡ Some t }
     requires quota { NamesQuota engine.old t }
-    requires few { engine.old.next ≤ MOST_STEPS }
-    requires rows { RowsFit engine.old.objects engine.old.tokens }
+    requires few { engine.old.state.next ≤ MOST_STEPS }
+    requires rows { RowsFit engine.old.state.objects engine.old.state.tokens }
     ensures { ServesAlone engine.old engine.new result (λ i m. tokens.token_new i m t) }
 {
     match quota_named(engine, t) {
@@ -166,8 +166,8 @@ pub(crate) fn token_new<M: Memory + Drop>(engine: &mut Engine<M>, t: u32) -> Ran
 
 /// The token that c11 is, where it is one of this key, is opened.
 fn open_token<M: Memory + Drop>(engine: &mut Engine<M>, t: u32, key: u32) -> Ran
-    requires runs { engine.old.running ≡ Some t }
-    requires key { list_any (is_key_row key) engine.old.tokens ≡ true }
+    requires runs { engine.old.state.running ≡ Some t }
+    requires key { list_any (is_key_row key) engine.old.state.tokens ≡ true }
     ensures { ServesAlone engine.old engine.new result
         (λ i m. tokens.opens m t (register (thread m t) 11)
         (token_object m key (register (thread m t) 11))) }
@@ -181,7 +181,7 @@ fn open_token<M: Memory + Drop>(engine: &mut Engine<M>, t: u32, key: u32) -> Ran
 
 /// The token that c11 is, of the key that c10 is, is opened.
 fn open_by_key<M: Memory + Drop>(engine: &mut Engine<M>, t: u32) -> Ran
-    requires { engine.old.running ≡ Some t }
+    requires { engine.old.state.running ≡ Some t }
     ensures { ServesAlone engine.old engine.new result
         (λ i m. tokens.by_key m t (key_of m (register (thread m t) 10))
         (λ key. tokens.opens m t (register (thread m t) 11)
@@ -199,7 +199,7 @@ fn open_by_key<M: Memory + Drop>(engine: &mut Engine<M>, t: u32) -> Ran
 /// It goes on with -7 exactly where c10 is no live key; else with -8 where c11 is no live token of it. The trap is the
 /// check of c1 that fails; then nothing changes.
 pub(crate) fn token_open<M: Memory + Drop>(engine: &mut Engine<M>, t: u32) -> Ran
-    requires { engine.old.running ≡ Some t }
+    requires { engine.old.state.running ≡ Some t }
     ensures { ServesAlone engine.old engine.new result (λ i m. tokens.token_open m t) }
 {
     match return_trap(engine.register(t, 1)) {
@@ -210,9 +210,9 @@ pub(crate) fn token_open<M: Memory + Drop>(engine: &mut Engine<M>, t: u32) -> Ra
 
 /// The token that c12 is, where it is one of this key, is freed.
 fn free_token<M: Memory + Drop>(engine: &mut Engine<M>, t: u32, quota: u32, key: u32) -> Ran
-    requires runs { engine.old.running ≡ Some t }
+    requires runs { engine.old.state.running ≡ Some t }
     requires quota { quota < length engine.old.limits }
-    requires key { list_any (is_key_row key) engine.old.tokens ≡ true }
+    requires key { list_any (is_key_row key) engine.old.state.tokens ≡ true }
     ensures { ServesAlone engine.old engine.new result
         (λ i m. tokens.frees_token i m t quota
         (token_object m key (register (thread m t) 12))) }
@@ -231,7 +231,7 @@ fn free_token<M: Memory + Drop>(engine: &mut Engine<M>, t: u32, quota: u32, key:
 
 /// The token that c12 is, of the key that c11 is, is freed.
 fn take_token<M: Memory + Drop>(engine: &mut Engine<M>, t: u32, quota: u32) -> Ran
-    requires runs { engine.old.running ≡ Some t }
+    requires runs { engine.old.state.running ≡ Some t }
     requires quota { quota < length engine.old.limits }
     ensures { ServesAlone engine.old engine.new result
         (λ i m. tokens.by_key m t (key_of m (register (thread m t) 11))
@@ -251,7 +251,7 @@ fn take_token<M: Memory + Drop>(engine: &mut Engine<M>, t: u32, quota: u32) -> R
 /// no live token of it; else with -6 where the token is charged to another quota. The trap is the check of c1 that
 /// fails; then nothing changes.
 pub(crate) fn token_free<M: Memory + Drop>(engine: &mut Engine<M>, t: u32) -> Ran
-    requires runs { engine.old.running ≡ Some t }
+    requires runs { engine.old.state.running ≡ Some t }
     requires quota { NamesQuota engine.old t }
     ensures { ServesAlone engine.old engine.new result (λ i m. tokens.token_free i m t) }
 {

@@ -25,7 +25,7 @@ use Rattle.ct_areas.specs.Threads.{frames_most}
 use Rattle.ct_switch.specs.Exports.{callee_of}
 use Rattle.ct_switch.proofs.Failing.{checks_passed}
 use Rattle.ct_threads.proofs.Entering.{enters_by}
-use Rattle.ct_engine.specs.Seen.{Seen, thread, area_at}
+use Rattle.ct_engine.specs.Seen.{EngineRow, thread, area_at}
 use Rattle.ct_engine.specs.Calls.{IsEnterable, MayCall, HeadStands, switch_at}
 use Rattle.law_callable.proofs.Showing.{ShowsCaller, top_lies}
 use Rattle.law_callable.proofs.Rising.{image_sorted}
@@ -37,7 +37,7 @@ unfolding image_of
 size_in p m confined = let whole : p.ram + p.size ≤ p.ram + 8 * length m.granules = confined.size in omega (arith, whole)
 
 -- a tagged capability of an export's type in c6 is a call import
-pub import_is : (i : Image) (m : State) (s : Seen) (t : ℕ) → Confined i m → (thread s t).registers ≡ (state.thread m t).registers
+pub import_is : (i : Image) (m : State) (s : EngineRow) (t : ℕ) → Confined i m → (thread s t).registers ≡ (state.thread m t).registers
     → (register (thread s t) 6).tag ≡ true → cap_seal (register (thread s t) 6) ≡ EXPORT_TYPE
     → (root i (register (thread s t) 6).shadow.root).origin ≡ Listing kind.Call
 import_is i m s t confined registers tagged sealed =
@@ -46,7 +46,7 @@ import_is i m s t confined registers tagged sealed =
     subst (λ (c : Cap). (root i c.shadow.root).origin ≡ Listing kind.Call) (sym six) (rooted.calls (sym (ap cap_seal six) ∙ sealed))
 
 -- an export of an image by its parts is open to an engine that shows the state
-enterable_at : (p : PartsRow) (m : State) (s : Seen) (t n : ℕ) → Sound p → ShowsCaller (image_of p) m s t → ExportAt p n
+enterable_at : (p : PartsRow) (m : State) (s : EngineRow) (t n : ℕ) → Sound p → ShowsCaller (image_of p) m s t → ExportAt p n
     → IsEnterable s (image_of p).entries n
 enterable_at p m s t n sound shows export =
     let size = subst (λ (gs : List Granule). p.size ≤ 8 * length gs) (sym shows.granules) (size_in p m shows.confined) in
@@ -55,10 +55,10 @@ enterable_at p m s t n sound shows export =
 -- ---- a call
 
 -- a thread of a confined state may call, where it has frames and an engine shows it
-pub may_call : (i : Image) (m : State) (s : Seen) (t : ℕ) → ShowsCaller i m s t → 0 < length (thread s t).frames → MayCall s t i.entries
+pub may_call : (i : Image) (m : State) (s : EngineRow) (t : ℕ) → ShowsCaller i m s t → 0 < length (thread s t).frames → MayCall s t i.entries
 may_call i m s t shows some =
     subst (λ (j : Image). ShowsCaller j m s t → MayCall s t j.entries) (sym shows.is) (λ here. record {
-      top = top_lies (image_of shows.parts) m s (8 * length s.granules) t here.confined here.placed here.frames some;
+      top = top_lies (image_of shows.parts) m s (8 * length s.state.granules) t here.confined here.placed here.frames some;
       sorted = image_sorted shows.parts;
       import = λ tagged sealed.
           let n : ℕ = (register (thread s t) 6).shadow.root in
@@ -68,7 +68,7 @@ may_call i m s t shows some =
     }) shows
 
 -- what a call through an import of a confined thread asks: the head of the export's table is as boot made it
-pub import_stands : (i : Image) (m : State) (s : Seen) (t : ℕ) → ShowsCaller i m s t → (register (thread s t) 6).tag ≡ true
+pub import_stands : (i : Image) (m : State) (s : EngineRow) (t : ℕ) → ShowsCaller i m s t → (register (thread s t) 6).tag ≡ true
     → cap_seal (register (thread s t) 6) ≡ EXPORT_TYPE → HeadStands i s t (root i (register (thread s t) 6).shadow.root).of
 import_stands i m s t shows tagged sealed =
     let n : ℕ = (register (thread s t) 6).shadow.root in
@@ -76,10 +76,10 @@ import_stands i m s t shows tagged sealed =
     (λ here.
     let export = (named shows.parts shows.sound n).call (import_is (image_of shows.parts) m s t here.confined here.registers tagged sealed) in
     export_stands shows.parts (root (image_of shows.parts) n).of shows.sound export s
-    here.region m here.confined here.granules (8 * length s.granules) t here.placed) shows
+    here.region m here.confined here.granules (8 * length s.state.granules) t here.placed) shows
 
 -- and what the callee that it enters asks
-pub entered_stands : (i : Image) (m : State) (s : Seen) (t export high : ℕ) → ShowsCaller i m s t → switch_at s i.entries t ≡ Enters export high → HeadStands i s t export
+pub entered_stands : (i : Image) (m : State) (s : EngineRow) (t export high : ℕ) → ShowsCaller i m s t → switch_at s i.entries t ≡ Enters export high → HeadStands i s t export
 entered_stands i m s t export high shows enters =
     let base : ℕ = (area_at s t).stack in
     let top : ℕ = frame_top (thread s t).frames in
@@ -90,7 +90,7 @@ entered_stands i m s t export high shows enters =
 -- ---- an error handler
 
 -- what a trap that enters an error handler asks
-pub handlers_asked : (i : Image) (m : State) (s : Seen) (t b : ℕ) → ShowsCaller i m s t → (handler_entry i b ≡ 0 → ⊥) → IsEnterable s i.entries (handler_entry i b)
+pub handlers_asked : (i : Image) (m : State) (s : EngineRow) (t b : ℕ) → ShowsCaller i m s t → (handler_entry i b ≡ 0 → ⊥) → IsEnterable s i.entries (handler_entry i b)
 handlers_asked i m s t b shows some =
     subst (λ (j : Image). ShowsCaller j m s t → (handler_entry j b ≡ 0 → ⊥) → IsEnterable s j.entries (handler_entry j b)) (sym shows.is)
     (λ here has.
@@ -105,9 +105,9 @@ handlers_own i b p sound booted some =
     ∙ callee_is p (handler_entry (image_of p) b) sound (handler_at p b has) ∙ handler_owner p b has) some
 
 -- the head of its export table is as boot made it
-pub handlers_stand : (i : Image) (m : State) (s : Seen) (t b : ℕ) → ShowsCaller i m s t → (handler_entry i b ≡ 0 → ⊥) → HeadStands i s t (handler_entry i b)
+pub handlers_stand : (i : Image) (m : State) (s : EngineRow) (t b : ℕ) → ShowsCaller i m s t → (handler_entry i b ≡ 0 → ⊥) → HeadStands i s t (handler_entry i b)
 handlers_stand i m s t b shows some =
     subst (λ (j : Image). ShowsCaller j m s t → (handler_entry j b ≡ 0 → ⊥) → HeadStands j s t (handler_entry j b)) (sym shows.is)
     (λ here has.
     export_stands shows.parts (handler_entry (image_of shows.parts) b) shows.sound (handler_at shows.parts b has) s
-    here.region m here.confined here.granules (8 * length s.granules) t here.placed) shows some
+    here.region m here.confined here.granules (8 * length s.state.granules) t here.placed) shows some

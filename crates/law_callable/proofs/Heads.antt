@@ -25,7 +25,7 @@ use Rattle.law_boot.proofs.Lying.{own_there}
 use Rattle.law_boot.proofs.Own.{code_stands, globals_stand, code_entry_is, globals_entry_is}
 use Rattle.ct_switch.specs.Exports.{IsCallable, callee_of, table_of}
 use Rattle.ct_engine.specs.declared.rows.Region.{Region}
-use Rattle.ct_engine.specs.Seen.{Seen, region_hides, hides, region_of, area_at}
+use Rattle.ct_engine.specs.Seen.{EngineRow, region_hides, hides, region_of, area_at}
 use Rattle.ct_engine.specs.Calls.{IsEnterable, HeadStands, head_at}
 use Rattle.ct_boot.specs.Placed.{IsPlaced}
 use Rattle.ct_boot.proofs.Placing.{heap_is, ram_is}
@@ -105,7 +105,7 @@ wider e ram size more n le may = record {
 }
 
 -- what lies below the heap isn't hidden by it
-below_seen : (s : Seen) (k : ℕ) → region_hides s.region k ≡ false → s.region.ram + 8 * k < s.heap_base → hides s k ≡ false
+below_seen : (s : EngineRow) (k : ℕ) → region_hides s.region k ≡ false → s.region.ram + 8 * k < s.heap_base → hides s k ≡ false
 below_seen s k open_ below = elim (le_tells s.heap_base (s.region.ram + 8 * k)) [
   | inl above ↦ absurd (let le = above.1 in omega (arith, le, below))
   | inr under ↦ rw (open_, under.0) refl
@@ -126,7 +126,7 @@ module _ (p : PartsRow) (n : ℕ) (s : Sound p) (x : ExportAt p n) where
   second : (x.compartment.table + 8 - p.ram) / 8 ≡ (x.compartment.table - p.ram) / 8 + 1
   second = let low = (puts_code p s x.index x.compartment x.owner).low in omega (arith, low)
 
-  module _ (v : Seen) (region : v.region ≡ region_of (image_of p)) where
+  module _ (v : EngineRow) (region : v.region ≡ region_of (image_of p)) where
     ram_there : v.region.ram ≡ p.ram
     ram_there = ap (λ (g : Region). g.ram) region ∙ sym (ram_is p)
 
@@ -154,15 +154,15 @@ module _ (p : PartsRow) (n : ℕ) (s : Sound p) (x : ExportAt p n) where
         below table size ram own head heap is same even low long high = omega (arith, is, same, even, low, long, high)
 
     -- an export that a call import names is open to an engine of the image's region and heap, in RAM of the image's size
-    pub enterable : p.size ≤ 8 * length v.granules → (image_of p).heap_base ≡ v.heap_base → IsEnterable v (image_of p).entries n
+    pub enterable : p.size ≤ 8 * length v.state.granules → (image_of p).heap_base ≡ v.heap_base → IsEnterable v (image_of p).entries n
     enterable size heap =
-        let may : IsCallable (entries_of p) p.ram (8 * length v.granules) n = wider (entries_of p) p.ram p.size (8 * length v.granules) n size (callable p n s x) in
+        let may : IsCallable (entries_of p) p.ram (8 * length v.state.granules) n = wider (entries_of p) p.ram p.size (8 * length v.state.granules) n size (callable p n s x) in
         let code = open_at p x.compartment.table _ s (puts_code p s x.index x.compartment x.owner) (code_stands p s x.index x.compartment x.owner).made.tagged in
         let globals = open_at p (x.compartment.table + 8) _ s (puts_globals p s x.index x.compartment x.owner) (globals_stand p s x.index x.compartment x.owner).made.tagged in
         let under : v.region.ram + 8 * (head_at v (entries_of p) n + 1) < v.heap_base =
         subst (λ (e : Listed). v.region.ram + 8 * (head_at v e n + 1) < v.heap_base) (entries_are p) (let below = under_heap in let base = heap_is p in omega (arith, below, base, heap)) in
         subst (λ (e : Listed). IsEnterable v e n) (sym (entries_are p)) (record {
-          callable = subst (λ k. IsCallable (entries_of p) k (8 * length v.granules) n) (sym ram_there) may;
+          callable = subst (λ k. IsCallable (entries_of p) k (8 * length v.state.granules) n) (sym ram_there) may;
           code = below_seen v (head_at v (entries_of p) n) (shown (head_at v (entries_of p) n) ((x.compartment.table - p.ram) / 8) head_is code) (omega (arith, under));
           globals = below_seen v (head_at v (entries_of p) n + 1) (shown (head_at v (entries_of p) n + 1) ((x.compartment.table + 8 - p.ram) / 8) (ap (λ k. k + 1) head_is ∙ sym second) globals) under;
         })
@@ -171,8 +171,8 @@ module _ (p : PartsRow) (n : ℕ) (s : Sound p) (x : ExportAt p n) where
 
     abbrev Stand : Listed → Type 0
     Stand e =
-        (cap_in v.granules (head_at v e n) ≡ made_cap (image_of p) (code_entry (image_of p) (callee_of e n)))
-        × (cap_in v.granules (head_at v e n + 1) ≡ made_cap (image_of p) (globals_entry (image_of p) (callee_of e n)))
+        (cap_in v.state.granules (head_at v e n) ≡ made_cap (image_of p) (code_entry (image_of p) (callee_of e n)))
+        × (cap_in v.state.granules (head_at v e n + 1) ≡ made_cap (image_of p) (globals_entry (image_of p) (callee_of e n)))
 
     code_is : made_cap (image_of p) (code_entry (image_of p) (callee_of (entries_of p) n)) ≡ boot_cap_of p (code_number p x.index)
     code_is =
@@ -186,8 +186,8 @@ module _ (p : PartsRow) (n : ℕ) (s : Sound p) (x : ExportAt p n) where
         ∙ ap (λ k. made_cap (image_of p) k) (globals_entry_is p x.index (slice_get_within p.compartments x.index x.compartment x.owner))
         ∙ made_is p (globals_number p x.index)
 
-    module _ (m : State) (confined : Confined (image_of p) m) (granules : v.granules ≡ m.granules) where
-      standing_there : (k at : ℕ) (d : Cap) → k ≡ at → cap_in m.granules at ≡ d → cap_in v.granules k ≡ d
+    module _ (m : State) (confined : Confined (image_of p) m) (granules : v.state.granules ≡ m.granules) where
+      standing_there : (k at : ℕ) (d : Cap) → k ≡ at → cap_in m.granules at ≡ d → cap_in v.state.granules k ≡ d
       standing_there k at d same there = ap (λ (gs : List Granule). cap_in gs k) granules ∙ ap (λ j. cap_in m.granules j) same ∙ there
 
       both_stand : Stand (entries_of p)

@@ -9,7 +9,7 @@ returns-in-Ok g c =
     let t = c.args.t in
     let h = c.in-Ok.ensures in
     serves_made s c.allocate.new.self c.hand_out.new.engine t c.args.quota c.args.size (λ m a. allocated m t a)
-    c.in-Ok.object c.hand_out.result c.capability.result 0 s.tokens h.is h.answer h.told
+    c.in-Ok.object c.hand_out.result c.capability.result 0 s.state.tokens h.is h.answer h.told
     c.capability.ensures c.hand_out.ensures.engine c.hand_out.ensures.told (λ m ss. refl)
 
 pub returns-in-Err : goal.returns-in-Err

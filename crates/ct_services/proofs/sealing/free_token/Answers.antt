@@ -20,7 +20,7 @@ returns-else-found-quota g c =
     let same = sym w.0.quota ∙ c.if-found-quota.false in
     let own = eq-eqb w.0.object.quota c.args.quota same in
     let top : c.c.inside.bounds.top ≡ cap_top c.register-c.result = grind arith in
-    let there = of_quota s.objects c.register-c.result w.0.object c.args.quota c.base_of.result c.c.inside.bounds.top
+    let there = of_quota s.state.objects c.register-c.result w.0.object c.args.quota c.base_of.result c.c.inside.bounds.top
     same c.base_of.ensures top w.0.whole in
     serves_as c.free_whole.ensures
     (λ i m ss h.

@@ -17,7 +17,7 @@ returns-in-Ok g c =
     let r : Object = new_object s c.args.quota c.args.size c.in-Ok.object.base in
     serves_made s c.allocate_sealed.new.self c.hand_out.new.engine t c.args.quota c.args.size
     (λ m a. made_token m t key a) c.in-Ok.object c.hand_out.result c.capability.result TOKEN_TYPE
-    (row_among (row_for r.number key) s.tokens) h.is h.answer h.told
+    (row_among (row_for r.number key) s.state.tokens) h.is h.answer h.told
     c.capability.ensures c.hand_out.ensures.engine c.hand_out.ensures.told
     (λ m ss. rw (token_derived r) refl)
 

@@ -9,7 +9,7 @@ use Rattle.ct_services.proofs.sealing.sealed_in.Goals as goal
 
 pub returns : goal.returns
 returns g c =
-    let os = c.args.engine.now.objects in
+    let os = c.args.engine.now.state.objects in
     let sealed : (c.args.c.tag && (cap_seal c.args.c == TOKEN_TYPE)) ≡ true = grind arith in
     let top : c.c-2.inside.bounds.top ≡ cap_top c.args.c = grind arith in
     finds_so os c.args.c (sealed_object os c.args.c) (whole_at c.base_of.result c.c-2.inside.bounds.top os)

@@ -1,5 +1,5 @@
 use Rattle.std.proofs.Common.{◌∙◌, refl, ap}
-use Rattle.ct_engine.specs.Seen.{Seen}
+use Rattle.ct_engine.specs.Seen.{EngineRow}
 use Rattle.ct_engine.proofs.Whole.{turn_holds}
 use Rattle.ct_engine.proofs.Goes.{Runner, filter_turn, filter_sees}
 use Rattle.ct_engine.proofs.HeapTurns.{with_heap}
@@ -14,7 +14,7 @@ here : (g : given.Over) (c : goal.After-self-1 g)
     (with_table (with_heap c.self.inside.rows c.free.new.self c.self.inside.rows.front) c.drop_row.new.self) c.args.t c.index_mut.result.now
 here g c = record {
   holds = freed_holds c.self.invariant c.in_ok-object.ensures.answer c.drop_row.new.self c.in_ok-object.ensures.laid c.drop_row.ensures.room;
-  runs = ap (λ (s : Seen). s.running) c.self.view_is ∙ c.requires.runs;
+  runs = ap (λ (s : EngineRow). s.state.running) c.self.view_is ∙ c.requires.runs;
   is = c.index_mut.ensures.value;
 }
 

@@ -1,5 +1,5 @@
 use Rattle.std.proofs.Common.{◌<◌, ◌∙◌, false, length, refl, sym, ap, arith, subst}
-use Rattle.ct_engine.specs.Seen.{Seen, thread}
+use Rattle.ct_engine.specs.Seen.{EngineRow, thread}
 use Rattle.ct_engine.proofs.Whole.{row_at, row_lies, row_depth, there_in, only_turn, turn_holds, pick_sees}
 use Rattle.ct_engine.proofs.Away.{alive_there}
 use Rattle.ct_engine.proofs.engine.Engine.pick.Goals as goal
@@ -31,14 +31,14 @@ pub take_up-requires-clause-alive : goal.take_up-requires-clause-alive
 take_up-requires-clause-alive g c =
     let lt = alive_there _ c.self.inside.rows c.args.self.now c.args.t c.self.view_is c.requires.alive in
     let w = row_at c.self.invariant lt c.index_mut.ensures.value c.index-stood.ensures refl in
-    subst (λ n. 0 < n) (ap (λ (s : Seen). length (thread s c.args.t).frames) (sym c.self.view_is) ∙ row_depth w) c.requires.alive
+    subst (λ n. 0 < n) (ap (λ (s : EngineRow). length (thread s c.args.t).frames) (sym c.self.view_is) ∙ row_depth w) c.requires.alive
 
 pub invariant_of-self : goal.invariant_of-self
 invariant_of-self g c =
     let lt = alive_there _ c.self.inside.rows c.args.self.now c.args.t c.self.view_is c.requires.alive in
     let w = row_at c.self.invariant lt c.index_mut.ensures.value c.index-stood.ensures refl in
     let did = c.take_up.ensures in
-    let none = ap (λ (s : Seen). s.running) c.self.view_is ∙ c.requires.none in
+    let none = ap (λ (s : EngineRow). s.state.running) c.self.view_is ∙ c.requires.none in
     turn_holds (only_turn w did.touches did.area did.kept false none)
 
 pub returns : goal.returns
@@ -46,5 +46,5 @@ returns g c =
     let lt = alive_there _ c.self.inside.rows c.args.self.now c.args.t c.self.view_is c.requires.alive in
     let w = row_at c.self.invariant lt c.index_mut.ensures.value c.index-stood.ensures refl in
     let did = c.take_up.ensures in
-    let none = ap (λ (s : Seen). s.running) c.self.view_is ∙ c.requires.none in
+    let none = ap (λ (s : EngineRow). s.state.running) c.self.view_is ∙ c.requires.none in
     rw (← c.self.view_is) (pick_sees (only_turn w did.touches did.area did.kept false none) did.thread refl)

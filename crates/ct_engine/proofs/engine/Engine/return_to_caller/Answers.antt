@@ -3,7 +3,7 @@ use Rattle.def_words.specs.declared.Cap.{Cap}
 use Rattle.def_machine.specs.Frames.{answer_by, cap_passed_by}
 use Rattle.ct_switch.specs.Calls.{returned_by}
 use Rattle.ct_threads.proofs.Leaving.{ends_are}
-use Rattle.ct_engine.specs.Seen.{Seen, engine_view, thread}
+use Rattle.ct_engine.specs.Seen.{EngineRow, engine_view, thread}
 use Rattle.ct_engine.specs.Calls.{TopLies}
 use Rattle.ct_engine.proofs.Whole.{turn_holds, runner_stands}
 use Rattle.ct_engine.proofs.Goes.{runner, running_lies, register_is}
@@ -14,7 +14,7 @@ use Rattle.ct_engine.proofs.engine.Engine.return_to_caller.Goals as goal
 pub return_to_caller-back-requires-clause-ready : goal.return_to_caller-back-requires-clause-ready
 return_to_caller-back-requires-clause-ready g c =
     ready_is (runner c.self.invariant c.self.view_is c.requires.runs c.index_mut.ensures.value)
-    (subst (λ (s : Seen). TopLies s c.args.t) (sym c.self.view_is) c.requires.top)
+    (subst (λ (s : EngineRow). TopLies s c.args.t) (sym c.self.view_is) c.requires.top)
 
 pub go_on_or_end-requires : goal.go_on_or_end-requires
 go_on_or_end-requires g c =
@@ -24,32 +24,32 @@ go_on_or_end-requires g c =
 pub invariant_of-self : goal.invariant_of-self
 invariant_of-self g c =
     let h = runner c.self.invariant c.self.view_is c.requires.runs c.index_mut.ensures.value in
-    let top = subst (λ (s : Seen). TopLies s c.args.t) (sym c.self.view_is) c.requires.top in
+    let top = subst (λ (s : EngineRow). TopLies s c.args.t) (sym c.self.view_is) c.requires.top in
     let did = c.return_to_caller-back.ensures in
     let ends = ends_are (g.M.Memory.granules c.self.inside.mem) _ _ _ _ (returned_by c.args.e.now c.index_mut.result.now 10)
-        (returned_by c.args.e.now c.index_mut.result.now 11)
-        (running_lies h).kept (ready_is h top) did.result did.thread did.memory did.row in
+    (returned_by c.args.e.now c.index_mut.result.now 11)
+    (running_lies h).kept (ready_is h top) did.result did.thread did.memory did.row in
     rw c.go_on_or_end.ensures.is (turn_holds (end_turn h top ends))
 
 pub returns-clause-result : goal.returns-clause-result
 returns-clause-result g c =
     let h = runner c.self.invariant c.self.view_is c.requires.runs c.index_mut.ensures.value in
-    let top = subst (λ (s : Seen). TopLies s c.args.t) (sym c.self.view_is) c.requires.top in
+    let top = subst (λ (s : EngineRow). TopLies s c.args.t) (sym c.self.view_is) c.requires.top in
     let did = c.return_to_caller-back.ensures in
     let ends = ends_are (g.M.Memory.granules c.self.inside.mem) _ _ _ _ (returned_by c.args.e.now c.index_mut.result.now 10)
-        (returned_by c.args.e.now c.index_mut.result.now 11)
-        (running_lies h).kept (ready_is h top) did.result did.thread did.memory did.row in
+    (returned_by c.args.e.now c.index_mut.result.now 11)
+    (running_lies h).kept (ready_is h top) did.result did.thread did.memory did.row in
     rw (← c.self.view_is) (c.go_on_or_end.ensures.result ∙ end_tells h top ends)
 
 pub returns-clause-is : goal.returns-clause-is
 returns-clause-is g c =
     let h = runner c.self.invariant c.self.view_is c.requires.runs c.index_mut.ensures.value in
-    let top = subst (λ (s : Seen). TopLies s c.args.t) (sym c.self.view_is) c.requires.top in
+    let top = subst (λ (s : EngineRow). TopLies s c.args.t) (sym c.self.view_is) c.requires.top in
     let did = c.return_to_caller-back.ensures in
     let ends = ends_are (g.M.Memory.granules c.self.inside.mem) _ _ _ _ (returned_by c.args.e.now c.index_mut.result.now 10)
-        (returned_by c.args.e.now c.index_mut.result.now 11)
-        (running_lies h).kept (ready_is h top) did.result did.thread did.memory did.row in
-    let old : Seen = engine_view (g.M.Memory.granules c.self.inside.mem) c.self.inside.rows in
+    (returned_by c.args.e.now c.index_mut.result.now 11)
+    (running_lies h).kept (ready_is h top) did.result did.thread did.memory did.row in
+    let old : EngineRow = engine_view (g.M.Memory.granules c.self.inside.mem) c.self.inside.rows in
     rw (← c.self.view_is, c.go_on_or_end.ensures.is) (end_sees h top ends
     (λ f. answer_by c.args.e.now (thread old c.args.t) f 10) (λ f. answer_by c.args.e.now (thread old c.args.t) f 11)
     (λ f. ap (λ (x : Cap). cap_passed_by c.args.e.now f.export x) (sym (register_is h 10)))

@@ -16,7 +16,7 @@ use Rattle.ct_machine.proofs.parts.Parts.finish.Goals as goal
 pub leave-goes-requires : goal.leave-goes-requires
 leave-goes-requires g c =
     let i = c.self.inside in
-    unfinished_map c.args.ran (MayEnd _ c.args.t c.args.actor) ((i.engine.running ≡ Some c.args.t) × MayHandle i.engine c.args.t c.entries.result.now c.handler-handler.result)
+    unfinished_map c.args.ran (MayEnd _ c.args.t c.args.actor) ((i.engine.state.running ≡ Some c.args.t) × MayHandle i.engine c.args.t c.entries.result.now c.handler-handler.result)
     (λ m. (
       m.runs.runs,
       may_handle i.plan i.engine i.sched i.pending i.bus.states i.time i.counts c.args.t c.args.actor c.self.invariant.0 c.entries.ensures.sound m.may.keeps.confined
@@ -38,7 +38,7 @@ invariant_of-self g c =
     c.leave-goes.ensures.is (c.end_unless.ensures ∙ ap (λ b. status_after b i.sched c.args.t) c.leave-goes.ensures.result) c.deed_of-deed.ensures c.count_deed.ensures in (
       left.1,
       subst (λ n. IsCounted c.count_deed.new.self i.time n) (sym left.2)
-          (subst (λ (n : Counts). IsCounted n i.time i.engine.next) (sym c.count_deed.ensures) (deed_counts i.counts c.deed_of-deed.result i.time i.engine.next c.self.invariant.1 room)),
+          (subst (λ (n : Counts). IsCounted n i.time i.engine.state.next) (sym c.count_deed.ensures) (deed_counts i.counts c.deed_of-deed.result i.time i.engine.state.next c.self.invariant.1 room)),
     )
 
 pub returns-clause-is : goal.returns-clause-is

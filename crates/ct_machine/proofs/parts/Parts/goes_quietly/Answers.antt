@@ -3,7 +3,7 @@ use Rattle.def_events.specs.Guarded.{Guarded}
 use Rattle.def_step.specs.declared.Event.TheVariants.{Step}
 use Rattle.def_step.specs.Events.{happens, end_of}
 use Rattle.def_machine.specs.Platform.{MachineRow}
-use Rattle.ct_engine.specs.Seen.{Seen}
+use Rattle.ct_engine.specs.Seen.{EngineRow}
 use Rattle.ct_machine.specs.Parts.{state_by}
 use Rattle.ct_machine.specs.Quiet.{has_sweep, with_counts, IsThreadWindow}
 use Rattle.ct_machine.proofs.Bursting.{burst_kept, none_goes, none_seen, one_goes, opens_once, runs_seen}
@@ -42,7 +42,7 @@ returns-clause-is g c told counts =
 pub returns-clause-same : goal.returns-clause-same
 returns-clause-same g c told =
     let i = c.self.inside in
-    ap (λ (x : Seen). state_by x i.sched i.pending i.bus.states i.time i.counts) (none_goes c.args.t c.once.result i.engine c.once.new.self c.once.ensures.goes c.once.ensures.most told)
+    ap (λ (x : EngineRow). state_by x i.sched i.pending i.bus.states i.time i.counts) (none_goes c.args.t c.once.result i.engine c.once.new.self c.once.ensures.goes c.once.ensures.most told)
     ∙ ap (λ (m : MachineRow). m.state) c.self.view_is
 
 pub returns-clause-aside : goal.returns-clause-aside
@@ -54,7 +54,7 @@ returns-clause-aside g c =
       counts = ap (λ (m : MachineRow). m.state.counts) c.self.view_is;
       sweep = sweep_stays i.engine c.once.new.self i.sched i.pending i.bus.states i.time i.counts stays ∙ ap (λ (m : MachineRow). has_sweep m.state) c.self.view_is;
       pending = ap (λ (m : MachineRow). m.state.pending) c.self.view_is;
-      running = ap (λ (x : Seen). x.running) stays.beside ∙ ap (λ (m : MachineRow). m.state.running) c.self.view_is;
+      running = ap (λ (x : EngineRow). x.state.running) stays.beside ∙ ap (λ (m : MachineRow). m.state.running) c.self.view_is;
     }
 
 pub returns-clause-going : goal.returns-clause-going
@@ -68,7 +68,7 @@ returns-clause-still g c =
     let i = c.self.inside in
     let after = burst_kept i.plan i.engine i.sched c.args.t c.self.invariant.0 c.once.result c.once.new.self c.once.ensures.goes in
     none_ended i.plan c.once.new.self i.sched i.pending i.bus.states i.time i.counts c.args.t after.0
-    (ap (λ (x : Seen). x.running) after.1.beside ∙ runs_seen _ c.args.self.now c.args.t c.self.view_is c.requires.runs)
+    (ap (λ (x : EngineRow). x.state.running) after.1.beside ∙ runs_seen _ c.args.self.now c.args.t c.self.view_is c.requires.runs)
 
 pub returns-clause-window : goal.returns-clause-window
 returns-clause-window g c =

@@ -1,7 +1,7 @@
 use Rattle.std.proofs.Common.{◌∙◌, refl, subst, sym, ap}
 use Rattle.def_machine.specs.Platform.{MachineRow}
 use Rattle.def_step.specs.Events.{run_on}
-use Rattle.ct_engine.specs.Seen.{Seen}
+use Rattle.ct_engine.specs.Seen.{EngineRow}
 use Rattle.ct_machine.specs.Going.{MayGoOn}
 use Rattle.ct_machine.specs.Parts.{state_by}
 use Rattle.ct_machine.proofs.Bursting.{burst_kept, none_goes, one_goes, opens_once}
@@ -31,5 +31,5 @@ returns-in-Some-clause-is g c told =
 pub returns-in-Some-clause-same : goal.returns-in-Some-clause-same
 returns-in-Some-clause-same g c told =
     let i = c.self.inside in
-    ap (λ (x : Seen). state_by x i.sched i.pending i.bus.states i.time i.counts) (none_goes c.in-Some.t c.once.result i.engine c.once.new.self c.once.ensures.goes c.once.ensures.most told)
+    ap (λ (x : EngineRow). state_by x i.sched i.pending i.bus.states i.time i.counts) (none_goes c.in-Some.t c.once.result i.engine c.once.new.self c.once.ensures.goes c.once.ensures.most told)
     ∙ ap (λ (m : MachineRow). m.state) c.self.view_is

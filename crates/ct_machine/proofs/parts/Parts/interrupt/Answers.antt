@@ -1,7 +1,7 @@
 use Rattle.std.proofs.Common.{ap, ◌∙◌}
 use Rattle.def_step.specs.Events.{interrupted}
 use Rattle.def_machine.specs.Platform.{MachineRow}
-use Rattle.ct_engine.specs.Seen.{Seen}
+use Rattle.ct_engine.specs.Seen.{EngineRow}
 use Rattle.ct_machine.proofs.Taking.{runs_as, state_with_row, waits_interrupted, stops_interrupted}
 use Rattle.ct_machine.proofs.parts.Parts.interrupt.Goals as goal
 
@@ -12,6 +12,6 @@ returns-then-posture-clause-state g c =
 pub returns-else-posture-clause-state : goal.returns-else-posture-clause-state
 returns-else-posture-clause-state g c =
     let i = c.self.inside in
-    ap (λ (e : Seen). state_with_row i e i.sched) c.stop.ensures
+    ap (λ (e : EngineRow). state_with_row i e i.sched) c.stop.ensures
     ∙ stops_interrupted (runs_as i c.in-Some.ensures c.posture.ensures) c.if-posture.false
     ∙ ap (λ (m : MachineRow). interrupted m.state m.state.running) c.self.view_is

@@ -2,7 +2,7 @@ use Rattle.std.proofs.Common.{false, ap, sym, ◌∙◌}
 use Rattle.std.proofs.lemmas.Bool.{not-true, not-false}
 use Rattle.def_step.specs.Events.{preempted}
 use Rattle.def_machine.specs.Platform.{MachineRow}
-use Rattle.ct_engine.specs.Seen.{Seen}
+use Rattle.ct_engine.specs.Seen.{EngineRow}
 use Rattle.ct_machine.specs.Parts.{state_by}
 use Rattle.ct_machine.proofs.Taking.{runs_as, stops_preempted, stays_preempted}
 use Rattle.ct_machine.proofs.Keeping.{stopped_so}
@@ -11,7 +11,7 @@ use Rattle.ct_machine.proofs.parts.Parts.preempt.Goals as goal
 pub returns-then-not-posture-clause-state : goal.returns-then-not-posture-clause-state
 returns-then-not-posture-clause-state g c =
     let i = c.self.inside in
-    ap (λ (e : Seen). state_by e i.sched false i.bus.states i.time i.counts) c.stop.ensures
+    ap (λ (e : EngineRow). state_by e i.sched false i.bus.states i.time i.counts) c.stop.ensures
     ∙ stops_preempted (runs_as i c.in-Some.ensures c.posture.ensures) c.if-not-self.false (not-true _ c.if-not-posture.true)
     ∙ ap (λ (m : MachineRow). preempted m.state) c.self.view_is
 
