@@ -10,6 +10,7 @@ use Rattle.def_step.specs.Events.{happens}
 use Rattle.def_image.specs.Parts.{PartsRow}
 use Rattle.def_image.specs.Sound.{Sound}
 use Rattle.def_boot.specs.Boot.{booted_machine}
+use Rattle.ct_machine.specs.Going.{MayGoOn}
 use Rattle.law_boot.proofs.Wiring.{wired}
 use Rattle.law_boot.proofs.Ranges.{inside}
 use Rattle.law_boot.proofs.Holding.{holds}
@@ -67,6 +68,9 @@ event_licensed m e g = record {
   deed = λ d is. deed_licensed m.board m.state e d g.partitioned g.facts g.wired g.keeps is;
   off = λ o is. span_licensed m.board m.state e o g.partitioned g.facts g.wired g.keeps is;
 }
+
+pub guarded_may : {m : MachineRow} → Guarded m → MayGoOn m
+guarded_may g = record { shut = g.shut; facts = g.facts; keeps = g.keeps; rows = g.rows }
 
 pub same_machine : (m n : MachineRow) → m.board ≡ n.board → m.state ≡ n.state → m ≡ n
 same_machine m n board state =

@@ -1,15 +1,14 @@
 -- A round in which a thread is picked, and those that follow where it goes on quietly.
-use Rattle.std.proofs.Common.{ℕ, zero, suc, ◌+◌, ◌-◌, ◌≡◌, ◌≤◌, Bool, false, if◌then◌else◌, Option, Some, None, refl, sym, ap, ◌∙◌, subst, arith}
+use Rattle.std.proofs.Common.{ℕ, zero, suc, ◌+◌, ◌-◌, ◌≡◌, ◌≤◌, false, Option, Some, None, refl, sym, ap, ◌∙◌, subst, arith}
 use Rattle.ct_entry.specs.declared.acts.Deed.{Deed}
 use Rattle.ct_entry.specs.declared.acts.Happened.{Happened}
 use Rattle.ct_entry.specs.declared.acts.Owned.{Owned}
-use Rattle.def_words.specs.declared.Posture.{Posture}
 use Rattle.def_events.specs.Guarded.{Guarded}
 use Rattle.def_machine.specs.Platform.{Platform, MachineRow}
 use Rattle.def_machine.specs.State.{State}
 use Rattle.def_step.specs.declared.Event.TheVariants.{Step, Sweep}
 use Rattle.def_step.specs.Events.{begun_since, end_of, happens, holder, holder_by, one_more_step, preempted, run, run_on, scheduled, told_of}
-use Rattle.ct_engine.specs.Bursts.{GoesFor, GoesOnce, IsOpen, StaysOpen}
+use Rattle.ct_engine.specs.Bursts.{GoesFor, GoesOnce, StaysOpen}
 use Rattle.ct_engine.specs.Seen as engine
 use Rattle.ct_engine.specs.Seen.{EngineRow}
 use Rattle.ct_execute.proofs.Quiet.{goes_stays}
@@ -19,14 +18,12 @@ use Rattle.ct_machine.specs.Going.{silence, one_more_sweep, MayGoOn}
 use Rattle.ct_machine.specs.Onward.{RanOn}
 use Rattle.ct_machine.specs.Quiet.{has_sweep, with_rounds, CarriedOn, GuardsNext, WentRounds}
 use Rattle.ct_machine.proofs.Appending.{both_ran, round_ran}
-use Rattle.ct_machine.proofs.Bursting.{rounds_went, stays_open}
+use Rattle.ct_machine.proofs.Bursting.{idle_seen, none_seen, opens_first, rounds_went, stays_open}
 use Rattle.ct_machine.proofs.Guards.{same_machine, told_guarded}
-use Rattle.ct_machine.proofs.Keeping.{machine_by}
-use Rattle.ct_machine.proofs.Opened.{is_open}
-use Rattle.ct_machine.proofs.Quietly.{none_ended, once_kept, quietly_run, still_posture, sweep_stays}
+use Rattle.ct_machine.proofs.Quietly.{none_ended, once_kept, quietly_run, still_held}
 use Rattle.ct_machine.proofs.Ready.{may_go_on}
 use Rattle.ct_machine.proofs.Rounding.{idle_told}
-use Rattle.ct_machine.proofs.Taking.{none_preempted, posture_with}
+use Rattle.ct_machine.proofs.Taking.{board_in, holder_off, machine_in, none_preempted, runs_as, state_in, state_with_row}
 
 -- ---- the first of so many instructions
 
@@ -35,61 +32,53 @@ front t zero e new goes = (new, subst (λ (x : EngineRow). GoesOnce t x new) goe
 front t (suc n) e new goes = let first = front t n e goes.0 goes.1 in (first.0, first.1, (goes.0, first.2, goes.2))
 
 -- of a machine of these parts, in which a thread runs, no tick is pending and no sweep has work
-module _ {M : Type 0} (i : Inside M) (t : ℕ) (kept : IsKept i.plan i.engine i.sched) {now : MachineRow} (is : machine_by i.plan i.engine i.sched i.bus i.pending i.time i.counts ≡ now)
+module _ {M : Type 0} (i : Inside M) (kept : IsKept i.plan i.engine i.sched) (t : ℕ) {now : MachineRow} (is : machine_in i ≡ now)
     (runs : i.engine.state.running ≡ Some t) (pending : now.state.pending ≡ false) (next : GuardsNext now) (idle : has_sweep now.state ≡ false) where
-  -- with another engine
-  abbrev machine_with : EngineRow → MachineRow
-  machine_with x = machine_by i.plan x i.sched i.bus i.pending i.time i.counts
+  module _ {mid : EngineRow} (goes : GoesOnce t i.engine mid) where
+    -- of its first instruction
+    abbrev first : Inside M
+    first = record i { engine = mid }
 
-  none : i.pending ≡ false
-  none = ap (λ (m : MachineRow). m.state.pending) is ∙ pending
+    first_kept : IsKept i.plan mid i.sched
+    first_kept = once_kept kept goes
 
-  quiet_from : (mid : EngineRow) → GoesOnce t i.engine mid → ((machine_with mid).state, None) ≡ run_on now.board now.state
-  quiet_from mid goes = quietly_run i.plan i.engine mid i.sched i.bus i.pending i.time i.counts t kept runs goes ∙ ap (λ (m : MachineRow). run_on m.board m.state) is
+    quiet_from : (state_in first, None) ≡ run_on now.board now.state
+    quiet_from = quietly_run i kept t runs goes ∙ ap (λ (m : MachineRow). run_on m.board m.state) is
 
-  first_guarded : (mid : EngineRow) → GoesOnce t i.engine mid → Guarded (machine_with mid)
-  first_guarded mid goes = subst (λ (b : Platform). Guarded (record { board = b; state = (machine_with mid).state })) (sym (ap (λ (m : MachineRow). m.board) is)) (next.each (machine_with mid).state (quiet_from mid goes))
+    first_runs : mid.state.running ≡ Some t
+    first_runs = ap (λ (x : EngineRow). x.state.running) (goes_stays i.engine mid t goes).beside ∙ runs
 
-  first_runs : (mid : EngineRow) → GoesOnce t i.engine mid → mid.state.running ≡ Some t
-  first_runs mid goes = ap (λ (x : EngineRow). x.state.running) (goes_stays i.engine mid t goes).beside ∙ runs
+    -- what follows it is open, and counts
+    first_guarded : Guarded (machine_in first)
+    first_guarded = subst (λ (b : Platform). Guarded (record { board = b; state = state_in first })) (sym (ap (λ (m : MachineRow). m.board) is)) (next.each (state_in first) quiet_from)
 
-  still_idle : (mid : EngineRow) → GoesOnce t i.engine mid → has_sweep (machine_with mid).state ≡ false
-  still_idle mid goes = sweep_stays i.engine mid i.sched i.pending i.bus.states i.time i.counts (goes_stays i.engine mid t goes) ∙ ap (λ (m : MachineRow). has_sweep m.state) is ∙ idle
+    first_idle : has_sweep (state_in first) ≡ false
+    first_idle = ap (λ (x : EngineRow). has_sweep x.state) (goes_stays i.engine mid t goes).beside ∙ idle_seen is idle
 
   -- before the first, nothing is hidden that the thread may reach, since its state is confined; later since the machine
   -- is guarded
   pub open_on : MayGoOn now → (most : ℕ) → StaysOpen t most i.engine
-  open_on may most zero mid few goes =
-      let here = subst MayGoOn (sym is) may in
-      subst (λ (x : EngineRow). IsOpen x t) (sym goes) (is_open i.plan i.engine i.sched i.pending i.bus.states i.time i.counts t kept here.shut here.keeps.confined runs)
+  open_on may most zero mid few goes = opens_first i kept t runs mid (subst MayGoOn (sym is) may) goes
   open_on may most (suc n) mid few goes =
       let f = front t n i.engine mid goes in
-      stays_open i.plan f.0 i.sched t (once_kept i.plan i.engine f.0 i.sched t kept f.1) i.bus i.pending i.time i.counts (first_runs f.0 f.1) none (first_guarded f.0 f.1) (still_idle f.0 f.1) (suc n) n mid (omega arith) f.2
-
-  none_held : (mid : EngineRow) → GoesOnce t i.engine mid → (engine.thread i.engine t).posture.off ≡ false → holder (machine_with mid).state ≡ None
-  none_held mid goes on =
-      ap (holder_by (machine_with mid).state) (first_runs mid goes)
-      ∙ ap (λ (p : Posture). if p.off then Some (t, p.source) else None)
-      (still_posture i.plan i.engine mid i.sched i.bus i.pending i.time i.counts t kept runs goes ∙ posture_with i.engine.state.threads i.sched.statuses t)
-      ∙ ap (λ (b : Bool). if b then Some (t, (engine.thread i.engine t).posture.source) else None) on
+      stays_open (first f.1) (first_kept f.1) t (first_runs f.1) (none_seen is pending) (first_guarded f.1) (first_idle f.1) (suc n) n mid (omega arith) f.2
 
   -- of so many as were counted
   pub carried_by : (made : ℕ) (new : EngineRow) (m : MachineRow) → (engine.thread i.engine t).posture.off ≡ false → GoesFor t made i.engine new
-      → m.state ≡ with_rounds (machine_with new).state (made - 1) → m.board ≡ (machine_with new).board → 1 ≤ made → CarriedOn now m made
+      → m.state ≡ with_rounds (state_with_row i new i.sched) (made - 1) → m.board ≡ board_in i → 1 ≤ made → CarriedOn now m made
   carried_by zero new m on goes state board some = absurd (omega (arith, some))
   carried_by (suc n) new m on goes state board some =
       let f = front t n i.engine new goes in
-      let held = once_kept i.plan i.engine f.0 i.sched t kept f.1 in
       let less : suc n - 1 ≡ n = omega arith in
-      let went = rounds_went i.plan f.0 i.sched t held i.bus i.pending i.time i.counts (first_runs f.0 f.1) none (first_guarded f.0 f.1) (still_idle f.0 f.1) n new m f.2
-      (state ∙ ap (with_rounds (machine_with new).state) less) board in
+      let went = rounds_went (first f.1) (first_kept f.1) t (first_runs f.1) (none_seen is pending) (first_guarded f.1) (first_idle f.1) n new m f.2
+      (state ∙ ap (with_rounds (state_with_row i new i.sched)) less) board in
       record {
-        after = (machine_with f.0).state;
-        first = quiet_from f.0 f.1;
-        on = none_held f.0 f.1 on;
-        going = none_ended i.plan f.0 i.sched i.pending i.bus.states i.time i.counts t held (first_runs f.0 f.1);
-        rest = subst (λ (b : Platform). WentRounds (record { board = b; state = (machine_with f.0).state }) m (suc n - 1)) (ap (λ (x : MachineRow). x.board) is)
-            (subst (λ j. WentRounds (machine_with f.0) m j) (sym less) went);
+        after = state_in (first f.1);
+        first = quiet_from f.1;
+        on = still_held i kept t runs f.1 ∙ sym (holder_off (runs_as i (sym runs) refl) on);
+        going = none_ended (first f.1) (first_kept f.1) t (first_runs f.1);
+        rest = subst (λ (b : Platform). WentRounds (record { board = b; state = state_in (first f.1) }) m (suc n - 1)) (ap (λ (x : MachineRow). x.board) is)
+            (subst (λ j. WentRounds (machine_in (first f.1)) m j) (sym less) went);
       }
 
 -- ---- the round

@@ -1,16 +1,18 @@
 -- Rounds of a running thread under a sweep, with no tick pending.
-use Rattle.std.proofs.Common.{ℕ, ◌+◌, ◌≡◌, ◌<◌, false, length, None, Some, refl, sym, ap, ◌∙◌, arith, subst}
+use Rattle.std.proofs.Common.{ℕ, ◌+◌, ◌≡◌, ◌<◌, false, length, Option, None, Some, refl, sym, ap, ◌∙◌, arith, subst}
+use Rattle.ct_entry.specs.declared.acts.Deed.{Deed}
 use Rattle.ct_entry.specs.declared.acts.Happened.{Happened}
 use Rattle.def_events.specs.Guarded.{Guarded}
 use Rattle.def_machine.specs.Platform.{MachineRow}
 use Rattle.def_machine.specs.State.{State, Counts, thread}
 use Rattle.def_step.specs.declared.Event.TheVariants.{Step, Sweep}
-use Rattle.def_step.specs.Events.{happens, end_of, one_more_step}
+use Rattle.def_step.specs.Events.{happens, end_of, one_more_step, run_on}
 use Rattle.ct_threads.specs.declared.window.Window.{Window}
 use Rattle.ct_machine.specs.Going.{silence, one_more_sweep}
-use Rattle.ct_machine.specs.Quiet.{with_counts, IsThreadWindow}
+use Rattle.ct_machine.specs.Quiet.{with_counts, IsThreadWindow, StaysAside}
 use Rattle.ct_machine.proofs.Appending.{round_ran, with_silence}
 use Rattle.ct_machine.proofs.Guards.{told_guarded}
+use Rattle.ct_machine.proofs.Quietly.{still_told}
 use Rattle.ct_machine.proofs.Onward as onward
 use Rattle.ct_machine.proofs.Onward.{Onward}
 use Rattle.ct_machine.proofs.Sweeping.{SweepLeaves, swept_leaves}
@@ -51,12 +53,16 @@ pub record Sweeping (first m : MachineRow) (t most made : ℕ) (w : Window) : Ty
 pub starts : (m : MachineRow) (t most : ℕ) (w : Window) → Guarded m → m.state.pending ≡ false → m.state.running ≡ Some t → IsThreadWindow m t w → Sweeping m m t most 0 w
 starts m t most w g none runs has = record { on = onward.starts m most g; pending = none; runs = runs; window = has }
 
--- a quiet step after the slice, which counts nothing that a window speaks of
-pub step_is : (m n counted : MachineRow) → ((c : Counts) → (one_more_step (with_counts n.state c), silence) ≡ happens m.board (with_counts m.state c) Step) → n.state.counts ≡ m.state.counts → counted.state ≡ one_more_step n.state
-    → (counted.state, silence) ≡ happens m.board m.state Step
-step_is m n counted is same whole =
-    ap with_silence (whole ∙ ap (λ (c : Counts). one_more_step (with_counts n.state c)) same)
-    ∙ is m.state.counts
+abbrev pub with_none : State → State × Option Deed
+with_none s = (s, None)
+
+-- a quiet step after the slice, which counts after it
+pub step_is : (m n counted : MachineRow) (t : ℕ) → m.state.pending ≡ false → m.state.running ≡ Some t → ((c : Counts) → (with_counts n.state c, None) ≡ run_on m.board (with_counts m.state c)) → StaysAside m n
+    → counted.state ≡ one_more_step n.state → (counted.state, silence) ≡ happens m.board m.state Step
+step_is m n counted t none runs is aside whole =
+    ap with_silence whole
+    ∙ still_told m.board m.state (one_more_step n.state) t none runs aside.holder
+    (ap (λ (c : Counts). with_none (one_more_step (with_counts n.state c))) aside.counts ∙ is (record m.state.counts { steps = m.state.counts.steps + 1 }))
 
 pub goes_on : {first m mid n : MachineRow} {t most made : ℕ} {w v : Window} → Sweeping first m t most made w → made < most → (mid.state, silence) ≡ happens m.board m.state Sweep → mid.board ≡ m.board → Guarded mid
     → (n.state, silence) ≡ happens mid.board mid.state Step → n.board ≡ mid.board → end_of n.state ≡ None → n.state.pending ≡ false → n.state.running ≡ Some t → IsThreadWindow n t v → Sweeping first n t most (made + 1) v

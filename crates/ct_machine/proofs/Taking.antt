@@ -16,7 +16,7 @@ use Rattle.def_machine.specs.State.{State, Thread, Frame, thread, nobody}
 use Rattle.def_machine.specs.Threads.{with_statuses, statuses_of, picked_with}
 use Rattle.def_machine.specs.Memory.{filtered_in}
 use Rattle.def_step.specs.Instructions.{actor_of}
-use Rattle.def_machine.specs.Platform.{Platform}
+use Rattle.def_machine.specs.Platform.{Platform, MachineRow}
 use Rattle.def_step.specs.Events.{preempted_from, preempted, picked_as, picked_from, scheduled, interrupted, holder_by, holder, is_holder, begun_since, begun, ticked, told_of}
 use Rattle.ct_sched.specs.Sched.{SchedRow, after_pick}
 use Rattle.ct_sched.specs.Sched as sched
@@ -41,6 +41,9 @@ module _ {M : Type 0} (i : Inside M) where
 
   abbrev pub state_in : State
   state_in = state_with_row i.engine i.sched
+
+  abbrev pub machine_in : MachineRow
+  machine_in = record { board = board_in; state = state_in }
 
 -- RAM begins where the image says
 pub ram_is : (i : Image) (e : EngineRow) (r : SchedRow) → IsKept i e r → e.region.ram ≡ i.ram

@@ -45,13 +45,15 @@ with_rounds s n = record s {
   counts = record s.counts { steps = s.counts.steps + n; sweeps = s.counts.sweeps + n };
 }
 
--- Board and counts are as they were, and so are whether a sweep has work, whether a tick is pending, and who runs.
+-- Board and counts are as they were, and so are whether a sweep has work, whether a tick is pending, who runs, and who
+-- holds interrupts off.
 pub record StaysAside (m n : MachineRow) : Type 0 where
   pub board : n.board ≡ m.board
   pub counts : n.state.counts ≡ m.state.counts
   pub sweep : has_sweep n.state ≡ has_sweep m.state
   pub pending : n.state.pending ≡ m.state.pending
   pub running : n.state.running ≡ m.state.running
+  pub holder : holder n.state ≡ holder m.state
 
 -- So many rounds of machine m left machine n, guarded. They told nothing; and where there are any, m had come to no
 -- end.

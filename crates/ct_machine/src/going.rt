@@ -177,8 +177,8 @@ impl<M: Memory + Drop> Parts<M> {
     {
         match self.engine.running() {
             Some(t) => {
-                let mut window = self.engine.window(t);
-                self.engine.once(t, &mut self.decoded, &mut window) == 1
+                let mut window = self.window(t);
+                self.goes_quietly(t, &mut window)
             }
             None => false,
         }

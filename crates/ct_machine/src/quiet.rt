@@ -4,9 +4,8 @@ ghost use Rattle.std.specs.Prelude.{◌≡◌, ◌+◌, ◌-◌, ◌≤◌, ◌&
 ghost use Rattle.def_profile.specs.declared.limits.TheConstants.{MOST_STEPS};
 ghost use Rattle.def_events.specs.Guarded.{Guarded};
 ghost use Rattle.def_machine.specs.State.{Counts};
-ghost use Rattle.def_step.specs.Events.{end_of, happens, one_more_step};
-ghost use Rattle.def_step.specs.declared.Event.TheVariants as event;
-ghost use Rattle.ct_machine.specs.Going.{silence, MayGoOn};
+ghost use Rattle.def_step.specs.Events.{end_of, run_on};
+ghost use Rattle.ct_machine.specs.Going.{MayGoOn};
 ghost use Rattle.ct_machine.specs.Quiet.{has_sweep, is_dormant, none_is_ready, undisturbed, with_counts, with_rounds, CarriedOn, GuardsNext, IsThreadWindow, StaysAside, WentRounds};
 
 use crate::parts::Parts;
@@ -33,21 +32,18 @@ impl<M: Memory + Drop> Parts<M> {
         self.engine.window(t)
     }
 
-    /// A step of the running thread that isn't counted yet, where no tick is pending: `true` where its instruction is
-    /// carried out by itself, and the step tells nothing, whatever was counted; else `false`, and nothing changes.
-    /// Which are left is for speed alone.
+    /// The running thread carries on by one instruction: `true` where that is carried out by itself, which tells
+    /// nothing, whatever was counted; else `false`, and nothing changes. Which are left is for speed alone.
     #[inline(always)]
     pub(crate) fn goes_quietly(&mut self, t: u32, window: &mut Window) -> bool
-        requires guarded { Guarded self.old }
-        requires pending { self.old.state.pending ≡ false }
+        requires may { MayGoOn self.old }
         requires runs { self.old.state.running ≡ Some t }
         requires window { IsThreadWindow self.old t window.old }
         ensures is { result ≡ true → (c : Counts)
-            → (one_more_step (with_counts self.new.state c), silence)
-            ≡ happens self.old.board (with_counts self.old.state c) event.Step }
+            → (with_counts self.new.state c, None)
+            ≡ run_on self.old.board (with_counts self.old.state c) }
         ensures same { result ≡ false → self.new.state ≡ self.old.state }
         ensures aside { StaysAside self.old self.new }
-        ensures going { end_of self.old.state ≡ None }
         ensures still { end_of self.new.state ≡ None }
         ensures window { IsThreadWindow self.new t window.new }
     {

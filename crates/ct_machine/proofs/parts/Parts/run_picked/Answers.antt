@@ -14,17 +14,13 @@ burst-carried-requires-clause-runs g c = sym c.in-Some.ensures
 
 pub burst-carried-requires-clause-opened : goal.burst-carried-requires-clause-opened
 burst-carried-requires-clause-opened g c =
-    open_on c.self.inside c.in-Some.t c.self.invariant.0 c.self.view_is (sym c.in-Some.ensures) c.requires.pending c.requires.next c.requires.idle c.requires.may c.args.most
+    open_on c.self.inside c.self.invariant.0 c.in-Some.t c.self.view_is (sym c.in-Some.ensures) c.requires.pending c.requires.next c.requires.idle c.requires.may c.args.most
 
 pub invariant_of-self : goal.invariant_of-self
-invariant_of-self g c =
-    let i = c.self.inside in
-    burst_keeps i.plan i.engine i.sched c.in-Some.t c.self.invariant.0 c.burst-carried.result c.burst-carried.new.self c.burst-carried.ensures.goes i.time i.counts c.self.invariant.1
+invariant_of-self g c = burst_keeps c.self.inside c.self.invariant.0 c.in-Some.t c.burst-carried.result c.burst-carried.new.self c.burst-carried.ensures.goes c.self.invariant.1
 
 pub invariant_of-self-else-carried-gt0 : goal.invariant_of-self-else-carried-gt0
-invariant_of-self-else-carried-gt0 g c =
-    let i = c.self.inside in
-    burst_keeps i.plan i.engine i.sched c.in-Some.t c.self.invariant.0 c.burst-carried.result c.burst-carried.new.self c.burst-carried.ensures.goes i.time i.counts c.self.invariant.1
+invariant_of-self-else-carried-gt0 g c = burst_keeps c.self.inside c.self.invariant.0 c.in-Some.t c.burst-carried.result c.burst-carried.new.self c.burst-carried.ensures.goes c.self.invariant.1
 
 pub count_rounds-requires-clause-steps : goal.count_rounds-requires-clause-steps
 count_rounds-requires-clause-steps g c =
@@ -36,6 +32,6 @@ count_rounds-requires-clause-sweeps g c =
 
 pub returns-then-carried-gt0-clause-carried : goal.returns-then-carried-gt0-clause-carried
 returns-then-carried-gt0-clause-carried g c some =
-    carried_by c.self.inside c.in-Some.t c.self.invariant.0 c.self.view_is (sym c.in-Some.ensures) c.requires.pending c.requires.next c.requires.idle
+    carried_by c.self.inside c.self.invariant.0 c.in-Some.t c.self.view_is (sym c.in-Some.ensures) c.requires.pending c.requires.next c.requires.idle
     c.burst-carried.result c.burst-carried.new.self c.count_rounds.new.self (sym (ap (λ (p : Posture). p.off) c.posture.ensures) ∙ not-true _ c.if-not-posture.true)
     c.burst-carried.ensures.goes c.count_rounds.ensures.state c.count_rounds.ensures.board some

@@ -1,24 +1,20 @@
-use Rattle.std.proofs.Common.{◌∙◌, arith, sym, subst, ap}
+use Rattle.std.proofs.Common.{arith, sym, subst, ap}
 use Rattle.def_events.specs.Guarded.{Guarded}
 use Rattle.def_machine.specs.Platform.{MachineRow}
-use Rattle.ct_machine.specs.Quiet.{has_sweep, WentRounds}
-use Rattle.ct_machine.proofs.Bursting.{burst_keeps, none_seen, rounds_went, runs_seen, stays_open}
+use Rattle.ct_machine.specs.Quiet.{WentRounds}
+use Rattle.ct_machine.proofs.Bursting.{burst_keeps, idle_seen, none_seen, rounds_went, runs_seen, stays_open}
 use Rattle.ct_machine.proofs.parts.Parts.run_thread_quietly.Goals as goal
 
 pub burst-made-requires-clause-runs : goal.burst-made-requires-clause-runs
-burst-made-requires-clause-runs g c = runs_seen _ c.args.self.now c.args.t c.self.view_is c.requires.runs
+burst-made-requires-clause-runs g c = runs_seen c.self.view_is c.requires.runs
 
 pub burst-made-requires-clause-opened : goal.burst-made-requires-clause-opened
 burst-made-requires-clause-opened g c =
-    let i = c.self.inside in
-    stays_open i.plan i.engine i.sched c.args.t c.self.invariant.0 i.bus i.pending i.time i.counts (runs_seen _ c.args.self.now c.args.t c.self.view_is c.requires.runs)
-    (none_seen _ c.args.self.now c.self.view_is c.requires.pending) (subst Guarded (sym c.self.view_is) c.requires.guarded)
-    (ap (λ (m : MachineRow). has_sweep m.state) c.self.view_is ∙ c.requires.idle) c.args.most
+    stays_open c.self.inside c.self.invariant.0 c.args.t (runs_seen c.self.view_is c.requires.runs) (none_seen c.self.view_is c.requires.pending)
+    (subst Guarded (sym c.self.view_is) c.requires.guarded) (idle_seen c.self.view_is c.requires.idle) c.args.most
 
 pub invariant_of-self : goal.invariant_of-self
-invariant_of-self g c =
-    let i = c.self.inside in
-    burst_keeps i.plan i.engine i.sched c.args.t c.self.invariant.0 c.burst-made.result c.burst-made.new.self c.burst-made.ensures.goes i.time i.counts c.self.invariant.1
+invariant_of-self g c = burst_keeps c.self.inside c.self.invariant.0 c.args.t c.burst-made.result c.burst-made.new.self c.burst-made.ensures.goes c.self.invariant.1
 
 pub count_rounds-requires-clause-steps : goal.count_rounds-requires-clause-steps
 count_rounds-requires-clause-steps g c =
@@ -30,9 +26,7 @@ count_rounds-requires-clause-sweeps g c =
 
 pub returns-clause-went : goal.returns-clause-went
 returns-clause-went g c =
-    let i = c.self.inside in
     subst (λ (m : MachineRow). WentRounds m c.count_rounds.new.self c.burst-made.result) c.self.view_is
-    (rounds_went i.plan i.engine i.sched c.args.t c.self.invariant.0 i.bus i.pending i.time i.counts (runs_seen _ c.args.self.now c.args.t c.self.view_is c.requires.runs)
-    (none_seen _ c.args.self.now c.self.view_is c.requires.pending) (subst Guarded (sym c.self.view_is) c.requires.guarded)
-    (ap (λ (m : MachineRow). has_sweep m.state) c.self.view_is ∙ c.requires.idle)
+    (rounds_went c.self.inside c.self.invariant.0 c.args.t (runs_seen c.self.view_is c.requires.runs) (none_seen c.self.view_is c.requires.pending)
+    (subst Guarded (sym c.self.view_is) c.requires.guarded) (idle_seen c.self.view_is c.requires.idle)
     c.burst-made.result c.burst-made.new.self c.count_rounds.new.self c.burst-made.ensures.goes c.count_rounds.ensures.state c.count_rounds.ensures.board)

@@ -6,7 +6,7 @@ use Rattle.def_step.specs.declared.Event.TheVariants.{Step}
 use Rattle.def_step.specs.Events.{end_of}
 use Rattle.ct_machine.specs.Going.{silence}
 use Rattle.ct_machine.proofs.Appending.{round_ran, with_silence}
-use Rattle.ct_machine.proofs.Guards.{same_by, told_guarded}
+use Rattle.ct_machine.proofs.Guards.{guarded_may, same_by, told_guarded}
 use Rattle.ct_machine.proofs.Onward.{more_ran, steps_left, sweeps_left}
 use Rattle.ct_machine.proofs.Swept.{goes_on, starts, step_is, swept_onward}
 use Rattle.ct_machine.proofs.parts.Parts.swept_rounds.Goals as goal
@@ -19,8 +19,8 @@ sweep-requires-clause-lawful g c =
     let left = sweeps_left c.args.self.now c.loop-made.self c.args.most c.loop-made.made MOST_STEPS c.loop-made.invariant.on c.requires.sweeps in
     lt-ltb _ _ (omega (arith, left, c.loop-made-test.true))
 
-pub goes_quietly-requires-clause-pending : goal.goes_quietly-requires-clause-pending
-goes_quietly-requires-clause-pending g c = (swept_onward c.loop-made.self c.sweep.new.self c.args.t c.loop-made.invariant.runs c.loop-made.invariant.pending c.sweep.ensures.board c.sweep.ensures.is).pending
+pub goes_quietly-requires-clause-may : goal.goes_quietly-requires-clause-may
+goes_quietly-requires-clause-may g c = guarded_may c.sweep.ensures.guarded
 
 pub goes_quietly-requires-clause-runs : goal.goes_quietly-requires-clause-runs
 goes_quietly-requires-clause-runs g c = (swept_onward c.loop-made.self c.sweep.new.self c.args.t c.loop-made.invariant.runs c.loop-made.invariant.pending c.sweep.ensures.board c.sweep.ensures.is).running
@@ -59,21 +59,23 @@ count_step-requires g c =
 
 pub returns-then-not-has_sweep-clause-ran : goal.returns-then-not-has_sweep-clause-ran
 returns-then-not-has_sweep-clause-ran g c =
-    let quiet = step_is c.sweep.new.self c.goes_quietly.new.self c.count_step.new.self (c.goes_quietly.ensures.is c.if-not-goes_quietly.false) c.goes_quietly.ensures.aside.counts c.count_step.ensures.state in
+    let swept = swept_onward c.loop-made.self c.sweep.new.self c.args.t c.loop-made.invariant.runs c.loop-made.invariant.pending c.sweep.ensures.board c.sweep.ensures.is in
+    let quiet = step_is c.sweep.new.self c.goes_quietly.new.self c.count_step.new.self c.args.t swept.pending swept.running (c.goes_quietly.ensures.is c.if-not-goes_quietly.false) c.goes_quietly.ensures.aside c.count_step.ensures.state in
     rw (c.silent.ensures.count, c.silent.ensures.told)
     (more_ran c.args.self.now c.loop-made.self c.count_step.new.self c.args.most c.loop-made.made 1 silence c.loop-made.invariant.on (omega arith)
     (round_ran c.sweep.ensures.is c.sweep.ensures.board quiet (c.count_step.ensures.board ∙ c.goes_quietly.ensures.aside.board)))
 
 pub returns-then-not-has_sweep-clause-guarded : goal.returns-then-not-has_sweep-clause-guarded
 returns-then-not-has_sweep-clause-guarded g c =
+    let swept = swept_onward c.loop-made.self c.sweep.new.self c.args.t c.loop-made.invariant.runs c.loop-made.invariant.pending c.sweep.ensures.board c.sweep.ensures.is in
     told_guarded Step c.sweep.ensures.guarded
-    (step_is c.sweep.new.self c.goes_quietly.new.self c.count_step.new.self (c.goes_quietly.ensures.is c.if-not-goes_quietly.false) c.goes_quietly.ensures.aside.counts c.count_step.ensures.state) (c.count_step.ensures.board ∙ c.goes_quietly.ensures.aside.board)
+    (step_is c.sweep.new.self c.goes_quietly.new.self c.count_step.new.self c.args.t swept.pending swept.running (c.goes_quietly.ensures.is c.if-not-goes_quietly.false) c.goes_quietly.ensures.aside c.count_step.ensures.state) (c.count_step.ensures.board ∙ c.goes_quietly.ensures.aside.board)
 
 pub loop-made-preserved : goal.loop-made-preserved
 loop-made-preserved g c =
     let swept = swept_onward c.loop-made.self c.sweep.new.self c.args.t c.loop-made.invariant.runs c.loop-made.invariant.pending c.sweep.ensures.board c.sweep.ensures.is in
     goes_on c.loop-made.invariant c.loop-made-test.true c.sweep.ensures.is c.sweep.ensures.board c.sweep.ensures.guarded
-    (step_is c.sweep.new.self c.goes_quietly.new.self c.count_step.new.self (c.goes_quietly.ensures.is c.if-not-goes_quietly.false) c.goes_quietly.ensures.aside.counts c.count_step.ensures.state) (c.count_step.ensures.board ∙ c.goes_quietly.ensures.aside.board)
+    (step_is c.sweep.new.self c.goes_quietly.new.self c.count_step.new.self c.args.t swept.pending swept.running (c.goes_quietly.ensures.is c.if-not-goes_quietly.false) c.goes_quietly.ensures.aside c.count_step.ensures.state) (c.count_step.ensures.board ∙ c.goes_quietly.ensures.aside.board)
     (ap (λ (s : State). end_of s) c.count_step.ensures.state ∙ c.goes_quietly.ensures.still)
     (ap (λ (s : State). s.pending) c.count_step.ensures.state ∙ c.goes_quietly.ensures.aside.pending ∙ swept.pending)
     (ap (λ (s : State). s.running) c.count_step.ensures.state ∙ c.goes_quietly.ensures.aside.running ∙ swept.running)
