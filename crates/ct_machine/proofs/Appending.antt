@@ -4,6 +4,7 @@ use Rattle.std.proofs.lemmas.Bool.{cases_order}
 use Rattle.ct_entry.specs.declared.acts.Happened.{Happened}
 use Rattle.def_machine.specs.Platform.{MachineRow}
 use Rattle.def_machine.specs.State.{State}
+use Rattle.def_events.specs.Guarded.{Guarded}
 use Rattle.def_events.specs.Kinds.{Kinds, kinds, all_more}
 use Rattle.def_step.specs.declared.Event.{Event}
 use Rattle.def_step.specs.declared.Event.TheVariants.{Step, Sweep}
@@ -11,7 +12,7 @@ use Rattle.def_step.specs.Events.{happens, run, happenings_of, end_of}
 use Rattle.law_routines.proofs.Appended.{run_append, told_append}
 use Rattle.law_routines.proofs.Counted.{run_kinds}
 use Rattle.ct_machine.specs.Going.{silence}
-use Rattle.ct_machine.proofs.Guards.{same_machine}
+use Rattle.ct_machine.proofs.Guards.{same_machine, told_guarded}
 use Rattle.ct_machine.specs.Onward.{after_rounds, rounds, told_last, RanOn}
 
 -- ---- lists of rounds
@@ -81,20 +82,22 @@ both_ran first m n a b h before going some more =
 
 -- ---- one round
 
-pub round_ran : {m mid n : MachineRow} {h : Happened} → (mid.state, silence) ≡ happens m.board m.state Sweep → mid.board ≡ m.board
-    → (n.state, h) ≡ happens mid.board mid.state Step → n.board ≡ mid.board → RanOn m n 1 h
+pub round_ran : {m mid n : MachineRow} {h : Happened} → (mid.state, silence) ≡ happens m.board m.state Sweep → mid.board ≡ m.board → Guarded mid
+    → (n.state, h) ≡ happens mid.board mid.state Step → n.board ≡ mid.board → RanOn m n 1 h × Guarded n
 unfolding run happenings_of
-round_ran {m} {mid} {n} {h} swept board is next =
+round_ran {m} {mid} {n} {h} swept board guarded is next =
     let there : mid ≡ record { board = m.board; state = (happens m.board m.state Sweep).0 } =
     same_machine mid (record { board = m.board; state = (happens m.board m.state Sweep).0 }) board (ap (λ (p : State × Happened). p.0) swept) in
-    let whole : (n.state, h) ≡ happens m.board (happens m.board m.state Sweep).0 Step = is ∙ ap (λ (x : MachineRow). happens x.board x.state Step) there in
-    record {
-      board = next ∙ board;
-      state = ap (λ (p : State × Happened). p.0) whole;
-      told = ap (λ (x : Happened). x ∷ (happens m.board (happens m.board m.state Sweep).0 Step).1 ∷ []) (sym (ap (λ (p : State × Happened). p.1) swept))
-          ∙ ap (λ (p : State × Happened). silence ∷ p.1 ∷ []) (sym whole);
-      going = λ k some few. absurd (omega (arith, some, few));
-    }
+    let whole : (n.state, h) ≡ happens m.board (happens m.board m.state Sweep).0 Step = is ∙ ap (λ (x : MachineRow). happens x.board x.state Step) there in (
+      record {
+        board = next ∙ board;
+        state = ap (λ (p : State × Happened). p.0) whole;
+        told = ap (λ (x : Happened). x ∷ (happens m.board (happens m.board m.state Sweep).0 Step).1 ∷ []) (sym (ap (λ (p : State × Happened). p.1) swept))
+            ∙ ap (λ (p : State × Happened). silence ∷ p.1 ∷ []) (sym whole);
+        going = λ k some few. absurd (omega (arith, some, few));
+      },
+      told_guarded Step guarded is next,
+    )
 
 -- ---- what was counted
 

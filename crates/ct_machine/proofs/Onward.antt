@@ -32,8 +32,8 @@ steps_left first m most count all o room = omega (arith, o.within, (ran_counts o
 pub sweeps_left : (first m : MachineRow) (most count all : ℕ) → Onward first m most count → first.state.counts.sweeps + most ≤ all → m.state.counts.sweeps + (most - count) ≤ all
 sweeps_left first m most count all o room = omega (arith, o.within, (ran_counts o.ran).1, room)
 
-pub more_ran : (first m n : MachineRow) (most count more : ℕ) (h : Happened) → Onward first m most count → 1 ≤ more → RanOn m n more h → RanOn first n (count + more) h
-more_ran first m n most count more h o some r = both_ran first m n count more h o.ran o.going some r
+pub more_ran : (first m n : MachineRow) (most count more : ℕ) (h : Happened) → Onward first m most count → 1 ≤ more → RanOn m n more h × Guarded n → RanOn first n (count + more) h × Guarded n
+more_ran first m n most count more h o some r = (both_ran first m n count more h o.ran o.going some r.0, r.1)
 
 -- after some rounds the machine has come to no end, where it isn't over
 pub not_over : (made : ℕ) (o : Option End) (over : Bool) → over ≡ (nat_lt 0 made && is_some o) → over ≡ false → 0 < made → o ≡ None
@@ -54,13 +54,13 @@ silent_by (Some d) (Some o) none = absurd (cc)
 pub untold : (h : Happened) → tells h ≡ false → h ≡ silence
 untold h none = silent_by h.deed h.off none
 
-pub goes_on : (first m n : MachineRow) (most count more : ℕ) (h : Happened) → Onward first m most count → count < most → 1 ≤ more → more ≤ most - count → RanOn m n more h → Guarded n → tells h ≡ false → end_of n.state ≡ None
+pub goes_on : (first m n : MachineRow) (most count more : ℕ) (h : Happened) → Onward first m most count → count < most → 1 ≤ more → more ≤ most - count → RanOn m n more h × Guarded n → tells h ≡ false → end_of n.state ≡ None
     → Onward first n most (count + more)
-goes_on first m n most count more h o left some few r g none going = record {
+goes_on first m n most count more h o left some few r none going = record {
   within = omega (arith, left, few);
-  ran = subst (λ (x : Happened). RanOn first n (count + more) x) (untold h none) (more_ran first m n most count more h o some r);
+  ran = subst (λ (x : Happened). RanOn first n (count + more) x) (untold h none) (more_ran first m n most count more h o some r).0;
   going = λ above. going;
-  guarded = g;
+  guarded = r.1;
 }
 
 -- ---- what the last told

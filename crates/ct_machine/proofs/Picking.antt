@@ -135,12 +135,12 @@ module _ {m n : MachineRow} (p : Picked m n) where
   pub next_guarded : GuardsNext n
   next_guarded = record { each = λ s is. told_guarded {n = record { board = n.board; state = s }} Step p.guarded (step_from s None is) p.board }
 
-  pub picked_ran : (x : MachineRow) (made : ℕ) → 1 ≤ made → CarriedOn n x made → RanOn m x made silence
+  pub picked_ran : (x : MachineRow) (made : ℕ) → 1 ≤ made → CarriedOn n x made → RanOn m x made silence × Guarded x
   picked_ran x made some c =
       let after : MachineRow = record { board = n.board; state = c.after } in
       let quiet : (c.after, silence) ≡ happens m.board (one_more_sweep m.state) Step =
       ap (λ (o : Option (ℕ × ℕ)). let y : State × Happened = (c.after, record { deed = None; off = begun_since None c.after o }) in y) (sym c.on) ∙ step_from c.after None c.first in
-      rounds_join m after x made (round_ran {mid = slice_counted m} p.swept refl quiet p.board) c.going c.rest some
+      (rounds_join m after x made (round_ran {mid = slice_counted m} p.swept refl p.guarded quiet p.board).0 c.going c.rest some, c.rest.guarded)
 
   pub told_ran : (same x : MachineRow) (d : Option Deed) (off : Option Owned) → same.board ≡ n.board → same.state ≡ n.state → (x.state, d) ≡ run_on same.board same.state → x.board ≡ same.board
       → off ≡ begun_since None x.state (holder x.state) → RanOn m x 1 (record { deed = d; off = off }) × Guarded x
@@ -148,8 +148,7 @@ module _ {m n : MachineRow} (p : Picked m n) where
       let step : (x.state, record { deed = d; off = off }) ≡ happens m.board (one_more_sweep m.state) Step =
       ap (λ (o : Option Owned). let y : State × Happened = (x.state, record { deed = d; off = o }) in y) told
       ∙ step_from x.state d (is ∙ ap (λ (y : MachineRow). run_on y.board y.state) (same_machine same n board state)) in
-      let place = there ∙ board ∙ p.board in
-      (round_ran {mid = slice_counted m} p.swept refl step place, told_guarded Step p.guarded step place)
+      round_ran {mid = slice_counted m} p.swept refl p.guarded step (there ∙ board ∙ p.board)
 
 pub may_same : (m n : MachineRow) → n.board ≡ m.board → n.state ≡ m.state → MayGoOn m → MayGoOn n
 may_same m n board state may = subst MayGoOn (sym (same_machine n m board state)) may

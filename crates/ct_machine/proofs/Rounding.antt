@@ -46,7 +46,7 @@ went_ran : (m n : MachineRow) → Guarded m → has_sweep m.state ≡ false → 
 went_ran m n g idle w =
     let mid : MachineRow = record { board = m.board; state = one_more_sweep m.state } in
     let swept = idle_told m mid g idle refl in
-    (round_ran {mid = mid} swept refl w.is w.board, told_guarded {m = mid} Step (told_guarded {n = mid} Sweep g swept refl) w.is w.board)
+    round_ran {mid = mid} swept refl (told_guarded {n = mid} Sweep g swept refl) w.is w.board
 
 -- ---- many
 

@@ -67,7 +67,7 @@ step_is m n counted t none runs is aside whole =
 pub goes_on : {first m mid n : MachineRow} {t most made : ℕ} {w v : Window} → Sweeping first m t most made w → made < most → (mid.state, silence) ≡ happens m.board m.state Sweep → mid.board ≡ m.board → Guarded mid
     → (n.state, silence) ≡ happens mid.board mid.state Step → n.board ≡ mid.board → end_of n.state ≡ None → n.state.pending ≡ false → n.state.running ≡ Some t → IsThreadWindow n t v → Sweeping first n t most (made + 1) v
 goes_on {first} {m} {mid} {n} {t} {most} {made} l more swept board g quiet next going none runs has = record {
-  on = onward.goes_on first m n most made 1 silence l.on more (omega arith) (omega (arith, more)) (round_ran swept board quiet next) (told_guarded Step g quiet next) refl going;
+  on = onward.goes_on first m n most made 1 silence l.on more (omega arith) (omega (arith, more)) (round_ran swept board g quiet next) refl going;
   pending = none;
   runs = runs;
   window = has;

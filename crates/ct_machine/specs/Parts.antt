@@ -15,15 +15,9 @@ use Rattle.ct_sched.specs.Sched.{SchedRow}
 
 -- The statuses of threads and the order of their last picks are the scheduler's.
 abbrev pub state_by : EngineRow → SchedRow → Bool → List DeviceState → ℕ → Counts → State
-state_by e r pending devices time counts = record {
-  granules = e.state.granules;
+state_by e r pending devices time counts = record e.state {
   threads = with_statuses e.state.threads r.statuses;
-  running = e.state.running;
   pending = pending;
-  objects = e.state.objects;
-  next = e.state.next;
-  tokens = e.state.tokens;
-  front = e.state.front;
   devices = devices;
   time = time;
   picks = r.order;

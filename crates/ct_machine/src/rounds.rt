@@ -53,8 +53,7 @@ impl<M: Memory + Drop> Parts<M> {
         requires guarded { Guarded self.old }
         requires steps { self.old.state.counts.steps < MOST_STEPS }
         requires sweeps { self.old.state.counts.sweeps < MOST_STEPS }
-        ensures ran { RanOn self.old self.new 1 result }
-        ensures guarded { Guarded self.new }
+        ensures ran { RanOn self.old self.new 1 result × Guarded self.new }
     {
         self.sweep();
         self.step()
@@ -78,8 +77,7 @@ impl<M: Memory + Drop> Parts<M> {
         requires sweeps { self.old.state.counts.sweeps + most ≤ MOST_STEPS }
         ensures some { 1 ≤ result.count }
         ensures most { result.count ≤ most }
-        ensures ran { RanOn self.old self.new result.count result.told }
-        ensures guarded { Guarded self.new }
+        ensures ran { RanOn self.old self.new result.count result.told × Guarded self.new }
     {
         let mut window = self.window(t);
         for made in 0..most {
@@ -110,8 +108,7 @@ impl<M: Memory + Drop> Parts<M> {
         requires sweeps { self.old.state.counts.sweeps + most ≤ MOST_STEPS }
         ensures some { 1 ≤ result.count }
         ensures most { result.count ≤ most }
-        ensures ran { RanOn self.old self.new result.count result.told }
-        ensures guarded { Guarded self.new }
+        ensures ran { RanOn self.old self.new result.count result.told × Guarded self.new }
     {
         self.count_sweep();
         self.count_step();
@@ -137,8 +134,7 @@ impl<M: Memory + Drop> Parts<M> {
         requires sweeps { self.old.state.counts.sweeps + most ≤ MOST_STEPS }
         ensures some { 1 ≤ result.count }
         ensures most { result.count ≤ most }
-        ensures ran { RanOn self.old self.new result.count result.told }
-        ensures guarded { Guarded self.new }
+        ensures ran { RanOn self.old self.new result.count result.told × Guarded self.new }
     {
         if self.is_to_pick() {
             return self.picked_rounds(most);
@@ -159,8 +155,7 @@ impl<M: Memory + Drop> Parts<M> {
         requires sweeps { self.old.state.counts.sweeps + most ≤ MOST_STEPS }
         ensures some { 1 ≤ result.count }
         ensures most { result.count ≤ most }
-        ensures ran { RanOn self.old self.new result.count result.told }
-        ensures guarded { Guarded self.new }
+        ensures ran { RanOn self.old self.new result.count result.told × Guarded self.new }
     {
         if self.has_sweep() {
             if let Some(t) = self.undisturbed() {
@@ -189,10 +184,9 @@ impl<M: Memory + Drop> Parts<M> {
         requires sweeps { self.old.state.counts.sweeps + most ≤ MOST_STEPS }
         ensures some { 1 ≤ result.count }
         ensures most { result.count ≤ most }
-        ensures ran { RanOn self.old self.new result.count result.told }
+        ensures ran { RanOn self.old self.new result.count result.told × Guarded self.new }
         ensures stops { result.count < most
             → (tells result.told || is_some (end_of self.new.state)) ≡ true }
-        ensures guarded { Guarded self.new }
     {
         let mut count = 0;
         while count < most {

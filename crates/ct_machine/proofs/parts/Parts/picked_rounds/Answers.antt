@@ -34,13 +34,5 @@ returns-clause-ran g c =
     let p = picked_so c.requires.guarded c.requires.idle c.requires.rests c.count_sweep.ensures.state c.count_sweep.ensures.board
     c.count_step.ensures.state c.count_step.ensures.board c.schedule.ensures.state c.schedule.ensures.board in
     let none = c.if-made-gt0.false in
-    (told_ran p c.run_picked-made.new.self c.go_on-deed.new.self c.go_on-deed.result c.begun-off.result
-    c.run_picked-made.ensures.board (c.run_picked-made.ensures.same (omega (arith, none))) c.go_on-deed.ensures.is c.go_on-deed.ensures.board c.begun-off.ensures).0
-
-pub returns-clause-guarded : goal.returns-clause-guarded
-returns-clause-guarded g c =
-    let p = picked_so c.requires.guarded c.requires.idle c.requires.rests c.count_sweep.ensures.state c.count_sweep.ensures.board
-    c.count_step.ensures.state c.count_step.ensures.board c.schedule.ensures.state c.schedule.ensures.board in
-    let none = c.if-made-gt0.false in
-    (told_ran p c.run_picked-made.new.self c.go_on-deed.new.self c.go_on-deed.result c.begun-off.result
-    c.run_picked-made.ensures.board (c.run_picked-made.ensures.same (omega (arith, none))) c.go_on-deed.ensures.is c.go_on-deed.ensures.board c.begun-off.ensures).1
+    told_ran p c.run_picked-made.new.self c.go_on-deed.new.self c.go_on-deed.result c.begun-off.result
+    c.run_picked-made.ensures.board (c.run_picked-made.ensures.same (omega (arith, none))) c.go_on-deed.ensures.is c.go_on-deed.ensures.board c.begun-off.ensures

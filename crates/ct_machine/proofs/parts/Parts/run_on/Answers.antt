@@ -19,5 +19,5 @@ returns-then-tells-clause-ran g c =
 pub loop-count-preserved : goal.loop-count-preserved
 loop-count-preserved g c =
     goes_on c.args.self.now c.loop-count.self c.rounds_and_one-more.new.self c.args.most c.loop-count.count c.rounds_and_one-more.result.count c.rounds_and_one-more.result.told
-    c.loop-count.invariant c.loop-count-test.true c.rounds_and_one-more.ensures.some c.rounds_and_one-more.ensures.most c.rounds_and_one-more.ensures.ran c.rounds_and_one-more.ensures.guarded
+    c.loop-count.invariant c.loop-count-test.true c.rounds_and_one-more.ensures.some c.rounds_and_one-more.ensures.most c.rounds_and_one-more.ensures.ran
     (sym c.tells.ensures ∙ c.if-tells.false) (sym c.ended.ensures ∙ none_some c.ended.result c.is_some.result c.is_some.ensures c.if-is_some.false)

@@ -2,11 +2,10 @@ use Rattle.std.proofs.Common.{ap, arith, ◌∙◌}
 use Rattle.std.proofs.lemmas.Bool.{lt-ltb}
 use Rattle.def_profile.specs.declared.limits.TheConstants.{MOST_STEPS}
 use Rattle.def_machine.specs.State.{State, Counts}
-use Rattle.def_step.specs.declared.Event.TheVariants.{Step}
 use Rattle.def_step.specs.Events.{end_of}
 use Rattle.ct_machine.specs.Going.{silence}
 use Rattle.ct_machine.proofs.Appending.{round_ran, with_silence}
-use Rattle.ct_machine.proofs.Guards.{guarded_may, same_by, told_guarded}
+use Rattle.ct_machine.proofs.Guards.{guarded_may, same_by}
 use Rattle.ct_machine.proofs.Onward.{more_ran, steps_left, sweeps_left}
 use Rattle.ct_machine.proofs.Swept.{goes_on, starts, step_is, swept_onward}
 use Rattle.ct_machine.proofs.parts.Parts.swept_rounds.Goals as goal
@@ -42,13 +41,8 @@ step-requires-clause-lawful g c =
 pub returns-then-not-goes_quietly-clause-ran : goal.returns-then-not-goes_quietly-clause-ran
 returns-then-not-goes_quietly-clause-ran g c =
     more_ran c.args.self.now c.loop-made.self c.step.new.self c.args.most c.loop-made.made 1 c.step.result c.loop-made.invariant.on (omega arith)
-    (round_ran (ap with_silence (c.goes_quietly.ensures.same c.if-not-goes_quietly.true) ∙ c.sweep.ensures.is)
-    (c.goes_quietly.ensures.aside.board ∙ c.sweep.ensures.board) c.step.ensures.is c.step.ensures.board)
-
-pub returns-then-not-goes_quietly-clause-guarded : goal.returns-then-not-goes_quietly-clause-guarded
-returns-then-not-goes_quietly-clause-guarded g c =
-    told_guarded Step (same_by c.sweep.new.self c.goes_quietly.new.self (c.goes_quietly.ensures.same c.if-not-goes_quietly.true) c.goes_quietly.ensures.aside.board c.sweep.ensures.guarded)
-    c.step.ensures.is c.step.ensures.board
+    (round_ran (ap with_silence (c.goes_quietly.ensures.same c.if-not-goes_quietly.true) ∙ c.sweep.ensures.is) (c.goes_quietly.ensures.aside.board ∙ c.sweep.ensures.board)
+    (same_by c.sweep.new.self c.goes_quietly.new.self (c.goes_quietly.ensures.same c.if-not-goes_quietly.true) c.goes_quietly.ensures.aside.board c.sweep.ensures.guarded) c.step.ensures.is c.step.ensures.board)
 
 pub count_step-requires : goal.count_step-requires
 count_step-requires g c =
@@ -63,13 +57,7 @@ returns-then-not-has_sweep-clause-ran g c =
     let quiet = step_is c.sweep.new.self c.goes_quietly.new.self c.count_step.new.self c.args.t swept.pending swept.running (c.goes_quietly.ensures.is c.if-not-goes_quietly.false) c.goes_quietly.ensures.aside c.count_step.ensures.state in
     rw (c.silent.ensures.count, c.silent.ensures.told)
     (more_ran c.args.self.now c.loop-made.self c.count_step.new.self c.args.most c.loop-made.made 1 silence c.loop-made.invariant.on (omega arith)
-    (round_ran c.sweep.ensures.is c.sweep.ensures.board quiet (c.count_step.ensures.board ∙ c.goes_quietly.ensures.aside.board)))
-
-pub returns-then-not-has_sweep-clause-guarded : goal.returns-then-not-has_sweep-clause-guarded
-returns-then-not-has_sweep-clause-guarded g c =
-    let swept = swept_onward c.loop-made.self c.sweep.new.self c.args.t c.loop-made.invariant.runs c.loop-made.invariant.pending c.sweep.ensures.board c.sweep.ensures.is in
-    told_guarded Step c.sweep.ensures.guarded
-    (step_is c.sweep.new.self c.goes_quietly.new.self c.count_step.new.self c.args.t swept.pending swept.running (c.goes_quietly.ensures.is c.if-not-goes_quietly.false) c.goes_quietly.ensures.aside c.count_step.ensures.state) (c.count_step.ensures.board ∙ c.goes_quietly.ensures.aside.board)
+    (round_ran c.sweep.ensures.is c.sweep.ensures.board c.sweep.ensures.guarded quiet (c.count_step.ensures.board ∙ c.goes_quietly.ensures.aside.board)))
 
 pub loop-made-preserved : goal.loop-made-preserved
 loop-made-preserved g c =
