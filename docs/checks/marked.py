@@ -186,7 +186,7 @@ MARKED = {
         "inner": "execute",
     },
     "ct_services": {
-        "inner": "answer switch",
+        "inner": "answer",
     },
     "ct_boot": {
         "inner": "launch",

@@ -16,7 +16,6 @@ use Rattle.def_machine.specs.State.{State, Thread, Frame, Counts, register}
 use Rattle.def_words.specs.declared.Trap.{Trap}
 use Rattle.def_step.specs.Devices.{DeviceStates}
 use Rattle.def_step.specs.Handlers.{record_words}
-use Rattle.def_step.specs.Switch.{Switched, Trapped as NotMade, TooDeep, NoStack, Enters}
 use Rattle.def_machine.specs.Platform.{MachineRow}
 use Rattle.ct_entry.specs.declared.acts.Deed.{Deed}
 use Rattle.ct_areas.specs.declared.thread.Area.{Area}
@@ -31,7 +30,6 @@ use Rattle.ct_engine.specs.Handling.{handler_begun}
 use Rattle.ct_execute.specs.declared.ran.Ran.{Ran}
 use Rattle.ct_execute.specs.declared.ran.Ran.TheVariants.{Went, Returned, Native, Trapped}
 use Rattle.ct_execute.specs.Deciding.{IfUnfinished, Stays}
-use Rattle.ct_services.specs.Answering.{switched_in}
 use Rattle.ct_services.specs.Serves.{RunsReady}
 use Rattle.ct_boot.specs.Placed.{ArePlaced}
 use Rattle.ct_machine.specs.Parts.{state_by, IsKept, IsCounted}
@@ -104,12 +102,6 @@ stopped_so i e new r c time h is = rw is (same_kept i e (with_running e None) r 
 
 pub counted_so : (c : Counts) (time : ℕ) (e e' x : EngineRow) → e' ≡ x → x.state.next ≡ e.state.next → IsCounted c time e.state.next → IsCounted c time e'.state.next
 counted_so c time e e' x is same h = subst (λ (n : ℕ). IsCounted c time n) (sym (ap (λ (y : EngineRow). y.state.next) is ∙ same)) h
-
-pub switched_next : (e : EngineRow) (entries : Listed) (t : ℕ) (w : Switched) → (switched_in e entries t w).state.next ≡ e.state.next
-switched_next e entries t (NotMade why) = refl
-switched_next e entries t TooDeep = refl
-switched_next e entries t NoStack = refl
-switched_next e entries t (Enters export high) = refl
 
 -- ---- an instruction
 

@@ -1,6 +1,5 @@
 pub mod Appending
 pub mod Bursting
-pub mod Calling
 pub mod Carried
 pub mod Dormant
 pub mod Guards

@@ -13,8 +13,9 @@ use Rattle.ct_engine.specs.Calls.{TopLies}
 use Rattle.ct_engine.specs.Bursts.{IsOpen}
 use Rattle.ct_execute.proofs.Opens.{running_open}
 use Rattle.ct_boot.specs.Placed.{IsPlaced}
-use Rattle.law_callable.proofs.Showing.{top_lies}
+use Rattle.law_callable.proofs.Showing.{ShowsCaller, top_lies}
 use Rattle.ct_machine.specs.Parts.{state_by, IsKept}
+use Rattle.ct_machine.specs.Starting.{IsOfSound}
 use Rattle.ct_execute.proofs.Statuses.{like_with}
 use Rattle.ct_machine.proofs.Taking.{frames_with}
 
@@ -52,3 +53,19 @@ module _ (i : Image) (e : EngineRow) (r : SchedRow) (pending : Bool) (devices : 
   pub tops : IsKept i e r → Confined i (state_by e r pending devices time c) → 0 < length (engine.thread e t).frames → TopLies e t
   tops kept held some =
       top_lies i (state_by e r pending devices time c) e (8 * length e.state.granules) t held (placed_at kept some) (sym (frames_with e.state.threads r.statuses t)) some
+
+  -- what the engine shows of the thread that calls
+  pub shows_caller : IsKept i e r → IsOfSound i → Confined i (state_by e r pending devices time c) → 0 < length (engine.thread e t).frames
+      → ShowsCaller i (state_by e r pending devices time c) e t
+  shows_caller kept sound confined some = record {
+    parts = sound.parts;
+    sound = sound.sound;
+    is = sound.is;
+    confined = confined;
+    region = kept.region;
+    heap = kept.heap.base;
+    granules = refl;
+    placed = placed_at kept some;
+    registers = ap (λ (u : Thread). u.registers) (sym (like_with e.state.threads r.statuses t Ready));
+    frames = sym (frames_with e.state.threads r.statuses t);
+  }

@@ -21,11 +21,10 @@ use Rattle.ct_machine.specs.Parts.{state_by, IsKept}
 use Rattle.ct_machine.specs.Starting.{IsOfSound}
 use Rattle.law_history.proofs.TokensEvents.{ready_fit}
 use Rattle.ct_machine.specs.Going.{MayEnd, MayGoOn}
-use Rattle.ct_machine.proofs.Calling.{shows_caller}
 use Rattle.ct_machine.proofs.Guards.{same_machine}
 use Rattle.ct_machine.proofs.Carried.{Ends}
 use Rattle.ct_machine.proofs.Keeping.{machine_by}
-use Rattle.ct_machine.proofs.Opened.{base_of, some_seen, tops}
+use Rattle.ct_machine.proofs.Opened.{base_of, shows_caller, some_seen, tops}
 use Rattle.def_step.specs.Devices.{DeviceStates}
 
 ends_from : (s : State) (o : Option ℕ) → EndsFit s → EndsFit (preempted_from s o)

@@ -1,6 +1,7 @@
 -- What a native routine asks, and that what it came to is what the written one comes to.
 use Rattle.std.proofs.Common.{ℕ, ◌%◌, ◌==◌, ◌≡◌, ◌≤◌, ◌<◌, Bool, length, inr, List, Option, Some, None, refl, sym, ap, ◌∙◌, subst}
 use Rattle.std.proofs.lemmas.Bool.{eqb-true, and_parts}
+use Rattle.ct_entry.specs.Listed.{Listed}
 use Rattle.ct_entry.specs.declared.rows.Kind.TheVariants as kind
 use Rattle.def_words.specs.declared.Cap.{Cap}
 use Rattle.def_words.specs.Seals.{cap_seal}
@@ -21,18 +22,22 @@ use Rattle.law_moves.proofs.JumpsMoves.{in_rooted}
 use Rattle.ct_sched.specs.Sched as sched
 use Rattle.ct_sched.specs.Sched.{SchedRow}
 use Rattle.ct_engine.specs.Seen.{EngineRow}
+use Rattle.ct_engine.specs.Calls.{MayCall, switch_at}
 use Rattle.ct_execute.specs.declared.ran.Ran.{Ran}
 use Rattle.ct_execute.specs.declared.ran.Ran.TheVariants.{Went, Returned, Native, Trapped}
 use Rattle.ct_execute.specs.Deciding.{IfUnfinished}
 use Rattle.ct_services.specs.Conditions.{MayServe}
 use Rattle.ct_services.specs.Arguments.{NamesQuota}
-use Rattle.ct_services.specs.Serves.{ComesTo, IsServed, routine_or_trap}
+use Rattle.ct_services.specs.Serves.{ComesTo, HoldsCallee, HoldsRoutine, IsServedOf, routine_or_trap}
 use Rattle.ct_services.proofs.Serving.{register_alike}
+use Rattle.law_callable.proofs.Calls.{may_call, entered_stands}
+use Rattle.law_callable.proofs.Showing.{ShowsCaller}
+use Rattle.ct_machine.specs.Starting.{IsOfSound}
 use Rattle.ct_machine.specs.Parts.{state_by, IsKept, IsCounted}
 use Rattle.ct_machine.specs.Going.{CameTo, IsDone, MayGoOn, Runs}
 use Rattle.ct_machine.proofs.Taking.{ram_is}
 use Rattle.ct_machine.proofs.Keeping.{machine_by, stays_kept, unfinished_map}
-use Rattle.ct_machine.proofs.Opened.{is_open}
+use Rattle.ct_machine.proofs.Opened.{is_open, shows_caller, some_seen}
 use Rattle.ct_machine.proofs.Sizes.{few_by, made_by}
 
 -- a number of none traps
@@ -73,9 +78,14 @@ module _ (i : Image) (e : EngineRow) (r : SchedRow) (k : DeviceStates) (pending 
       facts.quotas c10.shadow.root (sym (rooted.boot (inr (inr (inr (inr sealed))))).seal ∙ sealed) in
       subst (λ (z : Cap). z.shadow.root < length e.limits) (sym ten) (kept.quotas c10.shadow.root (ap is_quota origin))
 
-  pub may_serve : (ram : ℕ) (m : MachineRow) → machine e r ≡ m → MayGoOn m → Runs m t
-      → m.state.next ≤ m.state.counts.steps → IsCounted c time e.state.next → ram ≡ i.ram → MayServe e r.statuses t ram
-  may_serve ram m is may_now runs_now few_now counted place =
+  shows : IsOfSound i → MayGoOn (machine e r) → Runs (machine e r) t → ShowsCaller i here e t
+  shows sound may runs =
+      shows_caller i e r pending k.states time c t kept sound may.keeps.confined (some_seen i e r pending k.states time c t runs.some)
+
+  pub may_serve : (ram : ℕ) (entries : Listed) (m : MachineRow) → machine e r ≡ m → MayGoOn m → Runs m t
+      → m.state.next ≤ m.state.counts.steps → IsCounted c time e.state.next → ram ≡ i.ram → entries ≡ i.entries → IsOfSound i
+      → MayServe e r.statuses t ram entries
+  may_serve ram entries m is may_now runs_now few_now counted place listed sound =
       let may = subst MayGoOn (sym is) may_now in
       let runs = subst (λ (x : MachineRow). Runs x t) (sym is) runs_now in
       let few = subst (λ (x : MachineRow). x.state.next ≤ x.state.counts.steps) (sym is) few_now in
@@ -88,6 +98,19 @@ module _ (i : Image) (e : EngineRow) (r : SchedRow) (k : DeviceStates) (pending 
         rows = may.rows;
         place = place ∙ sym (ram_is i e r kept);
         even = subst (λ n. n % 16 ≡ 0) (sym place) kept.placed.even;
+        call = subst (λ (es : Listed). MayCall e t es) (sym listed)
+            (may_call i here e t (shows sound may runs) (some_seen i e r pending k.states time c t runs.some));
+      }
+
+  -- the engine holds what the image has of the thread that calls, and of the callee
+  pub holds_callee : (entries : Listed) (m : MachineRow) → machine e r ≡ m → MayGoOn m → Runs m t → entries ≡ i.entries → IsOfSound i
+      → HoldsCallee i e t entries
+  holds_callee entries m is may runs listed sound =
+      let caller = shows sound (subst MayGoOn (sym is) may) (subst (λ (x : MachineRow). Runs x t) (sym is) runs) in
+      record {
+        entries = listed;
+        shows = record { ram = ram_is i e r kept; granules = refl; thread = refl; stack = caller.placed.base_is; frames = caller.placed.room_is };
+        heads = λ export high enters. entered_stands i here e t export high caller (ap (λ (es : Listed). switch_at e es t) (sym listed) ∙ enters);
       }
 
   -- ---- what it came to
@@ -109,8 +132,8 @@ module _ (i : Image) (e : EngineRow) (r : SchedRow) (k : DeviceStates) (pending 
   came_ran m Returned x board_is counts is same = absurd is
   came_ran m (Native number) x board_is counts is same = absurd is
 
-  module _ (number : ℕ) (new : EngineRow) (row : SchedRow) (q : Ran) (turn : row ≡ sched.with_statuses r row.statuses)
-      (h : IsServed e r.statuses new row.statuses q (λ j m. routine_or_trap (native j m t number))) where
+  module _ (number : ℕ) (entries : Listed) (new : EngineRow) (row : SchedRow) (q : Ran) (turn : row ≡ sched.with_statuses r row.statuses)
+      (h : IsServedOf (HoldsRoutine e r.statuses t entries number) e r.statuses new row.statuses q (λ j m. routine_or_trap (native j m t number))) where
     -- the machine that it left, and what the written routine comes to
     abbrev left : MachineRow
     left = machine new (sched.with_statuses r row.statuses)
@@ -118,8 +141,8 @@ module _ (i : Image) (e : EngineRow) (r : SchedRow) (k : DeviceStates) (pending 
     abbrev written : routine.Ran
     written = routine_or_trap (native i here t number)
 
-    comes : ComesTo left.state q written
-    comes = h.comes i here (record { ram = ram_is i e r kept; heap = kept.heap; statuses = kept.statuses })
+    comes : HoldsCallee i e t entries → ComesTo left.state q written
+    comes callee = h.comes i here (record { ram = ram_is i e r kept; heap = kept.heap; statuses = kept.statuses }, λ is. callee)
 
     -- where it traps nothing has changed
     stays : IfUnfinished q (left ≡ machine e r)
@@ -130,14 +153,14 @@ module _ (i : Image) (e : EngineRow) (r : SchedRow) (k : DeviceStates) (pending 
         ∙ ap (λ (ss : List Status). machine e (sched.with_statuses r ss)) same.1)
         h.same
 
-    pub came_served : CameTo (machine e r) (machine new row) t q (served board here t (native i here t number))
-    came_served =
+    pub came_served : HoldsCallee i e t entries → CameTo (machine e r) (machine new row) t q (served board here t (native i here t number))
+    came_served callee =
         subst (CameTo (machine e r) (machine new row) t q) (ran_or_trap board here t (native i here t number))
         (subst (λ (y : SchedRow). CameTo (machine e r) (machine new y) t q (ran board here t written)) (sym turn)
-        (came_ran left q written refl refl comes stays))
+        (came_ran left q written refl refl (comes callee) stays))
 
-    pub served_done : IsDone q
-    served_done = done_by left.state q written comes
+    pub served_done : HoldsCallee i e t entries → IsDone q
+    served_done callee = done_by left.state q written (comes callee)
 
     -- one object is made at most
     pub served_kept : (m : MachineRow) → machine e r ≡ m → m.state.next ≤ m.state.counts.steps

@@ -5,7 +5,6 @@ use Rattle.def_profile.specs.declared.answers.TheConstants.{UNWOUND}
 use Rattle.ct_entry.specs.Listed.{Listed}
 use Rattle.ct_entry.specs.declared.acts.Deed.{Deed}
 use Rattle.ct_entry.specs.declared.acts.Happened.{Happened}
-use Rattle.ct_entry.specs.declared.acts.Act.TheVariants.{Call}
 use Rattle.def_words.specs.declared.Trap as words
 use Rattle.def_machine.specs.Rows.{RowsFit}
 use Rattle.def_confined.specs.Keeps.{Keeps}
@@ -20,14 +19,12 @@ use Rattle.def_machine.specs.Platform.{MachineRow}
 use Rattle.def_step.specs.Handlers.{handler_value}
 use Rattle.def_step.specs.Instructions.{actor_of}
 use Rattle.ct_sched.specs.Sched.{SchedRow, with_statuses}
-use Rattle.ct_switch.specs.declared.calls.Called.{Called}
-use Rattle.ct_switch.specs.declared.calls.Called.TheVariants as called
 use Rattle.ct_engine.specs.Seen.{EngineRow, thread}
 use Rattle.ct_engine.specs.Calls.{returned, ended_with}
 use Rattle.ct_engine.specs.Handling.{is_marked, is_handled_at, handler_begun}
 use Rattle.ct_execute.specs.declared.ran.Ran.{Ran}
 use Rattle.ct_execute.specs.declared.ran.Ran.TheVariants.{Went, Returned, Native, Trapped}
-use Rattle.ct_execute.specs.Deciding.{act_by, finished, IfUnfinished}
+use Rattle.ct_execute.specs.Deciding.{finished, IfUnfinished}
 
 -- No entry reaches what is hidden, capabilities of boot are what their entries say, the state is confined, with what
 -- stands beside, and each row of a key or a token is of a live object.
@@ -75,14 +72,6 @@ silence = record { deed = None; off = None }
 -- each sleep is one tick shorter
 abbrev pub sleepers_on : State → State
 sleepers_on s = record s { threads = map timed s.threads }
-
--- ---- what a call came to
-
-abbrev pub ran_by_call : Called → Ran
-ran_by_call (called.Entered entry export) = Went (Some (act_by entry (Call export)))
-ran_by_call called.TooDeep = Went None
-ran_by_call called.NoStack = Went None
-ran_by_call (called.Trapped why) = Trapped why
 
 -- ---- where its innermost frame ends
 

@@ -2,6 +2,7 @@
 use Rattle.std.proofs.Common.{ℕ, ◌+◌, ◌≡◌, ◌≤◌, ◌∙◌, List, length, Option, Some, None, refl, sym, ap, subst, arith}
 use Rattle.std.specs.Prelude.{option_map}
 use Rattle.std.proofs.lemmas.List.{length-set}
+use Rattle.ct_entry.specs.Listed.{Listed}
 use Rattle.def_words.specs.declared.Cap.{Cap}
 use Rattle.def_words.specs.declared.Trap.{Trap}
 use Rattle.def_sched.specs.declared.Status.{Status}
@@ -23,7 +24,7 @@ use Rattle.ct_execute.specs.declared.ran.Ran.{Ran}
 use Rattle.ct_execute.specs.declared.ran.Ran.TheVariants.{Went, Trapped}
 use Rattle.ct_services.specs.Answering.{answered_in}
 use Rattle.ct_services.specs.Arguments.{NamesThisQuota, NamesThisKey}
-use Rattle.ct_services.specs.Serves.{ComesTo, Routine, IsServed, ServesAlone, act_row}
+use Rattle.ct_services.specs.Serves.{ComesTo, Routine, IsServed, IsServedOf, HoldsRoutine, ServesAlone, act_row}
 use Rattle.ct_engine.proofs.Freeing.{changed_with}
 use Rattle.ct_execute.proofs.Statuses.{like_with}
 
@@ -95,18 +96,30 @@ serves_tell s new t v is =
 
 -- ---- what comes to the same
 
-pub serves_alike : {s new : EngineRow} {ss after : List Status} {ran : Ran} {x y : Routine}
-    → IsServed s ss new after ran x
-    → ((i : Image) (m : State) → HasLayout i s ss → y i (state_with m s ss) ≡ x i (state_with m s ss))
-    → IsServed s ss new after ran y
-serves_alike {new = new} {after = after} {ran = ran} h alike = record {
-  comes = λ i m holds. subst (ComesTo (state_with m new after) ran) (sym (alike i m holds)) (h.comes i m holds);
+-- of images of which less holds
+pub serves_of : {A B : Image → Type 0} {s new : EngineRow} {ss after : List Status} {ran : Ran} {x y : Routine}
+    → IsServedOf A s ss new after ran x → ((i : Image) → B i → A i)
+    → ((i : Image) (m : State) → B i → y i (state_with m s ss) ≡ x i (state_with m s ss))
+    → IsServedOf B s ss new after ran y
+serves_of {new = new} {after = after} {ran = ran} h of alike = record {
+  comes = λ i m holds. subst (ComesTo (state_with m new after) ran) (sym (alike i m holds)) (h.comes i m (of i holds));
   same = h.same;
   beside = h.beside;
   made = h.made;
   many = h.many;
   ready = h.ready;
 }
+
+-- of a routine that asks no callee
+pub serves_other : {s new : EngineRow} {ss after : List Status} {ran : Ran} {x : Routine} {t number : ℕ} {e : Listed}
+    → IsServed s ss new after ran x → IsServedOf (HoldsRoutine s ss t e number) s ss new after ran x
+serves_other h = serves_of h (λ i holds. holds.0) (λ i m holds. refl)
+
+pub serves_alike : {s new : EngineRow} {ss after : List Status} {ran : Ran} {x y : Routine}
+    → IsServed s ss new after ran x
+    → ((i : Image) (m : State) → HasLayout i s ss → y i (state_with m s ss) ≡ x i (state_with m s ss))
+    → IsServed s ss new after ran y
+serves_alike h alike = serves_of h (λ i holds. holds) alike
 
 pub serves_as : {s new : EngineRow} {ran : Ran} {x y : Routine} → ServesAlone s new ran x
     → ((i : Image) (m : State) (ss : List Status) → HasLayout i s ss → y i (state_with m s ss) ≡ x i (state_with m s ss))

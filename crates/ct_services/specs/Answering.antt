@@ -1,15 +1,11 @@
--- What an answer, a thread's stop and the switch leave of what is seen.
+-- What an answer and a thread's stop leave of what is seen.
 use Rattle.std.specs.Prelude.{ℕ, ◌+◌, ◌%◌, ◌≡◌, ◌≤◌, true, Option, Some, None}
-use Rattle.def_profile.specs.declared.answers.TheConstants.{NO_STACK, TOO_DEEP}
 use Rattle.def_words.specs.declared.Cap.{Cap}
 use Rattle.def_words.specs.declared.Trap.{Trap}
 use Rattle.def_words.specs.Authority.{cap_address}
 use Rattle.def_words.specs.Capability.{integer, is_range_inside}
 use Rattle.def_words.specs.Permissions.{has, load_data}
-use Rattle.ct_entry.specs.Listed.{Listed}
-use Rattle.def_step.specs.Routines.{answered, code}
-use Rattle.def_step.specs.Switch.{Switched, Trapped, TooDeep, NoStack, Enters}
-use Rattle.ct_engine.specs.Calls.{after_call}
+use Rattle.def_step.specs.Routines.{answered}
 use Rattle.ct_engine.specs.Seen.{EngineRow, thread, with_thread, with_running}
 
 -- the running thread goes on where c1 leads, with an answer
@@ -32,10 +28,3 @@ pub record IsWord (ram size : ℕ) (c : Cap) : Type 0 where
 abbrev pub IfPasses : Option Trap → Type 0 → Type 0
 IfPasses (Some why) P = Unit {0}
 IfPasses None P = P
-
--- where a call isn't made for want of frames or of stack, the thread goes on with -12 or -11
-abbrev pub switched_in : EngineRow → Listed → ℕ → Switched → EngineRow
-switched_in s e t (Trapped why) = s
-switched_in s e t TooDeep = answered_in s t (code TOO_DEEP)
-switched_in s e t NoStack = answered_in s t (code NO_STACK)
-switched_in s e t (Enters export high) = after_call s e t (Enters export high)

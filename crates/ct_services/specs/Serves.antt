@@ -3,6 +3,8 @@
 -- fails is a trap, and then nothing changes; all else that fails is the answer.
 use Rattle.std.specs.Prelude.{ℕ, ◌+◌, ◌≡◌, ◌≤◌, List, length, Option, Some, None, option_map}
 use Rattle.ct_entry.specs.declared.acts.Act.{Act}
+use Rattle.ct_entry.specs.Listed.{Listed}
+use Rattle.def_native.specs.declared.TheConstants.{SWITCH}
 use Rattle.def_words.specs.Traps.{plain_trap}
 use Rattle.def_profile.specs.declared.traps.TheConstants.{ILLEGAL_INSTRUCTION}
 use Rattle.def_sched.specs.declared.Status.{Status}
@@ -12,8 +14,10 @@ use Rattle.def_machine.specs.Image.{Image}
 use Rattle.def_machine.specs.State.{State}
 use Rattle.def_step.specs.Routines as routine
 use Rattle.def_step.specs.Routines.{Traps, Leaves}
+use Rattle.def_step.specs.Switch.{Enters}
 use Rattle.ct_engine.specs.Seen.{EngineRow}
-use Rattle.ct_engine.specs.Written.{HasLayout, StaysBeside, state_with}
+use Rattle.ct_engine.specs.Calls.{HeadStands, switch_at}
+use Rattle.ct_engine.specs.Written.{HasLayout, Shows, StaysBeside, state_with}
 use Rattle.ct_execute.specs.declared.ran.ActBy.{ActBy}
 use Rattle.ct_execute.specs.declared.ran.Ran.{Ran}
 use Rattle.ct_execute.specs.declared.ran.Ran.TheVariants.{Went, Returned, Native, Trapped}
@@ -40,11 +44,11 @@ abbrev pub RunsReady : EngineRow → List Status → Type 0
 RunsReady s ss = (t : ℕ) → s.state.running ≡ Some t → status_of ss t ≡ Ready
 
 -- An engine and the threads' statuses became these, and the code came to this: what the written routine comes to, of
--- each image whose RAM, heap and quotas lie where the engine's do. Where it traps nothing has changed. One object is made
--- at most, and the running thread stays ready.
-pub record IsServed (s : EngineRow) (ss : List Status) (new : EngineRow) (after : List Status) (ran : Ran)
-    (x : Routine) : Type 0 where
-  pub comes : (i : Image) (m : State) → HasLayout i s ss
+-- each image of which this holds. Where it traps nothing has changed. One object is made at most, and the running thread
+-- stays ready.
+pub record IsServedOf (Holds : Image → Type 0) (s : EngineRow) (ss : List Status) (new : EngineRow)
+    (after : List Status) (ran : Ran) (x : Routine) : Type 0 where
+  pub comes : (i : Image) (m : State) → Holds i
       → ComesTo (state_with m new after) ran (x i (state_with m s ss))
   pub same : IfUnfinished ran ((new ≡ s) × (after ≡ ss))
   pub beside : StaysBeside s new
@@ -52,9 +56,24 @@ pub record IsServed (s : EngineRow) (ss : List Status) (new : EngineRow) (after 
   pub many : length after ≡ length ss
   pub ready : RunsReady s ss → RunsReady new after
 
+-- of each image whose RAM, heap and quotas lie where the engine's do
+abbrev pub IsServed : EngineRow → List Status → EngineRow → List Status → Ran → Routine → Type 0
+IsServed s ss new after ran x = IsServedOf (λ i. HasLayout i s ss) s ss new after ran x
+
 -- the same where the statuses stay
 abbrev pub ServesAlone : EngineRow → EngineRow → Ran → Routine → Type 0
 ServesAlone s new ran x = (ss : List Status) → IsServed s ss new ss ran x
+
+-- Of an image whose calls thread t makes: its entries are these, RAM, the thread's stack and the room for its frames are
+-- as it has them, and the head of the callee's export table is as boot made it.
+pub record HoldsCallee (i : Image) (s : EngineRow) (t : ℕ) (e : Listed) : Type 0 where
+  pub entries : e ≡ i.entries
+  pub shows : Shows i s.state s t
+  pub heads : (export high : ℕ) → switch_at s e t ≡ Enters export high → HeadStands i s t export
+
+-- of the routine of a number: of an image, what lies where the engine's does, and, of the switch, the callee
+abbrev pub HoldsRoutine : EngineRow → List Status → ℕ → Listed → ℕ → Image → Type 0
+HoldsRoutine s ss t e number i = HasLayout i s ss × (number ≡ SWITCH → HoldsCallee i s t e)
 
 -- what the routine of a number comes to; no number of none is served
 abbrev pub routine_or_trap : Option routine.Ran → routine.Ran

@@ -1,16 +1,16 @@
 //! The switch.
 
-ghost use Rattle.std.specs.Prelude.{◌≡◌, Some};
-ghost use Rattle.def_machine.specs.State.{register};
-ghost use Rattle.ct_engine.specs.Calls.{switch_at};
-ghost use Rattle.ct_engine.specs.Seen.{thread};
-ghost use Rattle.ct_switch.specs.Calls.{call_outcome};
+ghost use Rattle.std.specs.Prelude.{List, ◌≡◌, Some};
+ghost use Rattle.def_native.specs.declared.TheConstants as numbers;
+ghost use Rattle.def_sched.specs.declared.Status.{Status};
+ghost use Rattle.def_step.specs.Routines as routine;
 ghost use Rattle.ct_engine.specs.Calls.{MayCall};
-ghost use Rattle.ct_services.specs.Answering.{switched_in};
+ghost use Rattle.ct_services.specs.Serves.{IsServedOf, HoldsRoutine};
 
-use crate::answering::{answer, code};
+use crate::answering::refuse;
 use ct_engine::{Called, Engine};
-use ct_entry::Entries;
+use ct_entry::{Act, Entries};
+use ct_execute::{ActBy, Ran};
 use ct_mem::Memory;
 use def_profile::answers::{NO_STACK, TOO_DEEP};
 
@@ -18,19 +18,22 @@ use def_profile::answers::{NO_STACK, TOO_DEEP};
 ///
 /// Where it has as many frames as it may have, it goes on where c1 leads with -12 in c10; where the callee's
 /// stack has too little room, with -11. Where a check fails nothing changes.
-pub fn switch<M: Memory + Drop>(engine: &mut Engine<M>, t: u32, e: &Entries) -> Called
+pub(crate) fn switch<M: Memory + Drop>(engine: &mut Engine<M>, t: u32, e: &Entries) -> Ran
     requires runs { engine.old.state.running ≡ Some t }
     requires may { MayCall engine.old t e.now }
-    ensures result { result
-        ≡ call_outcome (register (thread engine.old t) 6) (switch_at engine.old e.now t) }
-    ensures engine { engine.new
-        ≡ switched_in engine.old e.now t (switch_at engine.old e.now t) }
+    ensures { (ss : List Status)
+        → IsServedOf (HoldsRoutine engine.old ss t e.now numbers.SWITCH) engine.old ss engine.new ss
+        result (λ i m. routine.switch i m t) }
 {
-    let called = engine.call(t, e);
-    match called {
-        Called::TooDeep => answer(engine, t, code(TOO_DEEP)),
-        Called::NoStack => answer(engine, t, code(NO_STACK)),
-        Called::Entered { .. } | Called::Trapped { .. } => {}
+    match engine.call(t, e) {
+        Called::Entered { entry, export } => Ran::Went {
+            done: Some(ActBy {
+                act: Act::Call { export },
+                entry,
+            }),
+        },
+        Called::TooDeep => refuse(engine, t, TOO_DEEP),
+        Called::NoStack => refuse(engine, t, NO_STACK),
+        Called::Trapped { trap } => Ran::Trapped { trap },
     }
-    called
 }
