@@ -90,13 +90,3 @@ pub record HasLayout (i : Image) (s : EngineRow) (ss : List Status) : Type 0 whe
   pub ram : s.region.ram ≡ i.ram
   pub heap : HasHeap i s
   pub statuses : length ss ≡ length s.state.threads
-
--- what neither a routine nor a slice of a sweep changes of an engine
-pub record StaysBeside (s new : EngineRow) : Type 0 where
-  pub region : new.region ≡ s.region
-  pub areas : new.areas ≡ s.areas
-  pub size : length new.state.granules ≡ length s.state.granules
-  pub threads : length new.state.threads ≡ length s.state.threads
-  pub heap_base : new.heap_base ≡ s.heap_base
-  pub heap_end : new.heap_end ≡ s.heap_end
-  pub limits : new.limits ≡ s.limits

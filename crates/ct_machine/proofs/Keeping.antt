@@ -1,5 +1,5 @@
 -- What is kept beside the state is kept by a step.
-use Rattle.std.proofs.Common.{ℕ, zero, suc, ◌*◌, ◌≡◌, ◌<◌, Bool, true, false, inl, inr, nat_lt, map, List, [], ◌∷◌, length, Option, Some, None, refl, sym, ap, ◌∙◌, subst, slice_index_or, arith}
+use Rattle.std.proofs.Common.{ℕ, zero, suc, ◌*◌, ◌≡◌, Bool, true, false, inl, inr, nat_lt, map, List, [], ◌∷◌, length, Option, Some, None, refl, sym, ap, ◌∙◌, subst, arith}
 use Rattle.std.proofs.lemmas.List.{length-set, length-map}
 use Rattle.law_lists.proofs.Tests.{lt_tells, both_left}
 use Rattle.law_lists.proofs.Finds.{find_tells}
@@ -18,19 +18,17 @@ use Rattle.def_step.specs.Devices.{DeviceStates}
 use Rattle.def_step.specs.Handlers.{record_words}
 use Rattle.def_machine.specs.Platform.{MachineRow}
 use Rattle.ct_entry.specs.declared.acts.Deed.{Deed}
-use Rattle.ct_areas.specs.declared.thread.Area.{Area}
 use Rattle.ct_sched.specs.Sched.{SchedRow, with_statuses, after_pick}
 use Rattle.ct_threads.specs.Steps.{IsHeapPlaced}
 use Rattle.ct_threads.specs.Handling.{record_place}
 use Rattle.ct_engine.specs.Seen as engine
 use Rattle.ct_engine.specs.Seen.{area_at, resumed, with_running, EngineRow}
-use Rattle.ct_engine.specs.Written.{StaysBeside, HasHeap}
 use Rattle.ct_engine.specs.Calls.{switched}
 use Rattle.ct_engine.specs.Handling.{handler_begun}
 use Rattle.ct_execute.specs.declared.ran.Ran.{Ran}
 use Rattle.ct_execute.specs.declared.ran.Ran.TheVariants.{Went, Returned, Native, Trapped}
 use Rattle.ct_execute.specs.Deciding.{IfUnfinished, Stays}
-use Rattle.ct_services.specs.Serves.{RunsReady}
+use Rattle.ct_services.specs.Serves.{RunsReady, StaysBeside}
 use Rattle.ct_boot.specs.Placed.{ArePlaced}
 use Rattle.ct_machine.specs.Parts.{state_by, IsKept, IsCounted}
 use Rattle.ct_machine.specs.Going.{CameTo}
@@ -45,46 +43,31 @@ two_more n = elim (lt_tells 1 (suc (suc n))) [ inl a ↦ a.0 | inr a ↦ absurd 
 pub none_runs : (e : EngineRow) (ss : List Status) → e.state.running ≡ None → RunsReady e ss
 none_runs e ss none t runs = absurd (let clash : None ≡ Some t = sym none ∙ runs in cc)
 
--- the heap stays where it is, and so do its limits
-heap_stays : (i : Image) (e new : EngineRow) → HasHeap i e → new.heap_base ≡ e.heap_base → new.heap_end ≡ e.heap_end → new.limits ≡ e.limits → HasHeap i new
-heap_stays i e new heap base end limits = record {
-  base = heap.base ∙ sym base;
-  end = heap.end ∙ sym end;
-  limits = λ q. heap.limits q ∙ ap (λ (xs : List ℕ). slice_index_or xs q 0) (sym limits);
-}
-
 -- an engine of the same places, and as many statuses
 pub stays_kept : (i : Image) (e new : EngineRow) (r : SchedRow) (ss : List Status) → IsKept i e r → StaysBeside e new → length ss ≡ length r.statuses → RunsReady new ss → IsKept i new (with_statuses r ss)
-stays_kept i e new r ss kept stays many ready = record {
-  region = stays.region ∙ kept.region;
-  placed = subst (λ (n : ℕ). IsHeapPlaced i.ram i.heap_base n) (sym stays.size) kept.placed;
-  heap = heap_stays i e new kept.heap stays.heap_base stays.heap_end stays.limits;
-  quotas = λ q is. subst (λ (xs : List ℕ). q < length xs) (sym stays.limits) (kept.quotas q is);
-  areas = subst (λ (n : ℕ). ArePlaced i (8 * n) new.areas) (sym stays.size) (subst (λ (xs : List Area). ArePlaced i (8 * length e.state.granules) xs) (sym stays.areas) kept.areas);
-  threads = ap length stays.areas ∙ kept.threads ∙ sym stays.threads;
-  priorities = kept.priorities;
-  statuses = many ∙ kept.statuses ∙ sym stays.threads;
-  few = rw many kept.few;
-  ready = ready;
-}
+stays_kept i e new r ss kept stays many ready =
+    subst (λ (x : EngineRow). IsKept i x (with_statuses r ss)) (sym stays.same)
+    (record {
+      region = kept.region;
+      placed = subst (λ (n : ℕ). IsHeapPlaced i.ram i.heap_base n) (sym stays.size) kept.placed;
+      heap = record { base = kept.heap.base; end = kept.heap.end; limits = kept.heap.limits };
+      quotas = kept.quotas;
+      areas = subst (λ (n : ℕ). ArePlaced i (8 * n) e.areas) (sym stays.size) kept.areas;
+      threads = kept.threads ∙ sym stays.threads;
+      priorities = kept.priorities;
+      statuses = many ∙ kept.statuses ∙ sym stays.threads;
+      few = rw many kept.few;
+      ready = ready;
+    })
 
--- all else than memory, threads, who runs, and what a sweep changes of objects is as it was
+-- where its parts lie is as it was
 abbrev pub StaysElse : EngineRow → EngineRow → Type 0
-StaysElse e new = new
-    ≡ record e { state = record e.state { granules = new.state.granules; threads = new.state.threads; running = new.state.running; objects = new.state.objects; front = new.state.front } }
+StaysElse e new = new ≡ record e { state = new.state }
 
 pub kept_so : (i : Image) (e new : EngineRow) (r : SchedRow) (ss : List Status) → IsKept i e r → StaysElse e new → length new.state.granules ≡ length e.state.granules → length new.state.threads ≡ length e.state.threads
     → length ss ≡ length r.statuses → RunsReady new ss → IsKept i new (with_statuses r ss)
 kept_so i e new r ss kept else_ size threads many ready =
-    stays_kept i e new r ss kept (record {
-      region = ap (λ (x : EngineRow). x.region) else_;
-      areas = ap (λ (x : EngineRow). x.areas) else_;
-      size = size;
-      threads = threads;
-      heap_base = ap (λ (x : EngineRow). x.heap_base) else_;
-      heap_end = ap (λ (x : EngineRow). x.heap_end) else_;
-      limits = ap (λ (x : EngineRow). x.limits) else_;
-    }) many ready
+    stays_kept i e new r ss kept (record { same = else_; size = size; threads = threads }) many ready
 
 pub same_kept : (i : Image) (e new : EngineRow) (r : SchedRow) → IsKept i e r → StaysElse e new → length new.state.granules ≡ length e.state.granules → length new.state.threads ≡ length e.state.threads
     → RunsReady new r.statuses → IsKept i new r

@@ -47,15 +47,7 @@ module _ (s : EngineRow) (ss : List Status) (t : ℕ) where
   serves_went u run after x is many ready = record {
     comes = is;
     same = tt;
-    beside = record {
-      region = refl;
-      areas = refl;
-      size = refl;
-      threads = length-set s.state.threads t u;
-      heap_base = refl;
-      heap_end = refl;
-      limits = refl;
-    };
+    beside = record { same = refl; size = refl; threads = length-set s.state.threads t u };
     made = omega arith;
     many = many;
     ready = ready;

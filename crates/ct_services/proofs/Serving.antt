@@ -18,7 +18,7 @@ use Rattle.def_step.specs.Switch.{return_checks}
 use Rattle.def_step.specs.Tokens.{as_key, by_key, key_of, sealed_object}
 use Rattle.def_profile.specs.declared.answers.TheConstants.{NO_KEY}
 use Rattle.ct_engine.specs.Seen.{EngineRow, thread}
-use Rattle.ct_engine.specs.Written.{HasLayout, StaysBeside, state_with}
+use Rattle.ct_engine.specs.Written.{HasLayout, state_with}
 use Rattle.ct_execute.specs.declared.ran.ActBy.{ActBy}
 use Rattle.ct_execute.specs.declared.ran.Ran.{Ran}
 use Rattle.ct_execute.specs.declared.ran.Ran.TheVariants.{Went, Trapped}
@@ -54,17 +54,6 @@ pub record Becomes (s u : EngineRow) : Type 0 where
   pub same : u
       ≡ record s { state = record s.state { granules = u.state.granules; threads = u.state.threads; objects = u.state.objects; tokens = u.state.tokens; next = u.state.next } }
 
-pub same_beside : (s : EngineRow) → StaysBeside s s
-same_beside s = record {
-  region = refl;
-  areas = refl;
-  size = refl;
-  threads = refl;
-  heap_base = refl;
-  heap_end = refl;
-  limits = refl;
-}
-
 -- of an engine that became this
 pub serves_answer : (s u : EngineRow) (t : ℕ) (v : Cap) (done : Option ActBy) (x : Routine) → Becomes s u
     → ((i : Image) (m : State) (ss : List Status) → HasLayout i s ss
@@ -74,13 +63,9 @@ serves_answer s u t v done x became comes ss = record {
   comes = λ i m h. comes i m ss h ∙ ap (λ (y : State). Leaves y (option_map act_row done)) (answers_alike m u ss t v);
   same = tt;
   beside = record {
-    region = ap (λ (y : EngineRow). y.region) became.same;
-    areas = ap (λ (y : EngineRow). y.areas) became.same;
+    same = ap (λ (y : EngineRow). record y { state = (answered_in u t v).state }) became.same;
     size = became.size;
     threads = length-set u.state.threads t _ ∙ became.threads;
-    heap_base = ap (λ (y : EngineRow). y.heap_base) became.same;
-    heap_end = ap (λ (y : EngineRow). y.heap_end) became.same;
-    limits = ap (λ (y : EngineRow). y.limits) became.same;
   };
   made = became.made;
   many = refl;
@@ -133,7 +118,14 @@ pub serves_trapped : (s : EngineRow) (ss : List Status) (why : Trap) (x : Routin
     → ((i : Image) (m : State) → HasLayout i s ss → x i (state_with m s ss) ≡ Traps why)
     → IsServed s ss s ss (Trapped why) x
 serves_trapped s ss why x is =
-    record { comes = is; same = (refl, refl); beside = same_beside s; made = omega arith; many = refl; ready = λ r. r }
+    record {
+      comes = is;
+      same = (refl, refl);
+      beside = record { same = refl; size = refl; threads = refl };
+      made = omega arith;
+      many = refl;
+      ready = λ r. r;
+    }
 
 -- as it does where c1 doesn't lead back
 pub serves_no_return : {s : EngineRow} {t : ℕ} {c : Cap} {why : Trap} {x : Routine} (ss : List Status) → c ≡ register (thread s t) 1

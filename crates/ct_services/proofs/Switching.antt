@@ -83,13 +83,9 @@ module _ (s : EngineRow) (ss : List Status) (t : ℕ) (e : Listed) where
         comes = λ i m b. written_is (sym is) i m b ∙ enters_so i m export high (b.1 refl) ((b.1 refl).heads export high (sym is));
         same = tt;
         beside = record {
-          region = refl;
-          areas = refl;
+          same = refl;
           size = zeroed_length (area_at s t).stack high s.region.ram s.state.granules;
           threads = length-set s.state.threads t _;
-          heap_base = refl;
-          heap_end = refl;
-          limits = refl;
         };
         made = omega arith;
         many = refl;

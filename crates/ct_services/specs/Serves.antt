@@ -17,7 +17,7 @@ use Rattle.def_step.specs.Routines.{Traps, Leaves}
 use Rattle.def_step.specs.Switch.{Enters}
 use Rattle.ct_engine.specs.Seen.{EngineRow}
 use Rattle.ct_engine.specs.Calls.{HeadStands, switch_at}
-use Rattle.ct_engine.specs.Written.{HasLayout, Shows, StaysBeside, state_with}
+use Rattle.ct_engine.specs.Written.{HasLayout, Shows, state_with}
 use Rattle.ct_execute.specs.declared.ran.ActBy.{ActBy}
 use Rattle.ct_execute.specs.declared.ran.Ran.{Ran}
 use Rattle.ct_execute.specs.declared.ran.Ran.TheVariants.{Went, Returned, Native, Trapped}
@@ -42,6 +42,12 @@ ComesTo after (Native number) x = ⊥
 -- the running thread is ready
 abbrev pub RunsReady : EngineRow → List Status → Type 0
 RunsReady s ss = (t : ℕ) → s.state.running ≡ Some t → status_of ss t ≡ Ready
+
+-- what no routine changes of an engine: where its parts lie, how large memory is, and how many threads there are
+pub record StaysBeside (s new : EngineRow) : Type 0 where
+  pub same : new ≡ record s { state = new.state }
+  pub size : length new.state.granules ≡ length s.state.granules
+  pub threads : length new.state.threads ≡ length s.state.threads
 
 -- An engine and the threads' statuses became these, and the code came to this: what the written routine comes to, of
 -- each image of which this holds. Where it traps nothing has changed. One object is made at most, and the running thread
