@@ -11,7 +11,8 @@ ghost use Rattle.def_step.specs.Quotas.{allocation};
 ghost use Rattle.def_step.specs.Routines as routine;
 ghost use Rattle.def_step.specs.Tokens as tokens;
 ghost use Rattle.def_step.specs.Tokens.{is_key_row, sealed_object, as_token, key_of, token_object};
-ghost use Rattle.ct_services.specs.Arguments.{NamesQuota, NamesThisKey, Finds};
+ghost use Rattle.ct_heap.specs.Lookups.{found_as};
+ghost use Rattle.ct_services.specs.Arguments.{NamesQuota, NamesThisKey};
 ghost use Rattle.ct_services.specs.Serves.{ServesAlone};
 
 use crate::answering::{refuse, tell};
@@ -28,7 +29,8 @@ use def_profile::seals::TOKEN_TYPE;
 
 /// The live object that a capability is the whole of, where it is sealed as a key or a token.
 fn sealed_in<M: Memory + Drop>(engine: &Engine<M>, c: Live) -> Option<Found>
-    ensures { Finds engine.now.state.objects c (sealed_object engine.now.state.objects c) result }
+    ensures { result
+        ≡ found_as engine.now.state.objects (sealed_object engine.now.state.objects c) }
 {
     if !c.cap.tag || c.seal != TOKEN_TYPE {
         return None;
@@ -61,8 +63,9 @@ fn key_named<M: Memory + Drop>(engine: &mut Engine<M>, t: u32, n: u32) -> Result
 /// The live token that a capability is of, where it was made with this key.
 fn token_in<M: Memory + Drop>(engine: &Engine<M>, key: u32, c: Live) -> Option<Found>
     requires { list_any (is_key_row key) engine.now.state.tokens ≡ true }
-    ensures { Finds engine.now.state.objects c
-        (as_token engine.now.state.tokens key (sealed_object engine.now.state.objects c)) result }
+    ensures { result
+        ≡ found_as engine.now.state.objects
+        (as_token engine.now.state.tokens key (sealed_object engine.now.state.objects c)) }
 {
     match sealed_in(engine, c) {
         Some(found) => {
