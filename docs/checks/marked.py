@@ -180,7 +180,7 @@ MARKED = {
             "Engine::is_handling Engine::end_handler Engine::next Engine::loadstore Engine::allocate "
             "Engine::free Engine::made Engine::remaining Engine::quarantined Engine::window Engine::burst Engine::once "
             "Engine::find Engine::is_key Engine::opens Engine::allocate_sealed Engine::has_sweep Engine::sweep "
-            "calls_written ends_written handlers_written grants_written sweeps_written",
+            "calls_written ends_written handlers_written sweeps_written",
     },
     "ct_execute": {
         "inner": "execute",

@@ -10,7 +10,7 @@ use Rattle.def_words.specs.declared.Cap.{Cap}
 use Rattle.def_memory.specs.declared.Granule.{Granule}
 use Rattle.def_memory.specs.Ranges.{is_tagged, zeroed_from, marked_from}
 use Rattle.def_machine.specs.Image.{Image}
-use Rattle.def_machine.specs.State.{State, Object, Thread, Token, Status, nobody}
+use Rattle.def_machine.specs.State.{State, Object, Thread, Status, nobody}
 use Rattle.def_machine.specs.Threads.{with_status, with_statuses}
 use Rattle.def_step.specs.Quotas as quotas
 use Rattle.def_step.specs.Quotas.{without_row}
@@ -33,7 +33,7 @@ use Rattle.ct_token.specs.Table.{Table}
 use Rattle.ct_engine.specs.declared.rows.Rows.{Rows}
 use Rattle.ct_engine.specs.Seen.{EngineRow, region_hides, engine_view, after_filter}
 use Rattle.ct_engine.specs.Kept.{IsClear, IsEngine}
-use Rattle.ct_engine.specs.Grants.{WasWhole, quarantined, let_go, freed, freed_by}
+use Rattle.ct_engine.specs.Grants.{WasWhole, let_go, freed, freed_by}
 use Rattle.ct_engine.specs.Written.{state_with}
 use Rattle.ct_engine.proofs.Clear.{tag_clear}
 use Rattle.ct_engine.proofs.HiddenTwice.{seen_both}
@@ -178,8 +178,9 @@ module _ {gs hs : List Granule} {rows : Rows} {n : HeapRow} {quota base top numb
       let low = (stands holds.heap.laid f).low in
       record { size = f.size; below = λ k under. ap (λ (g : Granule). g.cap) (f.rest k (inl (omega (arith, under, low, b)))); same = f.same }
 
-  freed_seen : engine_view hs (with_heap rows n rows.front) ≡ quarantined (engine_view gs rows) f.object
-  freed_seen =
+  freed_seen : (k : Table) → k.rows ≡ without_row f.object.number rows.tokens.rows
+      → engine_view hs (with_table (with_heap rows n rows.front) k) ≡ let_go (engine_view gs rows) f.object
+  freed_seen k gone =
       let h : HeapRow = rows.heap in
       let w = whole holds.heap.laid f in
       let ram : ℕ = h.range.ram in
@@ -192,8 +193,8 @@ module _ {gs hs : List Granule} {rows : Rows} {n : HeapRow} {quota base top numb
       ∙ sym (marked_seen region (zeroed_from base top ram was) (base - 8) top true ram)
       ∙ ap (λ xs. marked_from (base - 8) top true ram xs) (sym (zeroed_seen region was base top ram))
       ∙ ap (λ xs. marked_from (base - 8) top true ram (zeroed_from base top ram xs)) (sym (seen_both gs rows holds)) in
-      turned_seen gs hs rows n rows.front holds freed_turns
-      ∙ rw (memory, f.objects, f.next, w.top_is, w.base_is, holds.heap.ram) refl
+      ap (λ (x : EngineRow). let y : EngineRow = record x { state = record x.state { tokens = k.rows } } in y) (turned_seen gs hs rows n rows.front holds freed_turns)
+      ∙ rw (memory, f.objects, f.next, gone, w.top_is, w.base_is, holds.heap.ram) refl
 
   -- ---- the call: memory is freed, the object's row goes, and then the registers pass
 
@@ -205,11 +206,8 @@ module _ {gs hs : List Granule} {rows : Rows} {n : HeapRow} {quota base top numb
 
     pub free_is : {v z : EngineRow} (t : ℕ) → engine_view gs rows ≡ v → k.rows ≡ without_row number rows.tokens.rows
         → z ≡ after_filter (engine_view hs (with_table (with_heap rows n rows.front) k)) t → z ≡ freed_by v t (whole_of quota base top v.state.objects)
-    free_is {v} {z} t is gone filtered =
-        let with_rows : EngineRow → List Token → EngineRow = λ x ks. record x { state = record x.state { tokens = ks } } in
-        let without : engine_view hs (with_table (with_heap rows n rows.front) k) ≡ let_go (engine_view gs rows) f.object =
-        ap (λ x. with_rows x k.rows) freed_seen ∙ rw (gone, f.number_is) refl in
-        filtered ∙ ap (λ x. after_filter x t) without ∙ ap (freed_by (engine_view gs rows) t) (sym f.is)
+    free_is t is gone filtered =
+        filtered ∙ ap (λ x. after_filter x t) (freed_seen k (rw f.number_is at gone)) ∙ ap (freed_by (engine_view gs rows) t) (sym f.is)
         ∙ ap (λ x. freed_by x t (whole_of quota base top x.state.objects)) is
 
     pub free_told : {v z : EngineRow} (t : ℕ) (o : told.Object) → o ≡ record { number = number; base = place; length = long; live = live }

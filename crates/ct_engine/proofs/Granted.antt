@@ -7,7 +7,7 @@ use Rattle.def_machine.specs.Image.{Image, root}
 use Rattle.def_machine.specs.State as state
 use Rattle.def_machine.specs.State.{State}
 use Rattle.def_machine.specs.Objects.{charges, placed_among, has_quarantined}
-use Rattle.def_machine.specs.Heap.{length_for, charge_for, Fits, IsPlaceFor, place_of}
+use Rattle.def_machine.specs.Heap.{length_for, charge_for, Fits, IsPlaceFor, place_of, new_object, with_object}
 use Rattle.def_hidden.specs.Hidden.{is_live_at}
 use Rattle.def_step.specs.Quotas.{Refused, Made, allocation}
 use Rattle.def_hidden.specs.Hiding.{with_hidden}
@@ -24,10 +24,10 @@ use Rattle.ct_heap.specs.declared.rows.HeapRefusal.{HeapRefusal}
 use Rattle.ct_heap.specs.declared.rows.HeapRefusal.TheVariants.{Size, Quota, NoGap}
 use Rattle.ct_heap.specs.Effects.{Same, Allocates, RefusesSize, made}
 use Rattle.ct_engine.specs.declared.rows.Rows.{Rows}
-use Rattle.ct_engine.specs.Seen.{EngineRow, region_hides, engine_view, limit_at}
+use Rattle.ct_engine.specs.Seen.{EngineRow, region_hides, engine_view}
 use Rattle.ct_engine.specs.Kept.{IsClear, IsEngine}
-use Rattle.ct_engine.specs.Grants.{new_object, with_object, after_allocation, refusal_code, allocation_told}
-use Rattle.ct_engine.specs.Written.{HasHeap, HasQuota, SharesObjects}
+use Rattle.ct_engine.specs.Grants.{AllocatesAsWritten, refusal_code}
+use Rattle.ct_engine.specs.Written.{HasQuota, SharesObjects}
 use Rattle.ct_engine.proofs.Clear.{clear_tags}
 use Rattle.ct_engine.proofs.HiddenTwice.{seen_both}
 use Rattle.ct_engine.proofs.HeapTurns.{with_heap, limit_of, HeapTurns, turned_holds, turned_seen}
@@ -83,7 +83,7 @@ module _ {gs hs : List Granule} {rows : Rows} {n : HeapRow} {quota size number b
   pub allocated_turns : HeapTurns gs hs rows n
   allocated_turns = record { size = a.stays.size; below = λ k under. ap (λ (g : Granule). g.cap) (a.stays.rest k (inl under)); same = a.same }
 
-  pub allocated_seen : engine_view hs (with_heap rows n rows.front) ≡ with_object (engine_view gs rows) (new_object (engine_view gs rows) quota size base)
+  pub allocated_seen : engine_view hs (with_heap rows n rows.front) ≡ record (engine_view gs rows) { state = with_object (engine_view gs rows).state (new_object (engine_view gs rows).state quota size base) }
   allocated_seen =
       let h : HeapRow = rows.heap in
       let region : ℕ → Bool = region_hides rows.region in
@@ -168,7 +168,7 @@ module _ (gs : List Granule) (rows : Rows) (quota size : ℕ) (i : Image) (m : S
   within le = rw (limit_is, shares.objects) (le-ltb _ _ le)
 
   answer_made : (hs : List Granule) (n : HeapRow) (number base long live : ℕ) → Allocates rows.heap n gs hs quota size number base long live
-      → allocation i m quota size ≡ Made (new_object (engine_view gs rows) quota size base)
+      → allocation i m quota size ≡ Made (new_object (engine_view gs rows).state quota size base)
   answer_made hs n number base long live a =
       let p = a.place here heap_here in
       let at : IsPlaceFor i own (length_for size) base = record {
@@ -208,23 +208,22 @@ holds_after gs hs rows n quota size (Ok o) holds laid a same =
 holds_after gs hs rows n quota size (Err why) holds laid a same =
     subst (λ x. IsEngine hs (with_heap rows x rows.front)) (sym same.0) (subst (λ x. IsEngine x rows) (sym same.1) holds)
 
-pub seen_after : (gs hs : List Granule) (rows : Rows) (n : HeapRow) (s : EngineRow) (quota size : ℕ) (result : Result told.Object HeapRefusal) → engine_view gs rows ≡ s → IsEngine gs rows
-    → Answers rows.heap n gs hs quota size result → NothingNew rows.heap n gs hs result → engine_view hs (with_heap rows n rows.front) ≡ after_allocation s quota size result
-seen_after gs hs rows n s quota size (Ok o) is holds a same =
-    allocated_seen holds a ∙ ap (λ x. with_object x (new_object x quota size o.base)) is
-seen_after gs hs rows n s quota size (Err why) is holds a same = ap (λ x. engine_view hs (with_heap rows x rows.front)) same.0 ∙ ap (λ x. engine_view x rows) same.1 ∙ is
-
-pub answer_after : (gs hs : List Granule) (rows : Rows) (n : HeapRow) (s : EngineRow) (quota size : ℕ) (result : Result told.Object HeapRefusal) → engine_view gs rows ≡ s → Answers rows.heap n gs hs quota size result
-    → (i : Image) (m : State) → HasQuota i s quota → SharesObjects m s → allocation i m quota size ≡ allocation_told s quota size result
-answer_after gs hs rows n s quota size result is a i m = subst (λ x. HasQuota i x quota → SharesObjects m x → allocation i m quota size ≡ allocation_told x quota size result) is (told_so result a)
+-- the written allocation is made, with the rows that there were
+pub allocates_so : (gs hs : List Granule) (rows : Rows) (n : HeapRow) (s : EngineRow) (quota size : ℕ) (result : Result told.Object HeapRefusal) → engine_view gs rows ≡ s → IsEngine gs rows
+    → Answers rows.heap n gs hs quota size result → NothingNew rows.heap n gs hs result
+    → AllocatesAsWritten s (engine_view hs (with_heap rows n rows.front)) quota size s.state.tokens result
+allocates_so gs hs rows n s quota size result is holds a same =
+    subst (λ x. AllocatesAsWritten x (engine_view hs (with_heap rows n rows.front)) quota size x.state.tokens result) is (of result a same)
   where
-    told_so : (r : Result told.Object HeapRefusal) → Answers rows.heap n gs hs quota size r
-        → HasQuota i (engine_view gs rows) quota → SharesObjects m (engine_view gs rows) → allocation i m quota size ≡ allocation_told (engine_view gs rows) quota size r
-    told_so (Ok o) a has shares = answer_made gs rows quota size i m has shares hs n o.number o.base o.length o.live a
-    told_so (Err why) a has shares = answer_refused gs rows quota size i m has shares why a
-
--- ---- what is left of a quota
-
--- of a state that holds what is seen
-pub remains_shown : (i : Image) (m : State) (s : EngineRow) (quota : ℕ) → HasHeap i s → SharesObjects m s → (root i quota).limit - charges quota m.objects ≡ limit_at s quota - charges quota s.state.objects
-remains_shown i m s quota has shares = rw (has.limits quota, shares.objects) refl
+    of : (r : Result told.Object HeapRefusal) → Answers rows.heap n gs hs quota size r → NothingNew rows.heap n gs hs r
+        → AllocatesAsWritten (engine_view gs rows) (engine_view hs (with_heap rows n rows.front)) quota size rows.tokens.rows r
+    of (Ok o) a same = record {
+      is = allocated_seen holds a;
+      answer = λ i m has shares. answer_made gs rows quota size i m has shares hs n o.number o.base o.length o.live a;
+      told = record { number = a.number_is; base = refl; length = a.length_is; live = a.live_is };
+    }
+    of (Err why) a same = record {
+      is = ap (λ x. engine_view hs (with_heap rows x rows.front)) same.0 ∙ ap (λ x. engine_view x rows) same.1;
+      answer = λ i m has shares. answer_refused gs rows quota size i m has shares why a;
+      told = tt;
+    }

@@ -7,6 +7,7 @@ use Rattle.law_moves.proofs.Rows.{among_any, each_map, each_take}
 use Rattle.law_routines.proofs.Counting.{few}
 use Rattle.def_memory.specs.declared.Granule.{Granule}
 use Rattle.def_machine.specs.State.{Object, Token}
+use Rattle.def_machine.specs.Heap.{with_object}
 use Rattle.def_machine.specs.Objects.{Any, Each, placed_among}
 use Rattle.def_chunks.specs.Heaps.{objects_of, Distinct}
 use Rattle.law_chunks.proofs.Standing.{objects_few}
@@ -14,7 +15,6 @@ use Rattle.ct_token.specs.Table.{has_row, row_for}
 use Rattle.ct_engine.specs.declared.rows.Rows.{Rows}
 use Rattle.ct_engine.specs.Seen.{EngineRow, engine_view}
 use Rattle.ct_engine.specs.Kept.{IsEngine}
-use Rattle.ct_engine.specs.Grants.{with_object}
 
 -- objects that it was placed among have other numbers
 others : (r : Object) (m : ℕ) (os : List Object) → Distinct (placed_among r os) → Any (IsLiveOf m) os → m ≡ r.number → ⊥
@@ -37,7 +37,7 @@ no_row : (n : ℕ) (ks : List Token) → Each (IsApart n) ks → has_row n ks �
 no_row n [] apart = refl
 no_row n (k ∷ ks) apart = rw (ne_eqb k.number n apart.0) (no_row n ks apart.1)
 
-module _ {gs : List Granule} {rows : Rows} (s : EngineRow) (r : Object) (holds : IsEngine gs rows) (is : engine_view gs rows ≡ with_object s r)
+module _ {gs : List Granule} {rows : Rows} (s : EngineRow) (r : Object) (holds : IsEngine gs rows) (is : engine_view gs rows ≡ record s { state = with_object s.state r })
     (fit : RowsFit s.state.objects s.state.tokens) where
   objects : objects_of rows.heap gs ≡ placed_among r s.state.objects
   objects = ap (λ (x : EngineRow). x.state.objects) is

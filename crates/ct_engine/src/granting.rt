@@ -1,15 +1,11 @@
 //! Objects are allocated and freed.
 #![tactic(auto, using(crate::proofs::Whole::the_runner))]
 
-ghost use Rattle.std.specs.Prelude.{◌≡◌, ◌-◌, ◌≤◌, ◌<◌, Some, None, length, IfOk, MatchResult};
+ghost use Rattle.std.specs.Prelude.{◌≡◌, ◌-◌, ◌≤◌, ◌<◌, Some, None, length, MatchResult};
 ghost use Rattle.def_profile.specs.declared.limits.TheConstants.{MOST_STEPS};
 ghost use Rattle.def_machine.specs.Objects.{charges, has_quarantined};
 ghost use Rattle.ct_heap.specs.Lookups.{whole_of};
-ghost use Rattle.def_machine.specs.Image.{Image};
-ghost use Rattle.def_machine.specs.State.{State};
-ghost use Rattle.def_step.specs.Quotas.{allocation};
-ghost use Rattle.ct_engine.specs.Written.{HasQuota, SharesObjects};
-ghost use Rattle.ct_engine.specs.Grants.{new_object, after_allocation, allocation_told, IsTold, WasWhole, freed_by};
+ghost use Rattle.ct_engine.specs.Grants.{AllocatesAsWritten, WasWhole, freed_by};
 ghost use Rattle.ct_engine.specs.Seen.{limit_at};
 
 use crate::engine::Engine;
@@ -28,12 +24,7 @@ impl<M: Memory + Drop> Engine<M> {
     pub fn allocate(&mut self, quota: u32, size: u32) -> Result<Object, HeapRefusal>
         requires quota { quota < length self.old.limits }
         requires few { self.old.state.next ≤ MOST_STEPS }
-        ensures is { self.new ≡ after_allocation self.old quota size result }
-        ensures answer { (i : Image) (m : State)
-            → HasQuota i self.old quota → SharesObjects m self.old
-            → allocation i m quota size ≡ allocation_told self.old quota size result }
-        ensures told { IfOk result
-            (λ o. IsTold self.new o (new_object self.old quota size o.base)) }
+        ensures { AllocatesAsWritten self.old self.new quota size self.old.state.tokens result }
     {
         self.rows.heap.allocate(&mut self.mem, quota, size)
     }

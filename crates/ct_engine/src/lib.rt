@@ -28,4 +28,4 @@ pub use ct_switch::Called;
 pub use def_refusals::NoMemory;
 pub use engine::Engine;
 pub use rows::Region;
-pub use written::{calls_written, ends_written, grants_written, handlers_written, sweeps_written};
+pub use written::{calls_written, ends_written, handlers_written, sweeps_written};

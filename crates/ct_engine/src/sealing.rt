@@ -1,17 +1,14 @@
 //! Keys and tokens.
 #![tactic(auto, using(crate::proofs::Tables::tokens_seen))]
 
-ghost use Rattle.std.specs.Prelude.{◌≡◌, ◌≤◌, ◌<◌, ◌&&◌, length, IfOk};
+ghost use Rattle.std.specs.Prelude.{◌≡◌, ◌≤◌, ◌<◌, ◌&&◌, length};
 ghost use Rattle.std.specs.List.{list_any};
 ghost use Rattle.def_profile.specs.declared.limits.TheConstants.{MOST_STEPS};
 ghost use Rattle.def_machine.specs.Rows.{RowsFit};
-ghost use Rattle.def_step.specs.Tokens.{is_key_row, is_row_of};
+ghost use Rattle.def_step.specs.Tokens.{is_key_row, is_row_of, row_among};
 ghost use Rattle.ct_heap.specs.Lookups.{found_as, whole_at};
-ghost use Rattle.def_machine.specs.Image.{Image};
-ghost use Rattle.def_machine.specs.State.{State};
-ghost use Rattle.def_step.specs.Quotas.{allocation};
-ghost use Rattle.ct_engine.specs.Written.{HasQuota, SharesObjects};
-ghost use Rattle.ct_engine.specs.Grants.{new_object, after_sealing, allocation_told, IsTold};
+ghost use Rattle.ct_token.specs.Table.{row_for};
+ghost use Rattle.ct_engine.specs.Grants.{AllocatesAsWritten};
 
 use crate::engine::Engine;
 use ct_heap::{Found, HeapRefusal, Object};
@@ -56,12 +53,8 @@ impl<M: Memory + Drop> Engine<M> {
         requires quota { quota < length self.old.limits }
         requires few { self.old.state.next ≤ MOST_STEPS }
         requires rows { RowsFit self.old.state.objects self.old.state.tokens }
-        ensures is { self.new ≡ after_sealing self.old quota size key result }
-        ensures answer { (i : Image) (m : State)
-            → HasQuota i self.old quota → SharesObjects m self.old
-            → allocation i m quota size ≡ allocation_told self.old quota size result }
-        ensures told { IfOk result
-            (λ o. IsTold self.new o (new_object self.old quota size o.base)) }
+        ensures { AllocatesAsWritten self.old self.new quota size
+            (row_among (row_for self.old.state.next key) self.old.state.tokens) result }
     {
         let object = self.allocate(quota, size)?;
         self.rows.tokens.add(object.number, key);

@@ -1,26 +1,20 @@
-//! That calls, frames' ends, error handlers, allocations, frees and slices of the revoker over what is seen are the
-//! machine's written ones.
+//! That calls, frames' ends, error handlers and slices of the revoker over what is seen are the machine's written ones.
 
-ghost use Rattle.std.specs.Prelude.{ℕ, ◌≡◌, ◌-◌, List, [], ◌∷◌, Option, None, true, false};
+ghost use Rattle.std.specs.Prelude.{ℕ, ◌≡◌, List, [], ◌∷◌, None, true, false};
 ghost use Rattle.def_memory.specs.Granules.{plain};
 ghost use Rattle.def_words.specs.declared.Trap.{Trap};
-ghost use Rattle.def_machine.specs.Image.{Image, root, handler_entry, stack_base, frames_most};
-ghost use Rattle.def_machine.specs.State.{State, Frame, Object, Status, nobody, thread};
-ghost use Rattle.def_machine.specs.Objects.{charges};
-ghost use Rattle.def_machine.specs.Heap as machine;
-ghost use Rattle.def_step.specs.Quotas.{let_go};
-ghost use Rattle.def_step.specs.Tokens as tokens;
+ghost use Rattle.def_machine.specs.Image.{Image, handler_entry, stack_base, frames_most};
+ghost use Rattle.def_machine.specs.State.{State, Frame, Status, nobody, thread};
 ghost use Rattle.def_machine.specs.Heap.{swept};
 ghost use Rattle.def_machine.specs.Frames.{answer, left_by};
 ghost use Rattle.def_step.specs.Switch.{Enters, switch_of, frame_top};
 ghost use Rattle.def_step.specs.Handlers.{is_handled};
 ghost use Rattle.ct_switch.specs.Exports.{callee_of};
-ghost use Rattle.ct_engine.specs.Seen.{EngineRow, limit_at};
+ghost use Rattle.ct_engine.specs.Seen.{EngineRow};
 ghost use Rattle.ct_engine.specs.Calls.{HeadStands, switch_at, after_call, returned, ended_with};
 ghost use Rattle.ct_engine.specs.Handling.{is_handled_at, after_trap};
-ghost use Rattle.ct_engine.specs.Grants.{with_object, with_row, freed};
 ghost use Rattle.ct_engine.specs.Sweeps.{swept_by};
-ghost use Rattle.ct_engine.specs.Written.{Shows, written, callee_thread, handler_seen, HasAreas, HasHeap, SharesObjects, state_with};
+ghost use Rattle.ct_engine.specs.Written.{Shows, written, callee_thread, handler_seen, HasAreas, state_with};
 
 /// Where a state of the machine holds what is seen, a call comes to what the written switch comes to. Where it enters
 /// an export, the head of whose table is as boot made it, it leaves what the written one leaves.
@@ -77,25 +71,6 @@ pub fn handlers_written()
         → Shows i m s t → (thread m t).frames ≡ f ∷ fs
         → is_handled i (stack_base i t) (thread m t) f ≡ false
         → after_trap s i.entries t (handler_entry i f.actor) why ≡ s }
-{}
-
-/// Of a state of the machine that holds what is seen, whatever the statuses of its threads, the written changes of an
-/// allocation, of a row that comes with it and of a free leave what `allocate`, `allocate_sealed` and `free` leave of
-/// that; and a quota may still take what `remaining` says.
-pub fn grants_written()
-    ensures allocates { (m : State) (s : EngineRow) (statuses : List Status) (r : Object)
-        → machine.with_object (state_with m s statuses) r
-        ≡ state_with m (with_object s r) statuses }
-    ensures seals { (m : State) (s : EngineRow) (statuses : List Status) (r : Object)
-        (key : Option ℕ)
-        → tokens.with_row (state_with m s statuses) r key
-        ≡ state_with m (with_row s r.number key) statuses }
-    ensures frees { (i : Image) (m : State) (s : EngineRow) (statuses : List Status) (t : ℕ)
-        (r : Object) → s.region.ram ≡ i.ram
-        → let_go i (state_with m s statuses) t r ≡ state_with m (freed s t r) statuses }
-    ensures remains { (i : Image) (m : State) (s : EngineRow) (quota : ℕ) → HasHeap i s
-        → SharesObjects m s → (root i quota).limit - charges quota m.objects
-        ≡ limit_at s quota - charges quota s.state.objects }
 {}
 
 /// A Sweep event leaves of a state of the machine that holds what is seen, whatever the statuses of its threads, what

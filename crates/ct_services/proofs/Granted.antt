@@ -1,5 +1,5 @@
 -- Objects that are made and freed, in each state of the machine that holds what is seen.
-use Rattle.std.proofs.Common.{ℕ, ◌+◌, ◌-◌, ◌≡◌, ◌∙◌, true, List, Some, refl, sym, ap, arith}
+use Rattle.std.proofs.Common.{ℕ, ◌+◌, ◌-◌, ◌≡◌, ◌∙◌, true, List, Some, Result, Ok, Err, refl, sym, ap, arith}
 use Rattle.std.specs.Prelude.{find}
 use Rattle.std.proofs.lemmas.List.{length-set}
 use Rattle.law_granules.proofs.Lists.{zeroed_length, marked_length}
@@ -15,16 +15,15 @@ use Rattle.def_sched.specs.declared.Status.{Status}
 use Rattle.def_machine.specs.Image.{Image}
 use Rattle.def_machine.specs.State.{State, Object, Token}
 use Rattle.def_machine.specs.Objects.{charges, has_quarantined}
-use Rattle.def_machine.specs.Heap.{length_for}
+use Rattle.def_machine.specs.Heap.{length_for, new_object}
 use Rattle.def_step.specs.Routines.{Ran, Leaves, answers, tells, code}
 use Rattle.def_step.specs.Quotas.{Allocation, Refused, Made, allocation, hands_out, freed_as}
 use Rattle.ct_heap.specs.declared.rows.Object as heap
 use Rattle.ct_heap.specs.declared.rows.HeapRefusal.{HeapRefusal}
 use Rattle.ct_heap.specs.Lookups.{spans_of, whole_of}
 use Rattle.ct_engine.specs.Seen.{EngineRow}
-use Rattle.ct_engine.specs.Grants.{IsTold, new_object, with_object, refusal_code}
-use Rattle.ct_engine.specs.Grants.{WasWhole, freed, freed_by}
-use Rattle.ct_engine.specs.Written.{HasQuota, HasLayout, SharesObjects, state_with}
+use Rattle.ct_engine.specs.Grants.{AllocatesAsWritten, allocation_told, refusal_code, WasWhole, freed, freed_by}
+use Rattle.ct_engine.specs.Written.{HasLayout, state_with}
 use Rattle.ct_engine.proofs.Freeing.{whole_says, freed_shown}
 use Rattle.ct_execute.specs.declared.ran.Ran as engine
 use Rattle.ct_execute.specs.declared.ran.Ran.TheVariants.{Went}
@@ -35,54 +34,47 @@ use Rattle.ct_services.proofs.Serving.{Becomes, serves_answer, serves_as}
 
 -- ---- an allocation
 
--- what comes of an allocation, as of a token
-module _ (s u new : EngineRow) (t quota size : ℕ) (comes : State → Allocation → Ran) where
-  -- where the written one comes to this
-  abbrev CameTo : Allocation → Type 0
-  CameTo a = (i : Image) (m : State) → HasQuota i s quota → SharesObjects m s → allocation i m quota size ≡ a
+-- the capability of a quota's object, sealed as a type where that isn't 0
+abbrev cap_at : ℕ → ℕ → ℕ → ℕ → ℕ → Cap
+cap_at quota kind number base long =
+    derive memory_root base long HEAP_RIGHTS base kind (record { root = quota; source = number })
 
-  by_allocation : (a : Allocation) (i : Image) (m : State) (ss : List Status) → CameTo a → HasLayout i s ss
-      → comes (state_with m s ss) (allocation i (state_with m s ss) quota size) ≡ comes (state_with m s ss) a
-  by_allocation a i m ss is h =
+-- what comes of an allocation, as of a token
+module _ {s u : EngineRow} {quota size : ℕ} {rows : List Token} (t : ℕ) (comes : State → Allocation → Ran) where
+  comes_so : (r : Result heap.Object HeapRefusal) (i : Image) (m : State) (ss : List Status)
+      → AllocatesAsWritten s u quota size rows r → HasLayout i s ss
+      → comes (state_with m s ss) (allocation i (state_with m s ss) quota size)
+      ≡ comes (state_with m s ss) (allocation_told s.state quota size r)
+  comes_so r i m ss w h =
       ap (comes (state_with m s ss))
-      (is i (state_with m s ss) (record { base = h.heap.base; end = h.heap.end; limit = h.heap.limits quota })
+      (w.answer i (state_with m s ss) (record { base = h.heap.base; end = h.heap.end; limit = h.heap.limits quota })
       (record { objects = refl; next = refl }))
 
-  pub serves_refused : (ran : engine.Ran) (why : HeapRefusal) → CameTo (Refused (refusal_code why (has_quarantined s.state.objects))) → u ≡ s
+  pub serves_refused : {new : EngineRow} {ran : engine.Ran} {why : HeapRefusal} → AllocatesAsWritten s u quota size rows (Err why)
       → ((m : State) (n : ℕ) → comes m (Refused n) ≡ tells m t (code n))
       → ServesAlone u new ran (λ i m. tells m t (code (refusal_code why (has_quarantined m.objects))))
       → ServesAlone s new ran (λ i m. comes m (allocation i m quota size))
-  serves_refused ran why is same refuses serves =
-      serves_as (rw same at serves)
+  serves_refused {why = why} w refuses serves =
+      serves_as (rw w.is at serves)
       (λ i m ss h.
-      by_allocation (Refused (refusal_code why (has_quarantined s.state.objects))) i m ss is h
-      ∙ refuses (state_with m s ss) (refusal_code why (has_quarantined s.state.objects)))
+      comes_so (Err why) i m ss w h ∙ refuses (state_with m s ss) (refusal_code why (has_quarantined s.state.objects)))
 
-  abbrev made_at : ℕ → Object
-  made_at base = new_object s quota size base
-
-  -- the capability of an object, sealed as a type where that isn't 0
-  abbrev cap_at : ℕ → ℕ → ℕ → ℕ → Cap
-  cap_at kind number base long =
-      derive memory_root base long HEAP_RIGHTS base kind (record { root = quota; source = number })
-
-  -- an object is handed out, with these rows of tokens
-  pub serves_made : (o : heap.Object) (ran : engine.Ran) (v : Cap) (kind : ℕ) (rows : List Token)
-      → u ≡ with_object (record s { state = record s.state { tokens = rows } }) (made_at o.base)
-      → CameTo (Made (made_at o.base)) → IsTold u o (made_at o.base) → v ≡ cap_at kind o.number o.base o.length → new ≡ answered_in u t v
+  -- an object is handed out
+  pub serves_made : {new : EngineRow} {o : heap.Object} {ran : engine.Ran} {v : Cap} (kind : ℕ) → AllocatesAsWritten s u quota size rows (Ok o)
+      → v ≡ cap_at quota kind o.number o.base o.length → new ≡ answered_in u t v
       → ran ≡ Went (Some (act_by quota (Allocate o.number o.base o.length o.live)))
-      → ((m : State) (ss : List Status) → comes (state_with m s ss) (Made (made_at o.base))
-      ≡ hands_out (record (state_with m s ss) { tokens = rows }) t (made_at o.base)
-      (cap_at kind s.state.next o.base (length_for size)))
+      → ((m : State) (ss : List Status) → comes (state_with m s ss) (Made (new_object s.state quota size o.base))
+      ≡ hands_out (record (state_with m s ss) { tokens = rows }) t (new_object s.state quota size o.base)
+      (cap_at quota kind s.state.next o.base (length_for size)))
       → ServesAlone s new ran (λ i m. comes m (allocation i m quota size))
-  serves_made o ran v kind rows left is told value now ran_is made =
+  serves_made {o = o} {v = v} kind w value now ran_is made =
       rw (now, ran_is)
       (serves_answer s u t v (Some (act_by quota (Allocate o.number o.base o.length o.live)))
       (λ i m. comes m (allocation i m quota size))
-      (rw left (record { size = refl; threads = refl; made = omega arith; same = refl }))
+      (rw w.is (record { size = refl; threads = refl; made = omega arith; same = refl }))
       (λ i m ss h.
-      by_allocation (Made (made_at o.base)) i m ss is h ∙ made m ss
-      ∙ rw (value, told.number, told.length, told.live, left) refl))
+      comes_so (Ok o) i m ss w h ∙ made m ss
+      ∙ rw (value, w.told.number, w.told.length, w.told.live, w.is) refl))
 
 -- ---- a free
 

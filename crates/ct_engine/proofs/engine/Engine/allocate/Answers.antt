@@ -1,5 +1,5 @@
 use Rattle.ct_engine.proofs.HeapTurns.{quota_there}
-use Rattle.ct_engine.proofs.Granted.{holds_after, seen_after, answer_after}
+use Rattle.ct_engine.proofs.Granted.{holds_after, allocates_so}
 use Rattle.ct_engine.proofs.engine.Engine.allocate.Goals as goal
 
 pub allocate-requires-clause-quota : goal.allocate-requires-clause-quota
@@ -9,10 +9,6 @@ pub invariant_of-self : goal.invariant_of-self
 invariant_of-self g c = holds_after (g.M.Memory.granules c.self.inside.mem) (g.M.Memory.granules c.allocate.new.mem) c.self.inside.rows c.allocate.new.self c.args.quota c.args.size c.allocate.result
     c.self.invariant c.allocate.ensures.laid c.allocate.ensures.answer c.allocate.ensures.refused
 
-pub returns-clause-is : goal.returns-clause-is
-returns-clause-is g c = seen_after (g.M.Memory.granules c.self.inside.mem) (g.M.Memory.granules c.allocate.new.mem) c.self.inside.rows c.allocate.new.self c.args.self.now c.args.quota c.args.size c.allocate.result
+pub returns : goal.returns
+returns g c = allocates_so (g.M.Memory.granules c.self.inside.mem) (g.M.Memory.granules c.allocate.new.mem) c.self.inside.rows c.allocate.new.self c.args.self.now c.args.quota c.args.size c.allocate.result
     c.self.view_is c.self.invariant c.allocate.ensures.answer c.allocate.ensures.refused
-
-pub returns-clause-answer : goal.returns-clause-answer
-returns-clause-answer g c = answer_after (g.M.Memory.granules c.self.inside.mem) (g.M.Memory.granules c.allocate.new.mem) c.self.inside.rows c.allocate.new.self c.args.self.now c.args.quota c.args.size c.allocate.result
-    c.self.view_is c.allocate.ensures.answer
