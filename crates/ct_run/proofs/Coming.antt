@@ -3,13 +3,13 @@ use Rattle.std.proofs.Common.{◌≡◌, ℕ, suc, ◌+◌, ◌<◌, ◌≤◌, 
 use Rattle.std.specs.List.{All, flat_map}
 use Rattle.std.proofs.Math.Seq.{drop-cons}
 use Rattle.std.proofs.lemmas.Bool.{lt-ltb, and_from}
-use Rattle.std.proofs.lemmas.List.{append_assoc, append-nil, drop_all}
+use Rattle.std.proofs.lemmas.List.{append-nil, drop_all}
 use Rattle.std.proofs.lemmas.Grind.{flat_map-append}
 use Rattle.std.proofs.lemmas.Result.{MatchResult-weaker}
 use Rattle.ct_entry.specs.declared.acts.Happened.{Happened}
 use Rattle.def_profile.specs.declared.limits.TheConstants.{MOST_STEPS}
 use Rattle.def_port.specs.Bytes.{SinkView}
-use Rattle.def_port.specs.Writes.{Writes, WriteFails}
+use Rattle.def_port.specs.Writes.{WriteAnswers, WriteFails}
 use Rattle.def_machine.specs.State.{State}
 use Rattle.def_machine.specs.Platform.{Platform, MachineRow}
 use Rattle.def_step.specs.declared.Event.{Event}
@@ -20,68 +20,49 @@ use Rattle.law_routines.proofs.Appended.{run_append, told_append}
 use Rattle.law_routines.proofs.Counted.{event_kinds}
 use Rattle.law_routines.proofs.Devices.{event_keeps}
 use Rattle.def_program.specs.Runs.{input_of}
+use Rattle.ct_port.proofs.Pieces.{nothing}
 use Rattle.ct_run.specs.Rounds.{after, before_of, line_if, lines_of, ticks_if, Came, Comes}
-use Rattle.ct_run.proofs.Pieces as pieces
-use Rattle.ct_run.proofs.Pieces.{Toward}
+use Rattle.ct_run.proofs.Pieces.{after_piece, piece_fails, Remainder}
 
 -- ---- one event
 
-pub one_line : (with_lines : Bool) (m : MachineRow) (k : ℕ) (e : Event) → lines_of with_lines m k (e ∷ []) ≡ line_if with_lines k (happens m.board m.state e).1
-unfolding happenings_of
-one_line with_lines m k e = append-nil (line_if with_lines k (happens m.board m.state e).1)
-
-pub one_came : (with_lines : Bool) (m n : MachineRow) (k : ℕ) (e : Event) (h : Happened) {before now : SinkView} → n.state ≡ (happens m.board m.state e).0 → h ≡ (happens m.board m.state e).1 → n.board ≡ m.board
-    → Writes before now (line_if with_lines k h) → Came with_lines m n k (e ∷ []) before now
-unfolding run
-one_came with_lines m n k e h {before} {now} state happened board w = record {
-  left = rw (board, state) refl;
-  written = subst (λ t. Writes before now t) (ap (line_if with_lines k) happened ∙ sym (one_line with_lines m k e)) w;
-}
-
-pub one_fails : (with_lines : Bool) (m : MachineRow) (k : ℕ) (e : Event) (h : Happened) {before now : SinkView} → h ≡ (happens m.board m.state e).1
-    → WriteFails before now (line_if with_lines k h) → WriteFails before now (lines_of with_lines m k (e ∷ []))
-one_fails with_lines m k e h {before} {now} happened w = subst (λ t. WriteFails before now t) (ap (line_if with_lines k) happened ∙ sym (one_line with_lines m k e)) w
+pub one_comes : {A B : Type 0} (with_lines : Bool) (m n : MachineRow) (k : ℕ) (e : Event) (h : Happened) (before now : SinkView) (result : Result A B) → n.state ≡ (happens m.board m.state e).0 → h ≡ (happens m.board m.state e).1 → n.board ≡ m.board
+    → WriteAnswers before now (line_if with_lines k h) result → Comes with_lines m n k (e ∷ []) before now result
+unfolding run happenings_of
+one_comes with_lines m n k e h before now result state happened board answers =
+    MatchResult-weaker result (subst (λ t. WriteAnswers before now t result) (ap (line_if with_lines k) happened ∙ sym (append-nil (line_if with_lines k (happens m.board m.state e).1))) answers)
+    (λ _ w. record { left = rw (board, state) refl; written = w })
+    (λ _ w. w)
 
 -- ---- some events of several
 
-lines_append : (with_lines : Bool) (m : MachineRow) (k : ℕ) (es fs : List Event) → lines_of with_lines m k (es ++ fs) ≡ lines_of with_lines m k es ++ lines_of with_lines (after m es) k fs
-lines_append with_lines m k es fs =
-    ap (flat_map (line_if with_lines k)) (told_append m.board m.state es fs)
-    ∙ flat_map-append (line_if with_lines k) (happenings_of m.board m.state es) (happenings_of m.board (run m.board m.state es) fs)
+module _ (with_lines : Bool) (m : MachineRow) (k : ℕ) (es fs : List Event) (End : MachineRow → SinkView → Type 0) {Part : SinkView → Type 0} {mid : SinkView} (left : Remainder (lines_of with_lines m k (es ++ fs)) mid (End (after m (es ++ fs))) Part) where
+  in_parts : Remainder (lines_of with_lines m k es ++ lines_of with_lines (after m es) k fs) mid (End (after (after m es) fs)) Part
+  in_parts =
+      subst (λ s. Remainder (lines_of with_lines m k es ++ lines_of with_lines (after m es) k fs) mid (End (record { board = m.board; state = s })) Part) (run_append m.board m.state es fs)
+      (subst (λ t. Remainder t mid (End (after m (es ++ fs))) Part)
+      (ap (flat_map (line_if with_lines k)) (told_append m.board m.state es fs)
+      ∙ flat_map-append (line_if with_lines k) (happenings_of m.board m.state es) (happenings_of m.board (run m.board m.state es) fs))
+      left)
 
--- these are left of the events of a round: they leave this machine, and their lines and this rest are left of the text
-pub record Pending (with_lines : Bool) (m : MachineRow) (k : ℕ) (es : List Event) (end : MachineRow) (rest text : List ℕ) (before now : SinkView) : Type 0 where
-  pub leads : after m es ≡ end
-  pub toward : Toward before now (lines_of with_lines m k es ++ rest) text
+  pub some_come : {now : SinkView} (n : MachineRow) → Came with_lines m n k es mid now → Remainder (lines_of with_lines n k fs) now (End (after n fs)) Part
+  some_come {now} n c = subst (λ z. Remainder (lines_of with_lines z k fs) now (End (after z fs)) Part) (sym c.left) (after_piece _ _ in_parts c.written)
 
-module _ (with_lines : Bool) (m : MachineRow) (k : ℕ) (es fs : List Event) {end : MachineRow} {rest text : List ℕ} {before mid : SinkView} where
-  next_lines : Pending with_lines m k (es ++ fs) end rest text before mid → Toward before mid (lines_of with_lines m k es ++ (lines_of with_lines (after m es) k fs ++ rest)) text
-  next_lines p =
-      subst (λ t. Toward before mid t text)
-      (ap (λ t. t ++ rest) (lines_append with_lines m k es fs) ∙ append_assoc (lines_of with_lines m k es) (lines_of with_lines (after m es) k fs) rest) p.toward
-
-  pub goes_on : {now : SinkView} (n : MachineRow) → Pending with_lines m k (es ++ fs) end rest text before mid → Came with_lines m n k es mid now → Pending with_lines n k fs end rest text before now
-  goes_on {now} n p c =
-      subst (λ z. Pending with_lines z k fs end rest text before now) (sym c.left) (record {
-        leads = ap (λ s. record { board = m.board; state = s }) (sym (run_append m.board m.state es fs)) ∙ p.leads;
-        toward = pieces.goes_on (next_lines p) c.written;
-      })
-
-  pub breaks : {now : SinkView} → Pending with_lines m k (es ++ fs) end rest text before mid → WriteFails mid now (lines_of with_lines m k es) → WriteFails before now text
-  breaks p w = pieces.fails (lines_of with_lines (after m es) k fs ++ rest) (next_lines p) w
+  pub some_fail : {now : SinkView} → WriteFails mid now (lines_of with_lines m k es) → Part now
+  some_fail w = piece_fails _ _ in_parts w
 
 -- ---- what comes before a step
 
 -- these are left of it, and may come
 pub record Coming (with_lines : Bool) (first m : MachineRow) (k : ℕ) (all left : List Event) (before now : SinkView) : Type 0 where
   pub lawful : AreLawful m.board m.state left
-  pub pending : Pending with_lines m k left (after first all) [] (lines_of with_lines first k all) before now
+  pub lines : Remainder (lines_of with_lines m k left) now (Came with_lines first (after m left) k all before) (λ new. WriteFails before new (lines_of with_lines first k all))
 
 module _ (with_lines : Bool) (first : MachineRow) (k : ℕ) (all : List Event) where
   pub starts : (before : SinkView) → AreLawful first.board first.state all → Coming with_lines first first k all all before before
   starts before lawful = record {
     lawful = lawful;
-    pending = record { leads = refl; toward = subst (λ t. Toward before before t (lines_of with_lines first k all)) (sym (append-nil (lines_of with_lines first k all))) (pieces.starts before (lines_of with_lines first k all)) };
+    lines = record { whole = λ new w. record { left = refl; written = w }; part = λ new w. w };
   }
 
   pub may_come : (m : MachineRow) (e : Event) (es : List Event) {before now : SinkView} → Coming with_lines first m k all (e ∷ es) before now → is_lawful m.state e ≡ true
@@ -90,17 +71,17 @@ module _ (with_lines : Bool) (first : MachineRow) (k : ℕ) (all : List Event) w
 
   pub comes : (m n : MachineRow) (e : Event) (es : List Event) {before mid now : SinkView} → Coming with_lines first m k all (e ∷ es) before mid → Came with_lines m n k (e ∷ []) mid now → Coming with_lines first n k all es before now
   unfolding AreLawful run
-  comes m n e es c came = record {
+  comes m n e es {before} c came = record {
     lawful = subst (λ (z : MachineRow). AreLawful z.board z.state es) (sym came.left) c.lawful.1;
-    pending = goes_on with_lines m k (e ∷ []) es n c.pending came;
+    lines = some_come with_lines m k (e ∷ []) es (λ z. Came with_lines first z k all before) c.lines n came;
   }
 
   pub fails : (m : MachineRow) (e : Event) (es : List Event) {before mid now : SinkView} → Coming with_lines first m k all (e ∷ es) before mid → WriteFails mid now (lines_of with_lines m k (e ∷ [])) → WriteFails before now (lines_of with_lines first k all)
-  fails m e es c w = breaks with_lines m k (e ∷ []) es c.pending w
+  fails m e es {before} c w = some_fail with_lines m k (e ∷ []) es (λ z. Came with_lines first z k all before) c.lines w
 
   pub all_came : (m : MachineRow) {before now : SinkView} → Coming with_lines first m k all [] before now → Came with_lines first m k all before now
   unfolding run happenings_of
-  all_came m c = record { left = c.pending.leads; written = pieces.whole c.pending.toward }
+  all_came m {before} {now} c = c.lines.whole now (nothing now)
 
   -- the last of them
   pub last_comes : {A B : Type 0} (m n : MachineRow) (e : Event) {before mid : SinkView} (now : SinkView) (result : Result A B) → Coming with_lines first m k all (e ∷ []) before mid → Comes with_lines m n k (e ∷ []) mid now result → Comes with_lines first n k all before now result
