@@ -96,17 +96,16 @@ pub record Picked (m n : MachineRow) : Type 0 where
   pub board : n.board ≡ m.board
   pub state : n.state ≡ scheduled m.board (preempted (one_more_step (one_more_sweep m.state)))
 
-pub picked_so : {m mid counted n : MachineRow} → Guarded m → has_sweep m.state ≡ false → m.state.running ≡ None → mid.state ≡ one_more_sweep m.state → mid.board ≡ m.board
-    → counted.state ≡ one_more_step mid.state → counted.board ≡ mid.board → n.state ≡ scheduled counted.board counted.state → n.board ≡ counted.board → Picked m n
-picked_so {m} {mid} {counted} {n} g idle rests one_slice slice_board one_step step_board turn board =
+pub picked_so : {m counted n : MachineRow} → Guarded m → has_sweep m.state ≡ false → m.state.running ≡ None → counted.state ≡ with_rounds m.state 1 → counted.board ≡ m.board
+    → n.state ≡ scheduled counted.board counted.state → n.board ≡ counted.board → Picked m n
+picked_so {m} {counted} {n} g idle rests state same turn board =
     let told = idle_told m (slice_counted m) g idle refl in
     record {
       swept = told;
       guarded = told_guarded {n = slice_counted m} Sweep g told refl;
       rests = rests;
-      board = board ∙ step_board ∙ slice_board;
-      state = turn ∙ ap (λ (b : Platform). scheduled b counted.state) (step_board ∙ slice_board)
-          ∙ ap (scheduled m.board) (one_step ∙ ap one_more_step one_slice ∙ sym (none_preempted (one_more_step (one_more_sweep m.state)) rests));
+      board = board ∙ same;
+      state = turn ∙ ap (λ (b : Platform). scheduled b counted.state) same ∙ ap (scheduled m.board) (state ∙ sym (none_preempted (one_more_step (one_more_sweep m.state)) rests));
     }
 
 rounds_join : (m mid n : MachineRow) (made : ℕ) → RanOn m mid 1 silence → end_of mid.state ≡ None → WentRounds mid n (made - 1) → 1 ≤ made → RanOn m n made silence

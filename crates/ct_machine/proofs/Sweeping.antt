@@ -10,16 +10,14 @@ use Rattle.def_confined.specs.Keeps.{Keeps}
 use Rattle.def_confined.specs.Partitioned.{Partitioned}
 use Rattle.def_confined.specs.Facts.{RootsAway}
 use Rattle.def_machine.specs.Image.{Image}
-use Rattle.def_machine.specs.State.{State, Thread, Frame, thread}
+use Rattle.def_machine.specs.State.{State, Thread, Frame, Counts, thread}
 use Rattle.def_machine.specs.Objects.{Each, has_quarantined, painted}
 use Rattle.def_machine.specs.Heap as heap
 use Rattle.def_machine.specs.Slices.{is_number, kept_threads}
-use Rattle.def_machine.specs.Threads.{Clockwork, with_status}
+use Rattle.def_machine.specs.Threads.{with_status}
 use Rattle.def_machine.specs.Platform.{MachineRow}
 use Rattle.def_step.specs.Events.{happens, begun, swept_on}
 use Rattle.def_step.specs.declared.Event.TheVariants.{Sweep}
-use Rattle.law_moves.proofs.TurnsMoves.{clock_confined}
-use Rattle.law_moves.proofs.SweepsMoves.{clock_beside}
 use Rattle.def_confined.specs.Stale.{SavedClean, StoppedClean, IsClean}
 use Rattle.law_moves.proofs.Ending.{ends_clean}
 use Rattle.law_moves.proofs.Slices.{is_itself, slice_length, thread_sliced}
@@ -36,12 +34,11 @@ use Rattle.ct_engine.proofs.Shown.{began_shown, began_areas, swept_shown}
 use Rattle.ct_engine.proofs.Sliced.{slice_written}
 use Rattle.ct_machine.specs.declared.parts.Parts.TheInside.{Inside}
 use Rattle.ct_machine.specs.Parts.{IsCounted, IsKept}
-use Rattle.ct_machine.specs.Going.{MaySweep, one_more_sweep, silence}
+use Rattle.ct_machine.specs.Going.{one_more_sweep, silence}
 use Rattle.ct_execute.proofs.Statuses.{like_with}
-use Rattle.ct_machine.proofs.Taking.{ram_is, frames_with, state_in, state_with_row}
+use Rattle.ct_machine.proofs.Taking.{ram_is, frames_with, machine_in, state_in, state_with_row}
 use Rattle.ct_machine.proofs.Keeping.{StaysElse, same_kept, still_ready}
 use Rattle.ct_machine.proofs.Appending.{with_silence}
-use Rattle.ct_machine.proofs.Guards.{same_machine}
 use Rattle.law_moves.proofs.Ends.{unmarked_length}
 
 -- ---- what a slice leaves of a state
@@ -148,19 +145,8 @@ module _ {M : Type 0} (p : Inside M) (kept : IsKept p.plan p.engine p.sched) whe
         subst (IsCounted p.counts p.time) (sym (ap (λ (s : State). s.next) whole ∙ left.next)) counted,
       )
 
--- ---- the event
+-- ---- the event, which tells nothing
 
-pub may_sweep : (m n : MachineRow) → Guarded m → n.board ≡ m.board → n.state ≡ one_more_sweep m.state → MaySweep n
-may_sweep m n g board state =
-    let s : State = m.state in
-    let w : Clockwork = record { pending = s.pending; devices = s.devices; time = s.time; picks = s.picks; counts = (one_more_sweep s).counts } in
-    subst MaySweep (sym (same_machine n (record { board = m.board; state = one_more_sweep s }) board state)) (record {
-      parts = g.partitioned;
-      away = g.facts.away;
-      keeps = record { confined = clock_confined m.board.image s w g.keeps.confined; beside = clock_beside m.board.image s w g.keeps.beside };
-    })
-
--- which tells nothing
 pub sweep_told : (m : MachineRow) (new : State) → Guarded m → new ≡ swept_on m.board m.state → (new, silence) ≡ happens m.board m.state Sweep
 sweep_told m new g is = ap with_silence is ∙ ap (λ (o : Option Owned). with_off o) (sym (none_but (begun m.state after) (λ o some. calm_begins_none m.state after o (sweep_calm m.board m.state g.keeps) some)))
   where
@@ -173,3 +159,11 @@ sweep_told m new g is = ap with_silence is ∙ ap (λ (o : Option Owned). with_o
     none_but : (x : Option Owned) → ((o : Owned) → x ≡ Some o → ⊥) → x ≡ None
     none_but None not_ = refl
     none_but (Some o) not_ = absurd (not_ o refl)
+
+pub sweep_happens : {M : Type 0} (p : Inside M) {now : MachineRow} (new : EngineRow) (counted : Counts) (rate : ℕ) → IsKept p.plan p.engine p.sched → machine_in p ≡ now → Guarded now → rate ≡ p.plan.sweep
+    → new ≡ swept_by p.engine rate → counted ≡ record p.counts { sweeps = p.counts.sweeps + 1 } → (state_with_row (record p { counts = counted }) new p.sched, silence) ≡ happens now.board now.state Sweep
+sweep_happens p {now} new counted rate kept seen g same is count =
+    sweep_told now _ g
+    (swept_is (record p { counts = counted }) kept new rate same is
+    ∙ ap (λ (k : Counts). heap.swept p.plan (state_in (record p { counts = k }))) count
+    ∙ ap (λ (m : MachineRow). swept_on m.board m.state) seen)

@@ -8,8 +8,7 @@ use Rattle.ct_entry.specs.declared.acts.Happened.{Happened}
 use Rattle.def_words.specs.declared.Trap as words
 use Rattle.def_machine.specs.Rows.{RowsFit}
 use Rattle.def_confined.specs.Keeps.{Keeps}
-use Rattle.def_confined.specs.Partitioned.{Partitioned}
-use Rattle.def_confined.specs.Facts.{Facts, RootsAway}
+use Rattle.def_confined.specs.Facts.{Facts}
 use Rattle.def_hidden.specs.Hidden.{Shut}
 use Rattle.def_machine.specs.State as state
 use Rattle.def_machine.specs.State.{State}
@@ -44,13 +43,6 @@ pub record MayEnd (m : MachineRow) (t actor : ℕ) : Type 0 where
   pub may : MayGoOn m
   pub runs : Runs m t
   pub acts : actor ≡ actor_of (state.thread m.state t).frames
-
--- What a slice of a sweep asks, so that the sweep may end: no range of an entry meets the heap, and the state is
--- confined, with what stands beside.
-pub record MaySweep (m : MachineRow) : Type 0 where
-  pub parts : Partitioned m.board.image
-  pub away : RootsAway m.board.image
-  pub keeps : Keeps m.board.image m.state
 
 -- ---- a tick before it interrupts
 

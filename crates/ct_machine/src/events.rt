@@ -3,10 +3,9 @@
 ghost use Rattle.std.specs.Prelude.{◌≡◌, ◌≤◌, ◌<◌, IsTrue};
 ghost use Rattle.def_profile.specs.declared.limits.TheConstants.{MOST_STEPS};
 ghost use Rattle.def_events.specs.Guarded.{Guarded};
-ghost use Rattle.def_machine.specs.Heap.{swept};
 ghost use Rattle.def_step.specs.Events.{happens, is_lawful, one_more_step};
 ghost use Rattle.def_step.specs.declared.Event.TheVariants as event;
-ghost use Rattle.ct_machine.specs.Going.{MaySweep, clock_on, sleepers_on, one_more_sweep, silence};
+ghost use Rattle.ct_machine.specs.Going.{clock_on, sleepers_on, silence};
 ghost use Rattle.ct_machine.specs.Parts.{deeds_of};
 
 use crate::parts::Parts;
@@ -76,35 +75,17 @@ impl<M: Memory + Drop> Parts<M> {
         Happened { deed: None, off }
     }
 
-    /// A sweep counts.
-    pub(crate) fn count_sweep(&mut self)
-        requires { self.old.state.counts.sweeps < MOST_STEPS }
-        ensures state { self.new.state ≡ one_more_sweep self.old.state }
-        ensures board { self.new.board ≡ self.old.board }
-    {
-        self.counts.sweeps += 1;
-    }
-
-    /// One slice of the revoker over memory, threads and objects.
-    fn slice(&mut self)
-        requires { MaySweep self.old }
-        ensures state { self.new.state ≡ swept self.old.board.image self.old.state }
-        ensures board { self.new.board ≡ self.old.board }
-    {
-        self.engine.sweep(self.plan.sweep());
-    }
-
-    /// One slice of the revoker, as an event, which tells nothing.
+    /// One slice of the revoker over memory, threads and objects, as an event, which tells nothing.
     pub(crate) fn sweep(&mut self)
         requires guarded { Guarded self.old }
-        requires lawful { IsTrue (is_lawful self.old.state event.Sweep) }
+        requires sweeps { self.old.state.counts.sweeps < MOST_STEPS }
         ensures is { (self.new.state, silence)
             ≡ happens self.old.board self.old.state event.Sweep }
         ensures board { self.new.board ≡ self.old.board }
         ensures guarded { Guarded self.new }
     {
-        self.count_sweep();
-        self.slice();
+        self.counts.count_sweep();
+        self.engine.sweep(self.plan.sweep());
     }
 
     /// One byte comes at a device.

@@ -6,6 +6,7 @@ ghost use Rattle.def_events.specs.Guarded.{Guarded};
 ghost use Rattle.def_machine.specs.State.{Counts};
 ghost use Rattle.def_step.specs.Events.{end_of, run_on};
 ghost use Rattle.ct_machine.specs.Going.{MayGoOn};
+ghost use Rattle.ct_machine.specs.Parts.{deeds_of};
 ghost use Rattle.ct_machine.specs.Quiet.{has_sweep, is_dormant, none_is_ready, undisturbed, with_counts, with_rounds, CarriedOn, GuardsNext, IsThreadWindow, StaysAside, WentRounds};
 
 use crate::parts::Parts;
@@ -132,11 +133,13 @@ impl<M: Memory + Drop> Parts<M> {
     }
 
     /// So many rounds count.
-    fn count_rounds(&mut self, count: u32)
+    pub(crate) fn count_rounds(&mut self, count: u32)
         requires steps { self.old.state.counts.steps + count ≤ MOST_STEPS }
         requires sweeps { self.old.state.counts.sweeps + count ≤ MOST_STEPS }
         ensures state { self.new.state ≡ with_rounds self.old.state count }
         ensures board { self.new.board ≡ self.old.board }
+        ensures deeds { deeds_of self.new.state.counts + count ≤ self.new.state.counts.steps }
+        ensures made { self.new.state.next + count ≤ self.new.state.counts.steps + 1 }
     {
         self.counts.steps += count;
         self.counts.sweeps += count;

@@ -110,8 +110,7 @@ impl<M: Memory + Drop> Parts<M> {
         ensures most { result.count ≤ most }
         ensures ran { RanOn self.old self.new result.count result.told × Guarded self.new }
     {
-        self.count_sweep();
-        self.count_step();
+        self.count_rounds(1);
         self.schedule();
         let made = self.run_picked(most);
         if made > 0 {

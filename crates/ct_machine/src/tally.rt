@@ -1,6 +1,7 @@
 //! Counts of events and deeds.
 
-ghost use Rattle.std.specs.Prelude.{◌≡◌, ◌<◌};
+ghost use Rattle.std.specs.Prelude.{◌≡◌, ◌+◌, ◌<◌};
+ghost use Rattle.def_profile.specs.declared.limits.TheConstants.{MOST_STEPS};
 ghost use Rattle.def_step.specs.Events.{with_deed, with_act};
 ghost use Rattle.ct_machine.specs.Parts.{deeds_of};
 
@@ -40,6 +41,14 @@ impl Model for Tally {
 }
 
 impl Tally {
+    /// A slice of a sweep counts.
+    pub(crate) fn count_sweep(&mut self)
+        requires { self.old.sweeps < MOST_STEPS }
+        ensures { self.new ≡ record self.old { sweeps = self.old.sweeps + 1 } }
+    {
+        self.sweeps += 1;
+    }
+
     /// A deed counts, where there was one.
     pub(crate) fn count_deed(&mut self, deed: Option<Deed>)
         requires { deeds_of self.old < 4294967295 }

@@ -1,7 +1,5 @@
-use Rattle.std.proofs.Common.{◌≡◌, ap, subst, ◌∙◌}
-use Rattle.def_machine.specs.State.{thread}
+use Rattle.std.proofs.Common.{ap, ◌∙◌}
 use Rattle.def_machine.specs.Platform.{MachineRow}
-use Rattle.def_step.specs.Instructions.{actor_of}
 use Rattle.ct_machine.proofs.Stepping.{acts_by}
 use Rattle.ct_machine.proofs.Taking.{begun_new, holder_runs}
 use Rattle.ct_machine.proofs.parts.Parts.begun.Goals as goal
@@ -12,7 +10,5 @@ actor-requires g c =
 
 pub returns-else-is_holder : goal.returns-else-is_holder
 returns-else-is_holder g c =
-    let i = c.self.inside in
     begun_new c.args.before c.args.self.now.state c.in-Some.held c.actor.result c.in-Some.ensures c.if-is_holder.ensures
-    (subst (λ (m : MachineRow). c.actor.result ≡ actor_of (thread m.state c.in-Some.held.0).frames) c.self.view_is
-    (acts_by i.plan i.engine i.sched i.bus i.pending i.time i.counts c.in-Some.held.0 c.actor.result c.actor.ensures.is))
+    (acts_by c.self.inside c.in-Some.held.0 c.self.view_is c.actor.result c.actor.ensures.is)

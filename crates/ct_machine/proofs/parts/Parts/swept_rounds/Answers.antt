@@ -13,10 +13,10 @@ use Rattle.ct_machine.proofs.parts.Parts.swept_rounds.Goals as goal
 pub loop-made-init : goal.loop-made-init
 loop-made-init g c = starts c.args.self.now c.args.t c.args.most c.window-window.result c.requires.guarded c.requires.pending c.requires.runs c.window-window.ensures
 
-pub sweep-requires-clause-lawful : goal.sweep-requires-clause-lawful
-sweep-requires-clause-lawful g c =
+pub sweep-requires-clause-sweeps : goal.sweep-requires-clause-sweeps
+sweep-requires-clause-sweeps g c =
     let left = sweeps_left c.args.self.now c.loop-made.self c.args.most c.loop-made.made MOST_STEPS c.loop-made.invariant.on c.requires.sweeps in
-    lt-ltb _ _ (omega (arith, left, c.loop-made-test.true))
+    omega (arith, left, c.loop-made-test.true)
 
 pub goes_quietly-requires-clause-may : goal.goes_quietly-requires-clause-may
 goes_quietly-requires-clause-may g c = guarded_may c.sweep.ensures.guarded
