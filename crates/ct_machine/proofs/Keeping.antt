@@ -64,14 +64,10 @@ stays_kept i e new r ss kept stays many ready =
 abbrev pub StaysElse : EngineRow → EngineRow → Type 0
 StaysElse e new = new ≡ record e { state = new.state }
 
-pub kept_so : (i : Image) (e new : EngineRow) (r : SchedRow) (ss : List Status) → IsKept i e r → StaysElse e new → length new.state.granules ≡ length e.state.granules → length new.state.threads ≡ length e.state.threads
-    → length ss ≡ length r.statuses → RunsReady new ss → IsKept i new (with_statuses r ss)
-kept_so i e new r ss kept else_ size threads many ready =
-    stays_kept i e new r ss kept (record { same = else_; size = size; threads = threads }) many ready
-
 pub same_kept : (i : Image) (e new : EngineRow) (r : SchedRow) → IsKept i e r → StaysElse e new → length new.state.granules ≡ length e.state.granules → length new.state.threads ≡ length e.state.threads
     → RunsReady new r.statuses → IsKept i new r
-same_kept i e new r kept else_ size threads ready = kept_so i e new r r.statuses kept else_ size threads refl ready
+same_kept i e new r kept else_ size threads ready =
+    stays_kept i e new r r.statuses kept (record { same = else_; size = size; threads = threads }) refl ready
 
 -- where the same thread runs, or none
 pub still_ready : (e new : EngineRow) (ss : List Status) → RunsReady e ss → new.state.running ≡ e.state.running → RunsReady new ss
@@ -97,7 +93,8 @@ ran_kept i e new r kept stays =
 pub switched_kept : (i : Image) (e : EngineRow) (r : SchedRow) (t high : ℕ) (x : Thread) (run : Option ℕ) (ss : List Status) → IsKept i e r → length ss ≡ length r.statuses
     → RunsReady (switched e t high x run) ss → IsKept i (switched e t high x run) (with_statuses r ss)
 switched_kept i e r t high x run ss kept many ready =
-    kept_so i e (switched e t high x run) r ss kept refl (zeroed_length (area_at e t).stack high e.region.ram e.state.granules) (length-set e.state.threads t x) many ready
+    stays_kept i e (switched e t high x run) r ss kept
+    (record { same = refl; size = zeroed_length (area_at e t).stack high e.region.ram e.state.granules; threads = length-set e.state.threads t x }) many ready
 
 -- a handler is entered
 pub begun_kept : (i : Image) (e : EngineRow) (r : SchedRow) (entries : Listed) (t handler : ℕ) (why : Trap) (f : Frame) (fs : List Frame) → IsKept i e r → IsKept i (handler_begun e entries t handler why (f ∷ fs)) r
@@ -141,7 +138,7 @@ ticked_at (s ∷ ss) (suc t) is = ticked_at ss t is
 
 pub ticked_kept : (i : Image) (e : EngineRow) (r row : SchedRow) → IsKept i e r → row ≡ with_statuses r (map after_tick r.statuses) → IsKept i e row
 ticked_kept i e r row kept turn =
-    rw turn (kept_so i e e r (map after_tick r.statuses) kept refl refl refl (length-map r.statuses after_tick) (λ t runs. ticked_at r.statuses t (kept.ready t runs)))
+    rw turn (stays_kept i e e r (map after_tick r.statuses) kept (record { same = refl; size = refl; threads = refl }) (length-map r.statuses after_tick) (λ t runs. ticked_at r.statuses t (kept.ready t runs)))
 
 -- ---- what a thread came to, of another spelling of the same
 

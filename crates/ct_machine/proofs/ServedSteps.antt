@@ -115,22 +115,20 @@ module _ (i : Image) (e : EngineRow) (r : SchedRow) (k : DeviceStates) (pending 
 
   -- ---- what it came to
 
-  came_ran : (m : MachineRow) (q : Ran) (x : routine.Ran) → m.board ≡ board → m.state.counts ≡ c → ComesTo m.state q x
-      → IfUnfinished q (m ≡ machine e r) → CameTo (machine e r) m t q (ran board here t x)
-  came_ran m (Went None) x board_is counts is same =
-      rw is (record { is = refl; board = board_is; counts = counts; unfinished = tt })
-  came_ran m (Went (Some d)) x board_is counts is same =
-      rw is (record { is = refl; board = board_is; counts = counts; unfinished = tt })
-  came_ran m (Trapped why) x board_is counts is same =
+  came_ran : (new : EngineRow) (row : SchedRow) (q : Ran) (x : routine.Ran) → ComesTo (machine new row).state q x
+      → IfUnfinished q (machine new row ≡ machine e r) → CameTo (machine e r) (machine new row) t q (ran board here t x)
+  came_ran new row (Went None) x is same = rw is (record { is = refl; board = refl; counts = refl; unfinished = tt })
+  came_ran new row (Went (Some d)) x is same = rw is (record { is = refl; board = refl; counts = refl; unfinished = tt })
+  came_ran new row (Trapped why) x is same =
       rw is
       (record {
-        is = ap (λ (n : MachineRow). trapped board n.state t why) same;
-        board = board_is;
-        counts = counts;
+        is = ap (λ (m : MachineRow). trapped board m.state t why) same;
+        board = refl;
+        counts = refl;
         unfinished = same;
       })
-  came_ran m Returned x board_is counts is same = absurd is
-  came_ran m (Native number) x board_is counts is same = absurd is
+  came_ran new row Returned x is same = absurd is
+  came_ran new row (Native number) x is same = absurd is
 
   module _ (number : ℕ) (entries : Listed) (new : EngineRow) (row : SchedRow) (q : Ran) (turn : row ≡ sched.with_statuses r row.statuses)
       (h : IsServedOf (HoldsRoutine e r.statuses t entries number) e r.statuses new row.statuses q (λ j m. routine_or_trap (native j m t number))) where
@@ -157,7 +155,7 @@ module _ (i : Image) (e : EngineRow) (r : SchedRow) (k : DeviceStates) (pending 
     came_served callee =
         subst (CameTo (machine e r) (machine new row) t q) (ran_or_trap board here t (native i here t number))
         (subst (λ (y : SchedRow). CameTo (machine e r) (machine new y) t q (ran board here t written)) (sym turn)
-        (came_ran left q written refl refl (comes callee) stays))
+        (came_ran new (sched.with_statuses r row.statuses) q written (comes callee) stays))
 
     pub served_done : HoldsCallee i e t entries → IsDone q
     served_done callee = done_by left.state q written (comes callee)
