@@ -1,19 +1,11 @@
 -- The numbers of an image's entries are sums over the members before.
 use Rattle.std.proofs.Common.{ℕ, zero, suc, ◌≡◌, ◌+◌, ◌<◌, ◌≤◌, List, [], ◌∷◌, length, take, Some, slice_get, All, refl, arith}
-use Rattle.std.proofs.lemmas.List.Elements.{All-take}
 use Rattle.law_lists.proofs.Places.{all_there}
 use Rattle.def_profile.specs.declared.limits.TheConstants.{MOST_COMPARTMENT_ENTRIES, MOST_LIBRARY_ENTRIES}
 use Rattle.def_image.specs.Parts.{CodeRow, CompartmentRow, ThreadRow, PartsRow}
 use Rattle.def_image.specs.Members.{number_in, compartment_entries, library_entries, first_stack, stack_number}
 use Rattle.def_image.specs.Sizes.{sum_of}
 use Rattle.def_image.specs.Sound.{Sound}
-
--- ---- lists
-
-pub take_short : {A : Type 0} (xs : List A) (n : ℕ) → length (take n xs) ≤ length xs
-take_short xs zero = omega arith
-take_short [] (suc n) = omega arith
-take_short (y ∷ ys) (suc n) = let less = take_short ys n in omega (arith, less)
 
 -- ---- sums
 
@@ -51,18 +43,3 @@ library_few p s l c is =
 
 pub all_own : (p : PartsRow) → Sound p → All (λ (c : CompartmentRow). compartment_entries c ≤ MOST_COMPARTMENT_ENTRIES) p.compartments
 all_own p s = all_there (λ (c : CompartmentRow). compartment_entries c ≤ MOST_COMPARTMENT_ENTRIES) p.compartments (own_few p s)
-
-pub some_own : (p : PartsRow) → Sound p → (n : ℕ) → All (λ (c : CompartmentRow). compartment_entries c ≤ MOST_COMPARTMENT_ENTRIES) (take n p.compartments)
-some_own p s n = All-take (λ (c : CompartmentRow). compartment_entries c ≤ MOST_COMPARTMENT_ENTRIES) n p.compartments (all_own p s)
-
-pub all_libraries : (p : PartsRow) → Sound p → All (λ (c : CodeRow). library_entries c ≤ MOST_LIBRARY_ENTRIES) p.libraries
-all_libraries p s = all_there (λ (c : CodeRow). library_entries c ≤ MOST_LIBRARY_ENTRIES) p.libraries (library_few p s)
-
-pub some_libraries : (p : PartsRow) → Sound p → (n : ℕ) → All (λ (c : CodeRow). library_entries c ≤ MOST_LIBRARY_ENTRIES) (take n p.libraries)
-some_libraries p s n = All-take (λ (c : CodeRow). library_entries c ≤ MOST_LIBRARY_ENTRIES) n p.libraries (all_libraries p s)
-
-pub own_short : (p : PartsRow) → Sound p → (n : ℕ) → length (take n p.compartments) ≤ 64
-own_short p s n = let few = s.few.compartments in let short = take_short p.compartments n in omega (arith, few, short)
-
-pub libraries_short : (p : PartsRow) → Sound p → (n : ℕ) → length (take n p.libraries) ≤ 32
-libraries_short p s n = let few = s.few.libraries in let short = take_short p.libraries n in omega (arith, few, short)

@@ -1,13 +1,13 @@
 -- Ranges of RAM that are booted, one granule or one range after another.
-use Rattle.std.proofs.Common.{ℕ, ◌≡◌, ◌+◌, ◌*◌, ◌%◌, ◌<◌, ◌≤◌, ◌⊎◌, inl, inr, List, length, Some, slice_get, sym, ap, ◌∙◌, subst, arith}
+use Rattle.std.proofs.Common.{ℕ, ◌≡◌, ◌+◌, ◌*◌, ◌%◌, ◌<◌, ◌≤◌, inl, inr, List, length, Some, slice_get, sym, ap, ◌∙◌, subst, arith}
 use Rattle.std.specs.Prelude.{slice_index_or}
 use Rattle.std.proofs.lemmas.Option.{slice_get_within, slice_get-get_or}
 use Rattle.def_memory.specs.declared.Granule.{Granule}
-use Rattle.def_image.specs.Parts.{CompartmentRow, PartsRow}
+use Rattle.def_image.specs.Parts.{PartsRow}
 use Rattle.def_boot.specs.Booting.{Stage, IsFrom}
-use Rattle.def_boot.specs.Written.{InCode, InTable, InInitial, InCompartment, InSealed, InFirst, OfAny}
+use Rattle.def_boot.specs.Written.{InCode, InCompartment, InSealed, InFirst, OfAny}
 use Rattle.def_boot.specs.Contents.{boot_granules}
-use Rattle.law_boot.proofs.Stages.{stage_then, stage_as, stage_granule, stage_one, whole}
+use Rattle.law_boot.proofs.Stages.{stage_as, stage_granule, stage_one, whole}
 
 pub narrow : (p : PartsRow) (a b : List Granule) (low high less : ℕ) → less ≤ high → Stage p a b (IsFrom low high) → Stage p a b (IsFrom low less)
 narrow p a b low high less order h = stage_as p a b (IsFrom low high) (IsFrom low less) h (λ x f. let lt = f.1 in (f.0, omega (arith, lt, order)))
@@ -20,13 +20,6 @@ next_granule p a b c base i even first second = stage_granule p a b c base (base
 pub both_granules : (p : PartsRow) (a b c : List Granule) (base : ℕ) → base % 8 ≡ 0 → Stage p a b (λ x. x ≡ base) → Stage p b c (λ x. x ≡ base + 8) → Stage p a c (IsFrom base (base + 16))
 both_granules p a b c base even first second =
     stage_granule p a b c base (base + 8) (base + 16) (omega (arith, even)) (omega arith) (stage_one p a b base (base + 8) even (omega arith) first) second
-
--- a compartment's parts
-pub own_parts : (p : PartsRow) (a b c d : List Granule) (own : CompartmentRow) → Stage p a b (InCode own.code) → Stage p b c (InTable own) → Stage p c d (InInitial own) → Stage p a d (InCompartment own)
-own_parts p a b c d own code table initial =
-    stage_then p a b d (InCode own.code) (λ x. InTable own x ⊎ InInitial own x) (InCompartment own) code
-    (stage_then p b c d (InTable own) (InInitial own) (λ x. InTable own x ⊎ InInitial own x) table initial (λ x even h. h))
-    (λ x even h. h)
 
 -- all members
 pub all_first : {A : Type 0} (p : PartsRow) (a b : List Granule) (In : A → ℕ → Type 0) (xs : List A) (n m : ℕ) → m ≤ n → Stage p a b (InFirst In xs n) → Stage p a b (InFirst In xs m)

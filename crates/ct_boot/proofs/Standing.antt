@@ -1,7 +1,6 @@
 -- Areas that stand one after another, and the threads that start with them.
 use Rattle.std.proofs.Common.{ℕ, zero, suc, ◌≡◌, ◌+◌, ◌%◌, ◌≤◌, List, [], ◌∷◌, ◌++◌, length, map, take, drop, Some, slice_get, slice_index_or, refl, sym, ap, ◌∙◌, subst, arith, append_assoc}
-use Rattle.std.proofs.Math.ListN.{drop_of_length-le}
-use Rattle.std.proofs.lemmas.List.{append-nil, drop_more}
+use Rattle.std.proofs.lemmas.List.{drop_more}
 use Rattle.std.proofs.lemmas.Option.{slice_get_within, get_or_from_slice_get}
 use Rattle.def_profile.specs.Areas.{area_length}
 use Rattle.def_profile.specs.declared.limits.TheConstants.{RAM_END}
@@ -22,7 +21,7 @@ use Rattle.ct_engine.specs.declared.rows.Region.{Region}
 use Rattle.ct_engine.specs.Kept.{StackLies}
 use Rattle.ct_engine.specs.Seen.{no_area}
 use Rattle.ct_engine.specs.Starts.{AreFresh}
-use Rattle.ct_boot.specs.Launching.{area_from, areas_begin, areas_end, fresh_by, fresh_from, fresh_of}
+use Rattle.ct_boot.specs.Launching.{area_from, areas_end, fresh_by, fresh_from, fresh_of}
 
 abbrev pub frames_in : List ThreadRow → List ℕ
 frames_in xs = map (λ (x : ThreadRow). x.frames) xs
@@ -119,9 +118,6 @@ pub record IsSoFar (p : PartsRow) (fs : List Fresh) (n at : ℕ) : Type 0 where
   pub done : fs ++ fresh_from p n at (drop n p.threads) ≡ fresh_of p
   pub end : at + sum_of area_size (drop n p.threads) ≡ areas_end p
 
-pub none_so_far : (p : PartsRow) (at : ℕ) → at ≡ areas_begin p → IsSoFar p [] 0 at
-none_so_far p at is = rw is (record { done = refl; end = refl })
-
 left_of : (p : PartsRow) (n : ℕ) (x : ThreadRow) → slice_get p.threads n ≡ Some x → drop n p.threads ≡ x ∷ drop (n + 1) p.threads
 left_of p n x is =
     drop_more p.threads n x (slice_get_within p.threads n x is) ∙ ap (λ y. y ∷ drop (n + 1) p.threads) (get_or_from_slice_get p.threads n x x is)
@@ -143,11 +139,3 @@ pub next_fits : (p : PartsRow) (fs : List Fresh) (n at : ℕ) (x : ThreadRow) �
 next_fits p fs n at x so_far is =
     let end : at + (area_size x + sum_of area_size (drop (n + 1) p.threads)) ≡ areas_end p = ap (λ xs. at + sum_of area_size xs) (sym (left_of p n x is)) ∙ so_far.end in
     omega (arith, end)
-
-pub all_so_far : (p : PartsRow) (fs : List Fresh) (n at : ℕ) → IsSoFar p fs n at → length p.threads ≤ n → (fs ≡ fresh_of p) × (at ≡ areas_end p)
-all_so_far p fs n at so_far past =
-    let none : drop n p.threads ≡ [] = drop_of_length-le p.threads past in
-    let at_end : at ≡ at + 0 = omega arith in (
-      sym (append-nil fs) ∙ ap (λ xs. fs ++ fresh_from p n at xs) (sym none) ∙ so_far.done,
-      at_end ∙ ap (λ xs. at + sum_of area_size xs) (sym none) ∙ so_far.end,
-    )
