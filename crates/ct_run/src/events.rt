@@ -11,6 +11,7 @@ use ct_port::{Sink, WriteFailed};
 use def_script::Given;
 
 /// An event, and its lines where the run has lines.
+#[tactic(auto, using(crate::proofs::Coming::one_comes))]
 fn write_event<M: Memory + Drop, S: Sink>(
     machine: &mut Machine<M>,
     event: Event,

@@ -26,6 +26,7 @@ use ct_script::Script;
 ///
 /// Conditions: no event has come to the machine, the script's devices are the machine's, the quantum is a
 /// step at least, and the limit at most 4,000,000,000 steps.
+#[tactic(auto, using(crate::proofs::Text::run_lines_from, ct_port::proofs::Pieces::both, ct_port::proofs::Pieces::first_fails, ct_port::proofs::Pieces::second_fails))]
 pub fn write_run<M: Memory + Drop, S: Sink>(
     report: &[u8],
     machine: &mut Machine<M>,
@@ -50,6 +51,7 @@ pub fn write_run<M: Memory + Drop, S: Sink>(
 /// `WriteFailed`: the sink failed; a beginning of the line was written.
 ///
 /// Conditions: as of `write_run`, but for the script.
+#[tactic(auto, using(crate::proofs::Text::summary_is))]
 pub fn write_summary<M: Memory + Drop, S: Sink>(
     machine: &mut Machine<M>,
     quantum: u32,
