@@ -38,7 +38,7 @@ use Rattle.ct_engine.specs.Written.{state_with}
 use Rattle.ct_engine.proofs.Clear.{tag_clear}
 use Rattle.ct_engine.proofs.HiddenTwice.{seen_both}
 use Rattle.ct_engine.proofs.HeapTurns.{with_heap, HeapTurns, turned_holds, turned_seen}
-use Rattle.ct_engine.proofs.Granted.{hides_by, hide_by}
+use Rattle.ct_engine.proofs.Granted.{hides_by}
 use Rattle.ct_engine.proofs.Tables.{with_table, table_holds}
 
 -- ---- an object that is found by its quota and its bounds
@@ -166,7 +166,7 @@ module _ {h n : HeapRow} {gs hs : List Granule} {quota base top number place lon
       stays : (h.range.ram + 8 * k < base) ⊎ (top ≤ h.range.ram + 8 * k) → is_tagged hs k ≡ false
       stays out =
           let was : heap_hides h gs k ≡ true = rw (← same_live (h.range.ram + 8 * k) out)
-          (sym (hides_by h n hs (quarantine f.object.number (objects_of h gs)) k f.same f.objects) ∙ hid) in
+          (sym (ap (λ (p : ℕ → Bool). p k) (hides_by h n hs (quarantine f.object.number (objects_of h gs)) f.same f.objects)) ∙ hid) in
           tag_clear gs hs k f.tags (clear k was)
 
 module _ {gs hs : List Granule} {rows : Rows} {n : HeapRow} {quota base top number place long live : ℕ} (holds : IsEngine gs rows)
@@ -188,7 +188,7 @@ module _ {gs hs : List Granule} {rows : Rows} {n : HeapRow} {quota base top numb
       let region : ℕ → Bool = region_hides rows.region in
       let was : List Granule = with_hidden (heap_hides h gs) gs in
       let memory : with_hidden region (with_hidden (heap_hides n hs) hs) ≡ marked_from (base - 8) top true ram (zeroed_from base top ram (engine_view gs rows).state.granules) =
-      ap (λ xs. with_hidden region xs) (hide_by h n hs new f.same f.objects
+      ap (λ xs. with_hidden region xs) (ap (λ (p : ℕ → Bool). with_hidden p hs) (hides_by h n hs new f.same f.objects)
       ∙ object_vanishes ram h.range.base (h.range.base + h.range.length) (objects_of h gs) new gs hs base top (freed_vanishes holds.heap.laid f))
       ∙ sym (marked_seen region (zeroed_from base top ram was) (base - 8) top true ram)
       ∙ ap (λ xs. marked_from (base - 8) top true ram xs) (sym (zeroed_seen region was base top ram))

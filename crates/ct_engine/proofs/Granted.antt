@@ -35,9 +35,9 @@ use Rattle.ct_engine.proofs.HeapTurns.{with_heap, limit_of, HeapTurns, turned_ho
 -- ---- what is hidden
 
 -- a heap that lies where it lay hides by its objects
-pub hides_by : (h n : HeapRow) (hs : List Granule) (new : List state.Object) (k : ℕ) → Same h n → objects_of n hs ≡ new
-    → heap_hides n hs k ≡ hides_heap h.range.ram h.range.base (h.range.base + h.range.length) new k
-hides_by h n hs new k same is = rw (is, same.range) refl
+pub hides_by : (h n : HeapRow) (hs : List Granule) (new : List state.Object) → Same h n → objects_of n hs ≡ new
+    → heap_hides n hs ≡ (λ k. hides_heap h.range.ram h.range.base (h.range.base + h.range.length) new k)
+hides_by h n hs new same is = rw (is, same.range) refl
 
 -- where more is live, less is hidden
 less_hidden : (ram base end : ℕ) (old new : List state.Object) (k : ℕ) → (is_live_at old (ram + 8 * k) ≡ true → is_live_at new (ram + 8 * k) ≡ true) → hides_heap ram base end new k ≡ true → hides_heap ram base end old k ≡ true
@@ -47,10 +47,6 @@ less_hidden ram base end old new k stays hid =
     rw (all.0, dead) refl
 
 -- ---- what is seen
-
-pub hide_by : (h n : HeapRow) (hs : List Granule) (new : List state.Object) → Same h n → objects_of n hs ≡ new
-    → with_hidden (heap_hides n hs) hs ≡ with_hidden (λ k. hides_heap h.range.ram h.range.base (h.range.base + h.range.length) new k) hs
-hide_by h n hs new same is = rw (is, same.range) refl
 
 module _ {h n : HeapRow} {gs hs : List Granule} {quota size number base long live : ℕ} (a : Allocates h n gs hs quota size number base long live) where
   abbrev more : List state.Object
@@ -75,7 +71,7 @@ module _ {h n : HeapRow} {gs hs : List Granule} {quota size number base long liv
   allocated_clear clear =
       clear_tags h n gs hs clear a.stays.tags
       (λ k hid. less_hidden h.range.ram h.range.base (h.range.base + h.range.length) (objects_of h gs) more k
-      (λ is. among_live (made h quota size base) (objects_of h gs) (h.range.ram + 8 * k) is) (sym (hides_by h n hs more k a.same a.objects) ∙ hid))
+      (λ is. among_live (made h quota size base) (objects_of h gs) (h.range.ram + 8 * k) is) (sym (ap (λ (p : ℕ → Bool). p k) (hides_by h n hs more a.same a.objects)) ∙ hid))
 
 module _ {gs hs : List Granule} {rows : Rows} {n : HeapRow} {quota size number base long live : ℕ} (holds : IsEngine gs rows)
     (a : Allocates rows.heap n gs hs quota size number base long live) where
@@ -89,7 +85,7 @@ module _ {gs hs : List Granule} {rows : Rows} {n : HeapRow} {quota size number b
       let region : ℕ → Bool = region_hides rows.region in
       let new : List state.Object = placed_among (made h quota size base) (objects_of h gs) in
       let memory : with_hidden region (with_hidden (heap_hides n hs) hs) ≡ (engine_view gs rows).state.granules =
-      ap (λ xs. with_hidden region xs) (hide_by h n hs new a.same a.objects
+      ap (λ xs. with_hidden region xs) (ap (λ (p : ℕ → Bool). with_hidden p hs) (hides_by h n hs new a.same a.objects)
       ∙ object_appears h.range.ram h.range.base (h.range.base + h.range.length) (objects_of h gs) new gs hs base (base + length_for size)
       (allocated_appears a)) ∙ sym (seen_both gs rows holds) in
       turned_seen gs hs rows n rows.front holds allocated_turns ∙ rw (memory, a.objects, a.next) refl
@@ -103,11 +99,8 @@ long_enough size some =
     omega (arith, whole, above)
 
 -- where RAM begins doesn't matter
-fits_in : (i : Image) (ram : ℕ) (os : List state.Object) (long base : ℕ) → Fits i os long base → Fits (record i { ram = ram }) os long base
-fits_in i ram os long base f = record { eight = f.eight; aligned = f.aligned; low = f.low; high = f.high; apart = f.apart }
-
-fits_out : (i : Image) (ram : ℕ) (os : List state.Object) (long base : ℕ) → Fits (record i { ram = ram }) os long base → Fits i os long base
-fits_out i ram os long base f = record { eight = f.eight; aligned = f.aligned; low = f.low; high = f.high; apart = f.apart }
+fits_with : (i : Image) (ram other : ℕ) (os : List state.Object) (long base : ℕ) → Fits (record i { ram = ram }) os long base → Fits (record i { ram = other }) os long base
+fits_with i ram other os long base f = record { eight = f.eight; aligned = f.aligned; low = f.low; high = f.high; apart = f.apart }
 
 -- the least lawful place is the one that is written
 place_is : (i : Image) (os : List state.Object) (long base : ℕ) → 0 < long → IsPlaceFor i os long base → place_of i os long ≡ Some base
@@ -172,8 +165,8 @@ module _ (gs : List Granule) (rows : Rows) (quota size : ℕ) (i : Image) (m : S
   answer_made hs n number base long live a =
       let p = a.place here heap_here in
       let at : IsPlaceFor i own (length_for size) base = record {
-        fits = fits_out i rows.heap.range.ram own (length_for size) base p.fits;
-        least = λ b lt fits. p.least b lt (fits_in i rows.heap.range.ram own (length_for size) b fits);
+        fits = fits_with i rows.heap.range.ram i.ram own (length_for size) base p.fits;
+        least = λ b lt fits. p.least b lt (fits_with i i.ram rows.heap.range.ram own (length_for size) b fits);
       } in
       let place : place_of i m.objects (length_for size) ≡ Some base =
       rw shares.objects (place_is i own (length_for size) base (long_enough size a.some) at) in
@@ -188,7 +181,7 @@ module _ (gs : List Granule) (rows : Rows) (quota size : ℕ) (i : Image) (m : S
   answer_refused NoGap r =
       let none : place_of i m.objects (length_for size) ≡ None =
       rw shares.objects (no_place_is i own (length_for size) (long_enough size r.0)
-      (λ b fits. r.3 here heap_here b (fits_in i rows.heap.range.ram own (length_for size) b fits))) in
+      (λ b fits. r.3 here heap_here b (fits_with i i.ram rows.heap.range.ram own (length_for size) b fits))) in
       rw (sized r.0 r.1, within r.2, none, shares.objects) refl
 
 -- ---- the call
