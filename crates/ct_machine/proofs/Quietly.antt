@@ -7,7 +7,7 @@ use Rattle.def_words.specs.declared.Posture.{Posture}
 use Rattle.def_machine.specs.Image.{Image}
 use Rattle.def_machine.specs.State.{State, Thread, nobody}
 use Rattle.def_step.specs.declared.Event.TheVariants.{Step}
-use Rattle.def_machine.specs.Platform.{Platform}
+use Rattle.def_machine.specs.Platform.{Platform, MachineRow}
 use Rattle.def_step.specs.Events.{holder_by, holder, begun_since, begun, preempted, scheduled, one_more_step, run_on, continued, noted, told_of, happens, end_of}
 use Rattle.ct_sched.specs.Sched.{SchedRow}
 use Rattle.ct_engine.specs.Seen as engine
@@ -81,6 +81,9 @@ module _ {M : Type 0} (i : Inside M) (kept : IsKept i.plan i.engine i.sched) (t 
   window_out w has =
       subst (λ (u : Thread). IsWindow w u.pcc i.plan.ram (8 * length i.engine.state.granules)) (sym (given_status i.engine.state.threads i.sched.statuses t kept.statuses))
       (subst (λ n. IsWindow w (engine.thread i.engine t).pcc n (8 * length i.engine.state.granules)) (ram_is i.plan i.engine i.sched kept) has)
+
+  pub window_seen : {now : MachineRow} → machine_in i ≡ now → (w : Window) → HasWindow i.engine t w → IsThreadWindow now t w
+  window_seen is w has = subst (λ (m : MachineRow). IsThreadWindow m t w) is (window_out w has)
 
   module _ (runs : i.engine.state.running ≡ Some t) where
     -- where a thread runs the machine has come to no end

@@ -34,7 +34,7 @@ use Rattle.ct_engine.proofs.Shown.{began_shown, began_areas, swept_shown}
 use Rattle.ct_engine.proofs.Sliced.{slice_written}
 use Rattle.ct_machine.specs.declared.parts.Parts.TheInside.{Inside}
 use Rattle.ct_machine.specs.Parts.{IsCounted, IsKept}
-use Rattle.ct_machine.specs.Going.{one_more_sweep, silence}
+use Rattle.ct_machine.specs.Going.{silence}
 use Rattle.ct_execute.proofs.Statuses.{like_with}
 use Rattle.ct_machine.proofs.Taking.{ram_is, frames_with, machine_in, state_in, state_with_row}
 use Rattle.ct_machine.proofs.Keeping.{StaysElse, same_kept, still_ready}

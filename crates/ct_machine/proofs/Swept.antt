@@ -11,7 +11,6 @@ use Rattle.ct_threads.specs.declared.window.Window.{Window}
 use Rattle.ct_machine.specs.Going.{silence, one_more_sweep}
 use Rattle.ct_machine.specs.Quiet.{with_counts, IsThreadWindow, StaysAside}
 use Rattle.ct_machine.proofs.Appending.{round_ran, with_silence}
-use Rattle.ct_machine.proofs.Guards.{told_guarded}
 use Rattle.ct_machine.proofs.Quietly.{still_told}
 use Rattle.ct_machine.proofs.Onward as onward
 use Rattle.ct_machine.proofs.Onward.{Onward}

@@ -177,7 +177,7 @@ impl<M: Memory + Drop> Parts<M> {
     {
         match self.engine.running() {
             Some(t) => {
-                let mut window = self.window(t);
+                let mut window = self.engine.window(t);
                 self.goes_quietly(t, &mut window)
             }
             None => false,

@@ -25,14 +25,6 @@ impl<M: Memory + Drop> Parts<M> {
         self.engine.running()
     }
 
-    /// Addresses at which a fetch by the running thread need only ask for the tag and for a multiple of 4.
-    pub(crate) fn window(&self, t: u32) -> Window
-        requires { self.now.state.running ≡ Some t }
-        ensures { IsThreadWindow self.now t result }
-    {
-        self.engine.window(t)
-    }
-
     /// The running thread carries on by one instruction: `true` where that is carried out by itself, which tells
     /// nothing, whatever was counted; else `false`, and nothing changes. Which are left is for speed alone.
     #[inline(always)]

@@ -79,7 +79,7 @@ impl<M: Memory + Drop> Parts<M> {
         ensures most { result.count ≤ most }
         ensures ran { RanOn self.old self.new result.count result.told × Guarded self.new }
     {
-        let mut window = self.window(t);
+        let mut window = self.engine.window(t);
         for made in 0..most {
             self.sweep();
             if !self.goes_quietly(t, &mut window) {

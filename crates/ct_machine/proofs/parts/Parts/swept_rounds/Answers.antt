@@ -1,17 +1,24 @@
-use Rattle.std.proofs.Common.{ap, arith, ◌∙◌}
+use Rattle.std.proofs.Common.{◌≡◌, ap, arith, ◌∙◌}
 use Rattle.std.proofs.lemmas.Bool.{lt-ltb}
 use Rattle.def_profile.specs.declared.limits.TheConstants.{MOST_STEPS}
 use Rattle.def_machine.specs.State.{State, Counts}
 use Rattle.def_step.specs.Events.{end_of}
 use Rattle.ct_machine.specs.Going.{silence}
 use Rattle.ct_machine.proofs.Appending.{round_ran, with_silence}
+use Rattle.ct_machine.proofs.Bursting.{runs_seen}
+use Rattle.ct_machine.proofs.Quietly.{window_seen}
 use Rattle.ct_machine.proofs.Guards.{guarded_may, same_by}
 use Rattle.ct_machine.proofs.Onward.{more_ran, steps_left, sweeps_left}
 use Rattle.ct_machine.proofs.Swept.{goes_on, starts, step_is, swept_onward}
 use Rattle.ct_machine.proofs.parts.Parts.swept_rounds.Goals as goal
 
+pub window-window-requires : goal.window-window-requires
+window-window-requires g c = runs_seen c.self.view_is c.requires.runs
+
 pub loop-made-init : goal.loop-made-init
-loop-made-init g c = starts c.args.self.now c.args.t c.args.most c.window-window.result c.requires.guarded c.requires.pending c.requires.runs c.window-window.ensures
+loop-made-init g c =
+    starts c.args.self.now c.args.t c.args.most c.window-window.result c.requires.guarded c.requires.pending c.requires.runs
+    (window_seen c.self.inside c.self.invariant.0 c.args.t c.self.view_is c.window-window.result c.window-window.ensures.is)
 
 pub sweep-requires-clause-sweeps : goal.sweep-requires-clause-sweeps
 sweep-requires-clause-sweeps g c =
@@ -68,3 +75,8 @@ loop-made-preserved g c =
     (ap (λ (s : State). s.pending) c.count_step.ensures.state ∙ c.goes_quietly.ensures.aside.pending ∙ swept.pending)
     (ap (λ (s : State). s.running) c.count_step.ensures.state ∙ c.goes_quietly.ensures.aside.running ∙ swept.running)
     (rw (c.count_step.ensures.board, c.count_step.ensures.state) c.goes_quietly.ensures.window)
+
+pub returns-clause-ran : goal.returns-clause-ran
+returns-clause-ran g c =
+    let all : c.args.most ≡ c.loop-made.made = omega (arith, c.loop-made.invariant.on.within, c.loop-made-test.false) in
+    rw (c.silent-2.ensures.count, c.silent-2.ensures.told, all) (c.loop-made.invariant.on.ran, c.loop-made.invariant.on.guarded)
