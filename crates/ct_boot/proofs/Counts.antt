@@ -1,11 +1,8 @@
 -- The numbers of an image's entries are sums over the members before.
-use Rattle.std.proofs.Common.{ℕ, zero, suc, ◌≡◌, ◌+◌, ◌<◌, ◌≤◌, List, [], ◌∷◌, length, take, Some, slice_get, All, refl, arith}
-use Rattle.law_lists.proofs.Places.{all_there}
-use Rattle.def_profile.specs.declared.limits.TheConstants.{MOST_COMPARTMENT_ENTRIES, MOST_LIBRARY_ENTRIES}
-use Rattle.def_image.specs.Parts.{CodeRow, CompartmentRow, ThreadRow, PartsRow}
+use Rattle.std.proofs.Common.{ℕ, zero, suc, ◌≡◌, ◌+◌, ◌<◌, ◌≤◌, List, [], ◌∷◌, length, take, refl, arith}
+use Rattle.def_image.specs.Parts.{ThreadRow, PartsRow}
 use Rattle.def_image.specs.Members.{number_in, compartment_entries, library_entries, first_stack, stack_number}
 use Rattle.def_image.specs.Sizes.{sum_of}
-use Rattle.def_image.specs.Sound.{Sound}
 
 -- ---- sums
 
@@ -24,22 +21,3 @@ stack_at p t lt =
     let at = number_at (λ (x : ThreadRow). 1) (first_stack p) p.threads t lt in
     let one = ones p.threads t (omega (arith, lt)) in
     omega (arith, at, one)
-
--- ---- how many each owner has, at most
-
-pub own_few : (p : PartsRow) → Sound p → (b : ℕ) (c : CompartmentRow) → slice_get p.compartments b ≡ Some c → compartment_entries c ≤ MOST_COMPARTMENT_ENTRIES
-own_few p s b c is =
-    let fits = s.compartment b c is in
-    let slots = fits.slots.1 in
-    let exports = fits.code.exports in
-    omega (arith, slots, exports)
-
-pub library_few : (p : PartsRow) → Sound p → (l : ℕ) (c : CodeRow) → slice_get p.libraries l ≡ Some c → library_entries c ≤ MOST_LIBRARY_ENTRIES
-library_few p s l c is =
-    let fits = s.library l c is in
-    let slots = fits.slots in
-    let exports = fits.code.exports in
-    omega (arith, slots, exports)
-
-pub all_own : (p : PartsRow) → Sound p → All (λ (c : CompartmentRow). compartment_entries c ≤ MOST_COMPARTMENT_ENTRIES) p.compartments
-all_own p s = all_there (λ (c : CompartmentRow). compartment_entries c ≤ MOST_COMPARTMENT_ENTRIES) p.compartments (own_few p s)

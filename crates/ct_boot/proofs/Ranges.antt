@@ -1,5 +1,5 @@
 -- Ranges of RAM that are booted, one granule or one range after another.
-use Rattle.std.proofs.Common.{ℕ, ◌≡◌, ◌+◌, ◌*◌, ◌%◌, ◌<◌, ◌≤◌, inl, inr, List, length, Some, slice_get, sym, ap, ◌∙◌, subst, arith}
+use Rattle.std.proofs.Common.{ℕ, ◌≡◌, ◌+◌, ◌*◌, ◌%◌, ◌<◌, inl, inr, List, length, Some, slice_get, sym, ap, ◌∙◌, subst, arith}
 use Rattle.std.specs.Prelude.{slice_index_or}
 use Rattle.std.proofs.lemmas.Option.{slice_get_within, slice_get-get_or}
 use Rattle.def_memory.specs.declared.Granule.{Granule}
@@ -7,10 +7,7 @@ use Rattle.def_image.specs.Parts.{PartsRow}
 use Rattle.def_boot.specs.Booting.{Stage, IsFrom}
 use Rattle.def_boot.specs.Written.{InCode, InCompartment, InSealed, InFirst, OfAny}
 use Rattle.def_boot.specs.Contents.{boot_granules}
-use Rattle.law_boot.proofs.Stages.{stage_as, stage_granule, stage_one, whole}
-
-pub narrow : (p : PartsRow) (a b : List Granule) (low high less : ℕ) → less ≤ high → Stage p a b (IsFrom low high) → Stage p a b (IsFrom low less)
-narrow p a b low high less order h = stage_as p a b (IsFrom low high) (IsFrom low less) h (λ x f. let lt = f.1 in (f.0, omega (arith, lt, order)))
+use Rattle.law_boot.proofs.Stages.{stage_granule, stage_one, whole}
 
 -- granule i of a range is booted after those before it
 pub next_granule : (p : PartsRow) (a b c : List Granule) (base i : ℕ) → (base + 8 * i) % 8 ≡ 0 → Stage p a b (IsFrom base (base + 8 * i)) → Stage p b c (λ x. x ≡ base + 8 * i) → Stage p a c (IsFrom base (base + 8 * (i + 1)))
@@ -20,10 +17,6 @@ next_granule p a b c base i even first second = stage_granule p a b c base (base
 pub both_granules : (p : PartsRow) (a b c : List Granule) (base : ℕ) → base % 8 ≡ 0 → Stage p a b (λ x. x ≡ base) → Stage p b c (λ x. x ≡ base + 8) → Stage p a c (IsFrom base (base + 16))
 both_granules p a b c base even first second =
     stage_granule p a b c base (base + 8) (base + 16) (omega (arith, even)) (omega arith) (stage_one p a b base (base + 8) even (omega arith) first) second
-
--- all members
-pub all_first : {A : Type 0} (p : PartsRow) (a b : List Granule) (In : A → ℕ → Type 0) (xs : List A) (n m : ℕ) → m ≤ n → Stage p a b (InFirst In xs n) → Stage p a b (InFirst In xs m)
-all_first p a b In xs n m order h = stage_as p a b (InFirst In xs n) (InFirst In xs m) h (λ x f. let lt = f.1 in (f.0, omega (arith, lt, order), f.2, f.3, f.4))
 
 pub granule_at : (p : PartsRow) (a b : List Granule) (low from : ℕ) → Stage p a b (λ x. x ≡ low) → from ≡ low → Stage p a b (λ x. x ≡ from)
 granule_at p a b low from h start = subst (λ z. Stage p a b (λ x. x ≡ z)) (sym start) h

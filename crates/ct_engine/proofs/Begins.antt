@@ -1,5 +1,5 @@
 -- Threads that start one after another.
-use Rattle.std.proofs.Common.{ℕ, ◌≡◌, ◌+◌, ◌*◌, ◌<◌, ◌≤◌, inl, inr, true, false, List, [], ◌∷◌, ◌++◌, length, map, take, drop, add-one, Bool, refl, sym, ap, ◌∙◌, arith, subst}
+use Rattle.std.proofs.Common.{ℕ, ◌≡◌, ◌+◌, ◌*◌, ◌<◌, ◌≤◌, inl, inr, false, List, [], ◌∷◌, ◌++◌, length, map, take, drop, add-one, Bool, refl, sym, ap, ◌∙◌, arith, subst}
 use Rattle.std.proofs.Math.Seq.{take-suc, drop-cons}
 use Rattle.std.proofs.Math.ListN.{get_or}
 use Rattle.std.proofs.lemmas.List.{drop_all, take_all, map_push}
@@ -15,7 +15,6 @@ use Rattle.ct_areas.specs.declared.thread.Thread as row
 use Rattle.ct_areas.specs.Threads.{HasArea, area_begin, area_end, thread_of}
 use Rattle.ct_areas.specs.declared.thread.Fresh.{Fresh}
 use Rattle.ct_threads.specs.Kept.{IsPlain, IsKept}
-use Rattle.ct_threads.specs.Starts.{IsFresh}
 use Rattle.ct_areas.specs.Starts.{first_of}
 use Rattle.ct_threads.proofs.Beside.{within}
 use Rattle.ct_engine.specs.declared.rows.Region.{Region}
@@ -82,18 +81,6 @@ pub record Begun (g : Region) (was gs : List Granule) (ts : List row.Thread) (do
   pub clear : (k : ℕ) → end_of g.trusted done ≤ g.ram + 8 * k → g.ram + 8 * k < g.end → cap_in gs k ≡ plain 0
   pub rest : AreFresh g.ram (8 * length was) (end_of g.trusted done) g.end todo
 
-pub begun_first : (g : Region) (gs : List Granule) (fs : List Fresh) → AreFresh g.ram (8 * length gs) g.trusted g.end fs
-    → ((k : ℕ) → region_hides g k ≡ true → cap_in gs k ≡ plain 0) → Begun g gs gs [] [] fs
-begun_first g gs fs fresh clear = record {
-  size = refl;
-  memory = refl;
-  threads = refl;
-  places = refl;
-  areas = (omega arith, no_plain g.ram gs g.trusted);
-  clear = λ k lo hi. clear k (hidden_is g k lo hi);
-  rest = fresh;
-}
-
 -- the next one's area is clear
 pub next_clear : (g : Region) (was gs : List Granule) (ts : List row.Thread) (done todo : List Fresh) (f : Fresh) → Begun g was gs ts done (f ∷ todo)
     → (k : ℕ) → area_begin f.area ≤ k → k < area_end f.area → cap_in gs k ≡ plain 0
@@ -105,10 +92,6 @@ next_clear g was gs ts done todo f b k lo hi =
     let l = w.0 in
     let h = w.1 in
     b.clear k (omega (arith, low, base, l)) (omega (arith, base, high, h))
-
-pub next_fresh : (g : Region) (was gs : List Granule) (ts : List row.Thread) (done todo : List Fresh) (f : Fresh) → Begun g was gs ts done (f ∷ todo)
-    → IsFresh (8 * length gs) f
-next_fresh g was gs ts done todo f b = subst (λ n. IsFresh (8 * n) f) (sym b.size) b.rest.2
 
 pub begun_next : (g : Region) (was gs hs : List Granule) (ts : List row.Thread) (t : row.Thread) (done todo : List Fresh) (f : Fresh)
     → Begun g was gs ts done (f ∷ todo) → Touches (area_begin f.area) (area_end f.area) gs hs → IsKept hs false t → t.area ≡ f.area

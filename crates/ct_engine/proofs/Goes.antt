@@ -8,7 +8,6 @@ use Rattle.def_machine.specs.State.{Thread, Frame, register}
 use Rattle.def_machine.specs.Threads.{jumped}
 use Rattle.def_machine.specs.Memory.{filtered_in}
 use Rattle.def_machine.specs.Slices.{is_number}
-use Rattle.def_step.specs.Instructions.{actor_of}
 use Rattle.def_step.specs.Switch.{frame_top}
 use Rattle.def_areas.specs.Touches.{Touches}
 use Rattle.law_areas.proofs.Changes.{unchanged}
@@ -62,9 +61,6 @@ module _ {gs : List Granule} {rows : Rows} {t : ℕ} {r : row.Thread} (h : Runne
   -- it has an innermost frame, of its row's compartment
   pub running_frames : (thread (engine_view gs rows) t).frames ≡ inner_frame gs r ∷ outer_frames gs r
   running_frames = ap (λ (u : Thread). u.frames) running_thread ∙ frames_are gs true r running_alive
-
-  pub running_actor : actor_of (thread (engine_view gs rows) t).frames ≡ r.actor
-  running_actor = ap actor_of running_frames
 
   pub running_top : frame_top (thread (engine_view gs rows) t).frames ≡ r.top
   running_top = ap (λ (fs : List Frame). frame_top fs) running_frames

@@ -6,7 +6,7 @@ use Rattle.std.proofs.Math.ListN.{get_or, set}
 use Rattle.std.specs.Bool.{then_some}
 use Rattle.std.specs.Vec.{with_item}
 use Rattle.std.proofs.lemmas.List.{get_or_default, get_or-set_same, get_or-set_other, set-get_or, length-set}
-use Rattle.law_lists.proofs.Tests.{bool_tells, lt_tells}
+use Rattle.law_lists.proofs.Tests.{bool_tells}
 use Rattle.def_words.specs.declared.Cap.{Cap}
 use Rattle.def_memory.specs.declared.Granule.{Granule}
 use Rattle.def_machine.specs.State.{Thread, Object, nobody}
@@ -26,13 +26,11 @@ use Rattle.ct_areas.specs.Threads.{area_begin, area_end, thread_of}
 use Rattle.ct_threads.specs.Kept.{IsKept}
 use Rattle.ct_threads.proofs.Beside.{within}
 use Rattle.ct_threads.proofs.Entering.{thread_depth}
-use Rattle.ct_threads.proofs.Filtering.{sifted_kept}
-use Rattle.ct_areas.proofs.Places.{alive_is}
 use Rattle.ct_engine.specs.declared.rows.Region.{Region}
 use Rattle.ct_engine.specs.declared.rows.Rows.{Rows}
 use Rattle.ct_engine.specs.Seen.{EngineRow, stands, threads_of, engine_view, thread, with_thread, with_running, resumed, region_hides, hides_over, seen_by, hidden}
-use Rattle.ct_engine.specs.Kept.{AreasFrom, StackLies, IsEngine, OnlyRunnerStands}
-use Rattle.ct_engine.proofs.Lists.{Lies, OthersStand, lies, rows_put, how_many, the_thread}
+use Rattle.ct_engine.specs.Kept.{AreasFrom, StackLies, IsEngine}
+use Rattle.ct_engine.proofs.Lists.{Lies, OthersStand, lies, rows_put, the_thread}
 use Rattle.ct_engine.proofs.HeapStays.{HeapStays, heap_keeps, heap_holds, area_stays}
 use Rattle.law_moves.proofs.Slices.{is_itself, number_is}
 
@@ -261,17 +259,6 @@ module _ {gs hs : List Granule} {rows : Rows} {t : ℕ} {r q : row.Thread} {stoo
       noted_turn (only now t) (only_is now t)
       (λ u no_. only_beside now t u no_ ∙ sym (ap (λ o. is_number o u) is ∙ only_beside ran t u no_))
 
--- where nobody else stands in a row
-pub one_stands : {gs : List Granule} {rows : Rows} → IsEngine gs rows → ((u : ℕ) → stands rows.standing.items u ≡ true → rows.running ≡ Some u)
-    → OnlyRunnerStands rows.standing.items rows.running
-one_stands {gs} {rows} holds all u = elim (bool_tells (stands rows.standing.items u)) [
-  | inl on ↦ on ∙ sym (ap (λ o. is_number o u) (all u on) ∙ is_itself u)
-  | inr off ↦ off ∙ elim (bool_tells (is_number rows.running u)) [
-    | inl runs ↦ absurd (let clash : false ≡ true = sym off ∙ holds.runs u (number_is rows.running u runs) in cc)
-    | inr none ↦ sym none
-  ]
-]
-
 -- ---- they go to their areas one after another
 
 -- of rows over memory `was`, those of the first so many threads
@@ -280,36 +267,6 @@ pub record Settles (was : List Granule) (old : Rows) (gs : List Granule) (rows :
   pub seen : engine_view gs rows ≡ engine_view was old
   pub many : length rows.list.items ≡ length old.list.items
   pub away : (u : ℕ) → u < count → stands rows.standing.items u ≡ true → rows.running ≡ Some u
-
-pub settles_next : (was gs hs : List Granule) (old rows new : Rows) (t : ℕ) → Settles was old gs rows t → IsEngine hs new → engine_view hs new ≡ engine_view gs rows
-    → (is_number rows.running t ≡ false → stands new.standing.items t ≡ false)
-    → ((u : ℕ) → u ≢ t → stands new.standing.items u ≡ stands rows.standing.items u) → Settles was old hs new (t + 1)
-settles_next was gs hs old rows new t s holds seen away others = record {
-  holds = holds;
-  seen = seen ∙ s.seen;
-  many = sym (how_many hs new.standing.items 0 new.list.items) ∙ ap (λ (v : EngineRow). length v.state.threads) seen ∙ how_many gs rows.standing.items 0 rows.list.items ∙ s.many;
-  away = λ u lt stood. elim (cases_eq u t) [
-    | inl e ↦ ap (λ (v : EngineRow). v.state.running) seen ∙ elim (bool_tells (is_number rows.running t)) [
-      | inl on ↦ number_is rows.running t on ∙ ap (λ n. let o : Option ℕ = Some n in o) (sym e)
-      | inr off ↦ absurd (let clash : false ≡ true = sym (away off) ∙ ap (λ n. stands new.standing.items n) (sym e) ∙ stood in cc)
-    ]
-    | inr no_ ↦ ap (λ (v : EngineRow). v.state.running) seen ∙ s.away u (below u t lt no_) (sym (others u no_) ∙ stood)
-  ];
-}
-  where
-    below : (u t : ℕ) → u < t + 1 → u ≢ t → u < t
-    below u t lt no_ = elim (lt_tells u t) [ inl a ↦ a.1 | inr a ↦ absurd (no_ (let le = a.1 in omega (arith, lt, le))) ]
-
-pub settles_all : (was : List Granule) (old : Rows) (gs : List Granule) (rows : Rows) (count : ℕ) → Settles was old gs rows count → length rows.list.items ≤ count
-    → (u : ℕ) → stands rows.standing.items u ≡ true → rows.running ≡ Some u
-settles_all was old gs rows count s le u stood = s.away u (let lt = in_rows s.holds u stood in omega (arith, lt, le)) stood
-
-pub tight_holds : (was : List Granule) (old : Rows) (gs : List Granule) (rows : Rows) (count : ℕ) → Settles was old gs rows count → length rows.list.items ≤ count
-    → IsEngine gs (record rows { loose = false })
-tight_holds was old gs rows count s le =
-    let h = s.holds in
-    let alone = settles_all was old gs rows count s le in
-    record { areas = h.areas; sizes = h.sizes; runs = h.runs; alone = λ tight. alone; stacks = h.stacks; heap = h.heap; room = h.room }
 
 -- ---- a pick
 
@@ -337,18 +294,3 @@ pick_sees {gs} {hs} {rows} {new} {t} {r} {q} {stood} u picked runs =
     (picked ∙ picked_same (filtered_in r.area.ram gs) seen_filter (thread_of gs stood r) (filter_seen u.row)
     ∙ ap (λ (x : Thread). picked_with seen_filter x) (sym (row_thread u.row)))
     ∙ ap (λ o. with_running (with_thread v t (picked_with seen_filter (thread v t))) o) runs
-
--- a row in which its thread stands: all that it keeps there passes the load filter
-abbrev pub row_refreshed : List Granule → row.Thread → row.Thread
-row_refreshed gs r = record r { pcc = filtered_in r.area.ram gs r.pcc; regs = map (filtered_in r.area.ram gs) r.regs }
-
-pub refreshed_kept : (gs : List Granule) (r : row.Thread) → IsKept gs true r → IsKept gs true (row_refreshed gs r)
-refreshed_kept gs r k =
-    let s = sifted_kept gs r k in
-    record { area = s.area; room = s.room; zero = s.zero; alive = s.alive; clean = s.clean }
-
-pub refreshed_thread : (gs : List Granule) (r : row.Thread) → 0 < r.depth
-    → thread_of gs true (row_refreshed gs r) ≡ picked_with (filtered_in r.area.ram gs) (thread_of gs true r)
-refreshed_thread gs r alive =
-    alive_is gs true (row_refreshed gs r) alive
-    ∙ ap (λ (u : Thread). picked_with (filtered_in r.area.ram gs) u) (sym (alive_is gs true r alive))
