@@ -1,11 +1,12 @@
 -- What boot makes, for the numbers of owners, slots and threads.
-use Rattle.std.proofs.Common.{ℕ, List, ◌≡◌, ◌+◌, ◌*◌, ◌<◌, Some, slice_get, ap, sym, ◌∙◌, subst, arith}
+use Rattle.std.proofs.Common.{ℕ, List, ◌≡◌, ◌+◌, ◌*◌, ◌<◌, Some, length, slice_get, ap, sym, ◌∙◌, subst, arith}
+use Rattle.std.specs.Prelude.{slice_index_or}
 use Rattle.ct_entry.specs.declared.rows.Gate.{Gate}
 use Rattle.ct_entry.specs.declared.rows.Owner.TheVariants.{Compartment, Library}
 use Rattle.def_words.specs.declared.Cap.{Cap}
 use Rattle.def_words.specs.Derive.{derive, executable_root, memory_root}
 use Rattle.def_reach.specs.Roots.{gate_for}
-use Rattle.def_image.specs.Parts.{GateRow, CodeRow, CompartmentRow, ThreadRow, PartsRow}
+use Rattle.def_image.specs.Parts.{GateRow, SlotRow, CodeRow, CompartmentRow, ThreadRow, PartsRow}
 use Rattle.def_image.specs.Members.{compartment, library, text_base, gate_address, code_number, globals_number, library_number, stack_number, library_gate_number}
 use Rattle.def_image.specs.Sound.{Names, Sound}
 use Rattle.def_boot.specs.Entries.{code_row, globals_row, stack_row}
@@ -17,7 +18,8 @@ use Rattle.law_boot.proofs.Standing.{compartment_of, library_of, stack_of}
 use Rattle.def_boot.specs.Booting.{BootPuts, PutsBytes}
 use Rattle.law_boot.proofs.Putting.{puts_slot, puts_library_slot}
 use Rattle.ct_boot.proofs.Fits.{gate_end}
-use Rattle.ct_boot.specs.Slots.{slot_cap, SlotsPut}
+use Rattle.ct_boot.proofs.Ranges.{got_of}
+use Rattle.ct_boot.specs.Slots.{slot_cap, SlotPut, SlotsPut}
 use Rattle.law_image.proofs.Sounds.{compartment_is, library_is}
 
 pub stack_is : (p : PartsRow) (t : ℕ) (x : ThreadRow) → slice_get p.threads t ≡ Some x → entry_cap_as memory_root (stack_number p t) (stack_row t x) (x.stack + x.stack_length) 0 ≡ boot_cap_of p (stack_number p t)
@@ -56,6 +58,11 @@ library_slots_put p s l first c is number j slot there =
           (has.made_is ∙ ap (λ n. slot_cap p (Library l) n (c.base + 8 * j) slot.row) same)
           (puts_library_slot p s l j c slot is there);
     }
+
+-- the one that an index reads
+pub slot_at : (p : PartsRow) (first : ℕ) (d : CodeRow) (i : ℕ) (xs : List SlotRow) (x : SlotRow) → SlotsPut p first d → xs ≡ d.slots → i < length xs → x ≡ slice_index_or xs i x
+    → SlotPut p (first + i) (d.base + 8 * i) x.row
+slot_at p first d i xs x slots same lt read = slots i x (got_of xs d.slots i x same (omega (arith, lt, ap length same)) read)
 
 -- ---- a compartment's code and globals
 

@@ -7,7 +7,7 @@ ghost use Rattle.def_image.specs.Spelling.{export_field};
 ghost use Rattle.def_image.specs.Sound.{Sound};
 ghost use Rattle.def_boot.specs.Booting.{Booting, IsFrom, PutsBytes, Stage};
 ghost use Rattle.def_boot.specs.Written.{InCode, InCompartment, InSealed, InTable, InFirst};
-ghost use Rattle.ct_boot.specs.Slots.{SlotPut, SlotsPut};
+ghost use Rattle.ct_boot.specs.Slots.{SlotsPut};
 
 use crate::making::{own_code, own_globals};
 use crate::numbers::{code_number, library_number, text_base};
@@ -15,19 +15,8 @@ use crate::putting::{put, put_bytes};
 use crate::slots::slot_made;
 use ct_image_parts::{Code, Compartment, Export, Parts, Sealed};
 use ct_mem::Memory;
-use ct_tables::{ImportRow, write_export};
+use ct_tables::write_export;
 use def_profile::layout::{GRANULE, SLOT_SIZE, TABLE_HEAD, TABLE_ROW};
-
-/// The capability of a slot, by its row, with its entry's number.
-fn put_slot<M: Memory>(parts: &Parts, mem: &mut M, number: u32, at: u32, row: ImportRow)
-    requires sound { Sound parts.now }
-    requires booting { Booting parts.now (M.granules mem.old) }
-    requires slot { SlotPut parts.now number at row }
-    ensures { Stage parts.now (M.granules mem.old) (M.granules mem.new) (λ x. x ≡ at) }
-{
-    let cap = slot_made(parts, number, at, row);
-    put(parts, mem, at, cap);
-}
 
 /// The capabilities of an owner's slots, of which the first is entry `first`.
 fn put_slots<M: Memory>(parts: &Parts, mem: &mut M, first: u32, code: &Code)
@@ -42,7 +31,9 @@ fn put_slots<M: Memory>(parts: &Parts, mem: &mut M, first: u32, code: &Code)
     for index in 0..code.slots.len() {
         let number = first + index as u32;
         let at = code.base + SLOT_SIZE * index as u32;
-        put_slot(parts, mem, number, at, code.slots[index].row);
+        let slot = &code.slots[index];
+        let cap = slot_made(parts, number, at, slot.row);
+        put(parts, mem, at, cap);
     }
 }
 
@@ -78,16 +69,6 @@ fn put_head<M: Memory>(parts: &Parts, mem: &mut M, of: usize, own: &Compartment)
     );
 }
 
-/// The row of an export, which stands at an address.
-fn put_export<M: Memory>(parts: &Parts, mem: &mut M, at: u32, export: &Export)
-    requires sound { Sound parts.now }
-    requires booting { Booting parts.now (M.granules mem.old) }
-    requires puts { PutsBytes parts.now at (export_field export.now.row) }
-    ensures { Stage parts.now (M.granules mem.old) (M.granules mem.new) (IsFrom at (at + 16)) }
-{
-    put_bytes(parts, mem, at, &write_export(&export.row));
-}
-
 /// The rows of a compartment's exports, in the export table at an address.
 fn put_exports<M: Memory>(parts: &Parts, mem: &mut M, table: u32, exports: &[Export])
     requires sound { Sound parts.now }
@@ -100,7 +81,8 @@ fn put_exports<M: Memory>(parts: &Parts, mem: &mut M, table: u32, exports: &[Exp
 {
     for index in 0..exports.len() {
         let at = table + TABLE_HEAD + TABLE_ROW * index as u32;
-        put_export(parts, mem, at, &exports[index]);
+        let export = &exports[index];
+        put_bytes(parts, mem, at, &write_export(&export.row));
     }
 }
 

@@ -1,25 +1,26 @@
-use Rattle.std.proofs.Common.{◌+◌, ◌*◌, ◌<◌, length, ap, sym, subst, arith}
-use Rattle.ct_boot.specs.Slots.{SlotPut}
-use Rattle.ct_boot.proofs.Ranges.{got_of, granule_at, next_granule}
+use Rattle.std.proofs.Common.{◌+◌, ◌*◌, ◌∙◌, ap, sym, subst, arith}
+use Rattle.def_image.specs.Sound.{SlotFits}
+use Rattle.ct_boot.specs.Slots.{slot_cap}
+use Rattle.ct_boot.proofs.Made.{puts_at, slot_at}
+use Rattle.ct_boot.proofs.Ranges.{granule_at, next_granule}
 use Rattle.ct_boot.proofs.filling.put_slots.Goals as goal
 
-pub put_slot-requires-clause-slot : goal.put_slot-requires-clause-slot
-put_slot-requires-clause-slot g c =
-    let slots = ap (λ d. d.slots) c.code.view_is in
+pub slot_made-cap-requires-clause-fits : goal.slot_made-cap-requires-clause-fits
+slot_made-cap-requires-clause-fits g c =
+    let put = slot_at _ _ c.args.code.now _ _ _ c.requires.slots (ap (λ d. d.slots) c.code.view_is) (omega (arith, c.loop-index-test.true, c.len-index-end.ensures)) c.index-slot.ensures in
+    subst (SlotFits c.args.parts.now) (sym (ap (λ s. s.row) c.slot.view_is)) put.fits
+
+pub put-requires-clause-puts : goal.put-requires-clause-puts
+put-requires-clause-puts g c =
+    let put = slot_at _ _ c.args.code.now _ _ _ c.requires.slots (ap (λ d. d.slots) c.code.view_is) (omega (arith, c.loop-index-test.true, c.len-index-end.ensures)) c.index-slot.ensures in
     let base = ap (λ d. d.base) c.code.view_is in
-    let row = ap (λ s. s.row) c.behind-code.view_is in
-    let lt : c.loop-index.index < length c.args.code.now.slots = omega (arith, c.loop-index-test.true, c.len-index-end.ensures, ap length slots) in
-    let got = got_of c.code.inside.slots.items c.args.code.now.slots c.loop-index.index c.index.result.now slots lt c.index.ensures in
-    let put = c.requires.slots c.loop-index.index c.index.result.now got in
-    subst (λ b. SlotPut c.args.parts.now (c.args.first + c.loop-index.index) (b + 8 * c.loop-index.index) c.behind-code.inside.row) (sym base)
-    (subst (λ r. SlotPut c.args.parts.now (c.args.first + c.loop-index.index) (c.args.code.now.base + 8 * c.loop-index.index) r) (sym row) put)
+    let row = ap (λ s. s.row) c.slot.view_is in
+    puts_at _ _ _ _ _ put.puts (ap (λ b. b + 8 * c.loop-index.index) base)
+    (c.slot_made-cap.ensures put.owner ∙ ap (λ b. slot_cap c.args.parts.now put.owner (c.args.first + c.loop-index.index) (b + 8 * c.loop-index.index) c.slot.inside.row) base
+    ∙ ap (slot_cap c.args.parts.now put.owner (c.args.first + c.loop-index.index) (c.args.code.now.base + 8 * c.loop-index.index)) row)
 
 pub loop-index-preserved : goal.loop-index-preserved
 loop-index-preserved g c =
-    let slots = ap (λ d. d.slots) c.code.view_is in
-    let base = ap (λ d. d.base) c.code.view_is in
-    let lt : c.loop-index.index < length c.args.code.now.slots = omega (arith, c.loop-index-test.true, c.len-index-end.ensures, ap length slots) in
-    let got = got_of c.code.inside.slots.items c.args.code.now.slots c.loop-index.index c.index.result.now slots lt c.index.ensures in
-    let even = (c.requires.slots c.loop-index.index c.index.result.now got).puts.even in
-    next_granule c.args.parts.now _ _ _ c.args.code.now.base c.loop-index.index even c.loop-index.invariant
-    (granule_at c.args.parts.now _ _ (c.code.inside.base + 8 * c.loop-index.index) (c.args.code.now.base + 8 * c.loop-index.index) c.put_slot.ensures (ap (λ b. b + 8 * c.loop-index.index) (sym base)))
+    let put = slot_at _ _ c.args.code.now _ _ _ c.requires.slots (ap (λ d. d.slots) c.code.view_is) (omega (arith, c.loop-index-test.true, c.len-index-end.ensures)) c.index-slot.ensures in
+    next_granule c.args.parts.now _ _ _ c.args.code.now.base c.loop-index.index put.puts.even c.loop-index.invariant
+    (granule_at c.args.parts.now _ _ _ (c.args.code.now.base + 8 * c.loop-index.index) c.put.ensures (ap (λ d. d.base + 8 * c.loop-index.index) (sym c.code.view_is)))
