@@ -82,10 +82,10 @@ module _ (i : Image) (e : EngineRow) (r : SchedRow) (k : DeviceStates) (pending 
   shows sound may runs =
       shows_caller i e r pending k.states time c t kept sound may.keeps.confined (some_seen i e r pending k.states time c t runs.some)
 
-  pub may_serve : (ram : ℕ) (entries : Listed) (m : MachineRow) → machine e r ≡ m → MayGoOn m → Runs m t
+  pub may_serve : (ram number : ℕ) (entries : Listed) (m : MachineRow) → machine e r ≡ m → MayGoOn m → Runs m t
       → m.state.next ≤ m.state.counts.steps → IsCounted c time e.state.next → ram ≡ i.ram → entries ≡ i.entries → IsOfSound i
-      → MayServe e r.statuses t ram entries
-  may_serve ram entries m is may_now runs_now few_now counted place listed sound =
+      → MayServe e r.statuses t ram entries number
+  may_serve ram number entries m is may_now runs_now few_now counted place listed sound =
       let may = subst MayGoOn (sym is) may_now in
       let runs = subst (λ (x : MachineRow). Runs x t) (sym is) runs_now in
       let few = subst (λ (x : MachineRow). x.state.next ≤ x.state.counts.steps) (sym is) few_now in
@@ -98,7 +98,7 @@ module _ (i : Image) (e : EngineRow) (r : SchedRow) (k : DeviceStates) (pending 
         rows = may.rows;
         place = place ∙ sym (ram_is i e r kept);
         even = subst (λ n. n % 16 ≡ 0) (sym place) kept.placed.even;
-        call = subst (λ (es : Listed). MayCall e t es) (sym listed)
+        call = λ is. subst (λ (es : Listed). MayCall e t es) (sym listed)
             (may_call i here e t (shows sound may runs) (some_seen i e r pending k.states time c t runs.some));
       }
 

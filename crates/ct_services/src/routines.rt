@@ -27,7 +27,8 @@ use def_native::{
 ///
 /// Condition: thread `t` runs and is ready, a quota that its c10 names is one of the heap's, nothing is hidden that it
 /// may load, one more object may be made, each row of a key or a token is of a live object, no two are of one, RAM
-/// begins at `ram`, a multiple of 16, and it may call an export of these entries that its c6 names.
+/// begins at `ram`, a multiple of 16, and where the number is the switch's it may call an export of these entries that
+/// its c6 names.
 pub fn serve<M: Memory + Drop>(
     engine: &mut Engine<M>,
     sched: &mut Sched,
@@ -36,7 +37,7 @@ pub fn serve<M: Memory + Drop>(
     e: &Entries,
     number: u32,
 ) -> Ran
-    requires may { MayServe engine.old sched.old.statuses t ram e.now }
+    requires may { MayServe engine.old sched.old.statuses t ram e.now number }
     requires routine { IsRoutine number }
     ensures serves { IsServedOf (HoldsRoutine engine.old sched.old.statuses t e.now number)
         engine.old sched.old.statuses engine.new sched.new.statuses result

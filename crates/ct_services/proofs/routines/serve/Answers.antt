@@ -3,6 +3,9 @@ use Rattle.def_native.specs.declared.TheConstants.{TOKEN_FREE}
 use Rattle.ct_services.proofs.Serving.{serves_alike, serves_other, registers_alike}
 use Rattle.ct_services.proofs.routines.serve.Goals as goal
 
+pub switch-requires-clause-may : goal.switch-requires-clause-may
+switch-requires-clause-may g c = c.requires.may.call c.in-0.is
+
 pub returns-in-0-clause-serves : goal.returns-in-0-clause-serves
 returns-in-0-clause-serves g c = rw c.in-0.is (c.switch.ensures c.args.sched.now.statuses)
 

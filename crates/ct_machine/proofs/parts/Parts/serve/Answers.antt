@@ -9,7 +9,7 @@ use Rattle.ct_machine.proofs.parts.Parts.serve.Goals as goal
 pub serve-requires-clause-may : goal.serve-requires-clause-may
 serve-requires-clause-may g c =
     let i = c.self.inside in
-    may_serve i.plan i.engine i.sched i.bus i.pending i.time i.counts c.args.t c.self.invariant.0 c.ram-ram.result c.entries-e.result.now _
+    may_serve i.plan i.engine i.sched i.bus i.pending i.time i.counts c.args.t c.self.invariant.0 c.ram-ram.result c.args.number c.entries-e.result.now _
     c.self.view_is c.requires.may c.requires.runs c.requires.made c.self.invariant.1 c.ram-ram.ensures c.entries-e.ensures.is c.entries-e.ensures.sound
 
 pub invariant_of-self : goal.invariant_of-self
