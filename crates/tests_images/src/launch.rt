@@ -19,10 +19,10 @@ const LIMITS: [u32; 17] = [0, 24, 0, 0, 0, 0, 0, 0, 0, 0, 0, 0, 0, 0, 0, 0, 0];
 
 /// An image launched into memory of its size, where quota 1 alone may take something: 24 bytes.
 fn launched(alloc: Global, image: &Image) -> Result<Engine<Plain>, NoMemory>
-    ensures none { IfOk result (λ e. e.running ≡ None) }
+    ensures none { IfOk result (λ e. e.state.running ≡ None) }
     ensures first { IfOk result (λ e. AreFirst e) }
     ensures quotas { IfOk result (λ e. length e.limits ≡ 17) }
-    ensures next { IfOk result (λ e. e.next ≡ 1) }
+    ensures next { IfOk result (λ e. e.state.next ≡ 1) }
 {
     let parts = image.parts();
     let mem = Plain::new(alloc, parts.size)?;
@@ -32,10 +32,10 @@ fn launched(alloc: Global, image: &Image) -> Result<Engine<Plain>, NoMemory>
 /// The second thread runs with its own stack. The heap begins where the image has it: of 24 bytes an object of 16 bytes
 /// takes all, past the eight of its head.
 fn see_launched(rt: &impl Abort, engine: &mut Engine<Plain>)
-    requires none { engine.old.running ≡ None }
+    requires none { engine.old.state.running ≡ None }
     requires first { AreFirst engine.old }
     requires quotas { length engine.old.limits ≡ 17 }
-    requires next { engine.old.next ≡ 1 }
+    requires next { engine.old.state.next ≡ 1 }
 {
     count_is(rt, engine.count(), 2);
     engine.pick(1);
