@@ -32,7 +32,7 @@ mkdir -p "$clone/sample" && printf '{"code": {"file": "a.s"}}\n' > "$clone/sampl
 # The program says its words, and ends with the number of them.
 cat > "$work/program" << 'PROGRAM'
 #!/bin/bash
-[ "$1" != run ] || [ -z "$SLOW" ] || sleep 4
+[ "$1" != run ] || [ -z "$SLOW" ] || sleep 3.5
 echo "program: $*"
 exit $#
 PROGRAM
